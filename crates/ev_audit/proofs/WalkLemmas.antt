@@ -124,7 +124,7 @@ none_before script rows = ap (journal_told script) (take_none rows)
 nothing_first : (format : Format) (script : ScriptParts) (rows : List Row) → NothingFound format script rows 0
 nothing_first format script rows = λ earlier below. absurd (omega arith)
 
--- the walk stands before the first row
+-- the walk is before the first row
 pub first_before : (script : ScriptParts) (rows : List Row) (walk : Walk) → IsAt walk.proxy (opening script.workers script.node) → HaveCome script [] walk.courses
     → walk.batch ≡ None → IsBefore script rows 0 walk
 first_before script rows walk at come batch = record {

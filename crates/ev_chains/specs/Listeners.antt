@@ -17,7 +17,7 @@ use Rattle.ev_chains.specs.Rows.{has_clash}
 
 -- ---- a chain among others
 
--- what stands as its match
+-- what is given as its match
 unfoldable pub match_tree : Data → Data
 match_tree chain = inside (object_of (codes "filter_chain_match") chain)
 

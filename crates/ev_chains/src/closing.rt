@@ -119,7 +119,7 @@ fn keys_of(alloc: Global, conns: &BTreeSet<u64>) -> Result<Vec<u64>, AllocError>
     ensures keys { IfOk result (λ keys. keys.items ≡ conns.now.keys) }
     ensures ordered { IsOrdered nat_cmp conns.now }
 {
-    // They stand in their order.
+    // They are in their order.
     let _ = conns.len();
     conns.iter().copied().collect(alloc)
 }

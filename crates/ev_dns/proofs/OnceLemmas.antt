@@ -41,7 +41,7 @@ once-push (first ∷ names) one =
     ap (λ xs. first ∷ filter (λ other. not (bytes_eq other first)) xs) (once-push names one)
     ∙ once_at (bytes_eq one first) (list_any (bytes_eq one) (each_once names)) one first (each_once names) refl refl
 
--- names that are put after those of a set one after another stand there once
+-- names that are put after those of a set one after another occur there once
 once_behind : (names more : List (List ℕ)) → insert_all bytes_eq (each_once names) more ≡ each_once (names ++ more)
 once_behind names [] = ap each_once (sym (append-nil names))
 once_behind names (one ∷ more) =

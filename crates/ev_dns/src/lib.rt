@@ -6,8 +6,8 @@
 //! - Host names compare byte for byte. An address in the place of a host name waits for its resolution like any name.
 //! - A template is the cluster as it is read with the type STATIC: so its hosts, and what else tells two templates apart, are
 //!   those of the shared reader of clusters.
-//! - Each place that isn't complete stands under the first host name that it still waits for, so a resolution wakes the places
-//!   alone that wait for its name. The complete ones stand under all their host names.
+//! - Each place that isn't complete is under the first host name that it still waits for, so a resolution wakes the places
+//!   alone that wait for its name. The complete ones are under all their host names.
 #![tactic(auto)]
 
 mod answers;

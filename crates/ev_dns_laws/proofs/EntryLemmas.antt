@@ -66,7 +66,7 @@ pub record IsBy (lines : List Data) (entry : Entry) : Type 0 where
   pub says : line.event ≡ entry.event
   pub own : entry.step ≡ 0
 
--- it stands after the lines of those before, and not after its own
+-- it comes after the lines of those before, and not after its own
 pub record IsWithin (lines : List Data) (index at : ℕ) : Type 0 where
   pub from : given_before dns_rules lines index + 2 ≤ at
   pub to : at ≤ given_before dns_rules lines (index + 1) + 1
@@ -85,7 +85,7 @@ index_rises lines i j m n first second less = by (cases_lt j i)
     by (inl back) = absurd (omega (arith, first.from, second.to, less, given_grows dns_rules lines (j + 1) i (omega (arith, back))))
     by (inr ahead) = ahead
 
--- an entry of the main side is by a line, where it is none of those that stand after lines
+-- an entry of the main side is by a line, where it is none of those that come after lines
 pub entry_by : (trees : ScriptTrees) (format : Format) (journal : List Entry) → IsScript (answered_script trees) → IsRunOf format (answered_script trees) journal
     → (q : ℕ) (entry : Entry) → slice_get journal q ≡ Some entry → IsMainSide entry.actor → is_behind entry.event ≡ false → IsBy (lines_in trees) entry
 entry_by trees format journal kept run q entry there main event =

@@ -65,7 +65,7 @@ pub(crate) fn put(notes: &mut Notes, number: Gen, note: Note) -> Result<(), Allo
     ensures err { OnErr result (notes.new.entries ≡ notes.old.entries) }
     ensures ordered { IsOrdered nat_cmp notes.old }
 {
-    // They stand in the order of their numbers.
+    // They are in the order of their numbers.
     let _ = notes.len();
     let Ok(_) = notes.insert(number, note) else {
         return Err(AllocError);
@@ -92,7 +92,7 @@ fn mark_numbered(notes: &mut Notes, name: &str, number: Gen) -> bool
     ensures answer { result ≡ list_any (is_waiting_among name.now (number ∷ [])) notes.old.entries }
     ensures entries { notes.new.entries ≡ map (marked_among name.now (number ∷ [])) notes.old.entries }
 {
-    // They stand in the order of their numbers.
+    // They are in the order of their numbers.
     let _ = notes.len();
     match notes.get_mut(&number) {
         Some(note) => mark_one(note, name),

@@ -20,7 +20,7 @@ pub record IsDump (format : Format) (script : ScriptParts) (rows : List Row) (en
   pub ends : IsTrue (ends_commit rows entries)
   pub line : text ≡ dump_text (front_of format script rows entries)
 
--- the number of the journal's end line: after the lines of its script stand its first line and its rows
+-- the number of the journal's end line: after the lines of its script come its first line and its rows
 abbrev pub end_line : ScriptParts → List Row → ℕ
 end_line script rows = script.count + length rows + 2
 
@@ -31,7 +31,7 @@ pub record IsNoCommit (format : Format) (script : ScriptParts) (rows : List Row)
   pub goes_on : IsTrue (not (ends_commit rows entries))
   pub told : line ≡ end_line script rows
 
--- dumps of journals that agree in their first entries are one, whatever stands after, and whatever their workers and nodes
+-- dumps of journals that agree in their first entries are one, whatever comes after, and whatever their workers and nodes
 abbrev pub DumpsByPrefix : Type 0
 DumpsByPrefix =
     (format : Format) (script other : ScriptParts) (rows others : List Row) (entries : ℕ) (text another : List ℕ) → IsScript script → IsScript other

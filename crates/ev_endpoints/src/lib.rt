@@ -191,7 +191,7 @@ fn put_new(hosts: &mut IndexMap<Host, bool>, host: Host, healthy: bool) -> Resul
     Ok(())
 }
 
-// The results of the hosts that stand among these rows.
+// The results of the hosts that are among these rows.
 fn standing(
     alloc: Global,
     hosts: &IndexMap<Host, bool>,

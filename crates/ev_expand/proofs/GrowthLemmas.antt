@@ -61,7 +61,7 @@ pushes_first old new answer more rest pushes is = record {
   read_back = λ h. absurd (cc);
 }
 
--- the first of some stand there, and the others had room or not
+-- the first of some are there, and the others had room or not
 pub pushes_then : (old mid new : TextSoFar) (first answer : Result Bool AllocError) (more rest : List Data) → Pushes old mid first more → first ≡ Ok true → Pushes mid new answer rest
     → Pushes old new answer (more ++ rest)
 pushes_then old mid new first answer more rest one is two =

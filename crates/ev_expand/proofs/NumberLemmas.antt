@@ -55,7 +55,7 @@ stays_at : (b : Bool) (n m l : ℕ) → cond (not b) (1 + n) 0 < suc l → (n < 
 stays_at true n m l h k = refl
 stays_at false n m l h k = ap (λ (x : ℕ). 1 + x) (k (omega arith))
 
--- the place of a key that stands among these stays where more come after them
+-- the place of a key that is among these stays where more come after them
 pub place_stays : (key : Key) (gs more : List Guarded) → place_in gs key < length gs → place_in (gs ++ more) key ≡ place_in gs key
 place_stays key [] more h = absurd (omega arith)
 place_stays key (g ∷ gs) more h = stays_at (key_same key g.key) (place_in gs key) (place_in (gs ++ more) key) (length gs) h (place_stays key gs more)
@@ -136,7 +136,7 @@ new_at : (b c : Bool) (n l : ℕ) → (b || c) ≡ false → (c ≡ false → n 
 new_at true c n l h k = absurd (cc)
 new_at false c n l h k = let e : n ≡ l = k h in omega arith
 
--- a new key stands after the others
+-- a new key comes after the others
 pub place_new : (key : Key) (own : Data) (gs : List Guarded) → list_any (λ (g : Guarded). key_same key g.key) gs ≡ false
     → place_in (gs ++ record { key = key; own = own } ∷ []) key ≡ length gs
 place_new key own [] h = let same : key_same key key ≡ true = (key_decides key key).1 refl in rw same

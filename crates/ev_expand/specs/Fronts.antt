@@ -44,7 +44,7 @@ stream_at lines = unwrap_or (last_or None (filter_map (λ line. option_and_then 
 abbrev pub opens : Front → Bool
 opens front = stream_at (up_to front) && not (stream_at front.before)
 
--- the lines that stand where a stream is open, in order
+-- the lines where a stream is open, in order
 abbrev pub heard : List Data → List Data
 heard lines = map (λ (front : Front). front.line) (filter (λ front. stream_at (up_to front)) (fronts lines))
 

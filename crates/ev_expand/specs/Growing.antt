@@ -19,7 +19,7 @@ use Rattle.ev_expand.specs.Expanding.{Rules, due_at, gives, given_by, place_of, 
 abbrev pub front_of : List Data → Data → Front
 front_of before line = record { before = before; line = line }
 
--- what an answer of a call means that puts these after a text, in order: all of them stand there, or they had no room
+-- what an answer of a call means that puts these after a text, in order: all of them are there, or they had no room
 pub record Pushes (old new : TextSoFar) (answer : Result Bool AllocError) (more : List Data) : Type 0 where
   pub pushed : (trees : List Data) → IsTextSoFar trees old → answer ≡ Ok true → IsTextSoFar (trees ++ map whole more) new
   pub full : (trees : List Data) → IsTextSoFar trees old → answer ≡ Ok false → ¬ (AreWithinLimits (trees ++ map whole more))

@@ -52,7 +52,7 @@ fronts_taken (first ∷ lines) (suc n) =
     ap (λ fs. record { before = []; line = first } ∷ fs)
     (ap (map (behind first)) (fronts_taken lines n) ∙ sym (take-map (behind first) n (fronts lines)))
 
--- up to it stand the lines of its place
+-- up to it come the lines of its place
 pub up_to_at : (lines : List Data) (index : ℕ) (front : Front) → slice_get (fronts lines) index ≡ Some front → up_to front ≡ take (index + 1) lines
 up_to_at lines index front there =
     let at : IsFrontAt lines index front = front_at lines index front there in

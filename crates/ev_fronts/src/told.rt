@@ -52,7 +52,7 @@ fn event_told(alloc: Global, script: &Script, row: &Row) -> Result<Event, AllocE
     line.event.copy(alloc)
 }
 
-// The event of a word that stands after lines too.
+// The event of a word that comes after lines too.
 fn event_behind(op: Op) -> Option<Event>
     ensures { result ≡ event_behind op }
 {

@@ -163,7 +163,7 @@
 //! - `Turn::value` says by a clause on the loan what the turn has after the write, so a caller needs no proof file
 //!   for it.
 //! - A waiting thread sleeps at a bell of its own, and the end of a turn wakes the one that is next, if it sleeps: to wake
-//!   all that wait took run twice to three times the time. Bells stand beside the table, and no clause speaks of them: a
+//!   all that wait took run twice to three times the time. Bells are kept beside the table, and no clause speaks of them: a
 //!   wake that is spurious does no harm, since a thread looks again, and none is lost, since a thread looks once more after
 //!   it has said that it will sleep.
 //! - `Gate` has no `Drop` either: its value need not be `Drop`, so a gate ends in `close`.

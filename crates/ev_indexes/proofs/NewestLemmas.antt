@@ -203,7 +203,7 @@ newest-found s name x = newest-rows s.table.rows name x.table.apart (standing_in
 pub newest-world : (s : State) (world : World) (name : List ℕ) → StandsFor s world → newest_in s.table.rows name ≡ newest_of (lives_of world) s.kind name
 newest-world s world name stands = (λ i. newest_in (stands.rows i) name) ∙ sym (ap latest (named-world s.kind name world.rows))
 
--- a name is found to stand where a row passes the test
+-- a name is found to be live where a row passes the test
 some-listed : (test : GenRow → Bool) (rows : List GenRow) (o : Option ℕ) → option_to_list o ≡ numbers_where test rows → is_some o ≡ list_any test rows
 some-listed test rows o e = by o ∙ ap has_number e ∙ sym (any-some test rows)
   where

@@ -70,14 +70,14 @@ impl Addresses {
         }
     }
 
-    // One more number stands at the address. Without memory nothing is promised.
+    // One more number is at the address. Without memory nothing is promised.
     fn enter(&mut self, alloc: Global, address: &Host, number: Gen) -> Result<(), AllocError>
         ensures { OnOk result (EntersAt self.old self.new address.now number) }
     {
         enter_number(&mut self.numbers, alloc, address, number)
     }
 
-    // A number no longer stands at the address.
+    // A number is no longer at the address.
     fn leave(&mut self, address: &Host, number: Gen)
         ensures { LeavesAt self.old self.new address.now number }
     {
@@ -85,7 +85,7 @@ impl Addresses {
     }
 }
 
-// One more number stands at an address. Without memory the numbers stay as they were.
+// One more number is at an address. Without memory the numbers stay as they were.
 fn enter_number(
     map: &mut Numbers,
     alloc: Global,

@@ -1,4 +1,4 @@
-//! Numbers of the generations that depend on a name. They are lent as a slice, so they stand one after another and not in a tree, and
+//! Numbers of the generations that depend on a name. They are lent as a slice, so they are one after another and not in a tree, and
 //! one is found by halves. The first leaves its place empty, so that generations that retire in the order in which they came cost
 //! no move; the rest moves up after another. That numbers come in rising order is no condition of `push`, so that each clause
 //! holds of every list: each list keeps whether it is known to rise, and is walked where it isn't, which never comes of numbers

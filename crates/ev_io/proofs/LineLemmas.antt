@@ -87,7 +87,7 @@ feeds_in-append (b ∷ bs) ys = by_test (feeds_in-append bs ys) (eqb b 10)
     by_test further true = omega (arith, further)
     by_test further false = further
 
--- none where none stands
+-- none where there is none
 pub feeds_in-none : (bs : List ℕ) (n : ℕ) → HasNoFeed bs n → feeds_in (take n bs) ≡ 0
 feeds_in-none bs zero none = refl
 feeds_in-none [] (suc n) none = refl

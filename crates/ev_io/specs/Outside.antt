@@ -10,7 +10,7 @@ last_count = 2 ^ 64 - 1
 abbrev pub raised : ℕ → ℕ
 raised count = min (count + 1) last_count
 
--- the count rose: it is greater than before, or stands at the last value of a counter
+-- the count rose: it is greater than before, or is at the last value of a counter
 abbrev pub Rose : ℕ → ℕ → Type 0
 Rose before after = (before < after) ⊎ (after ≡ last_count)
 

@@ -10,7 +10,7 @@ use Rattle.ev_io.specs.Lines.{lines_of, feeds_in}
 use Rattle.ev_io.specs.LineFaults.{IsSoundUpTo, IsFirstFault}
 use Rattle.ev_io.specs.LinesState.{LinesState, HasTaken}
 
--- of these bytes each line that is closed was given, no fault stands in them, and they go on
+-- of these bytes each line that is closed was given, there is no fault in them, and they go on
 pub record IsUnfinished (given : ℕ) (ended : Bool) (bytes : List ℕ) : Type 0 where
   pub goes_on : ¬ (IsTrue ended)
   pub closed : feeds_in bytes ≡ given
@@ -23,7 +23,7 @@ pub record GivesLine (old new : LinesState) (all text : List ℕ) : Type 0 where
   pub ends : (old.given < feeds_in all) ⊎ IsTrue new.ended
   pub untold : new.told ≡ None
 
--- each line was given, no fault stands in them, and the source gave its end
+-- each line was given, there is no fault in them, and the source gave its end
 pub record ReachesEnd (old new : LinesState) (all : List ℕ) : Type 0 where
   pub lines : length (lines_of all) ≡ new.given
   pub number : new.given ≡ old.given
@@ -31,7 +31,7 @@ pub record ReachesEnd (old new : LinesState) (all : List ℕ) : Type 0 where
   pub sound : IsSoundUpTo all (length all)
   pub untold : new.told ≡ None
 
--- the first fault stands in the line after those given, and is reported from now on
+-- the first fault is in the line after those given, and is reported from now on
 pub record TellsFault (old new : LinesState) (all : List ℕ) (fault : LineFault) : Type 0 where
   pub first : (place : ℕ) × IsFirstFault all place fault × (feeds_in (take place all) ≡ new.given)
   pub number : new.given ≡ old.given

@@ -82,7 +82,7 @@ impl Lines {
     /// After any answer but a line `out` is as before.
     ///
     /// # Errors
-    /// `TooLong`, `TooMany` and `TooLarge` where the first fault of the bytes taken stands in the
+    /// `TooLong`, `TooMany` and `TooLarge` where the first fault of the bytes taken is in the
     /// next line, and `Failed` where a read failed before: each call from then on answers the same.
     /// `OutOfMemory` where there is no memory: the next call goes on with the bytes taken.
     pub fn read_line<S: Source>(
@@ -124,7 +124,7 @@ impl Lines {
         }
     }
 
-    // What stands next in the bytes taken.
+    // What comes next in the bytes taken.
     #[tactic(auto, using(std::proofs::lemmas::List::take_rest))]
     fn look(&self) -> Option<Found>
         ensures found { FindsNext self.now result }
@@ -158,7 +158,7 @@ impl Lines {
         Ok(())
     }
 
-    // What stands next, of as many pieces as it takes.
+    // What comes next, of as many pieces as it takes.
     fn find<S: Source>(&mut self, source: &mut S) -> Result<Found, LineFault>
         requires { self.old.told ≡ None }
         ensures grows { (more : List ℕ) × Grows (S.left source.old) (S.left source.new) self.old self.new more }

@@ -15,7 +15,7 @@ pub trait Source {
     // whether it gave its end: a read with a buffer that isn't empty gave no byte
     ghost ended: { Self → Bool };
 
-    // how many faults there were; a counter that stands still at its last value
+    // how many faults there were; a counter that stops at its last value
     ghost faults: { Self → ℕ };
 
     /// Puts the next bytes into the front of `buf` and says how many. 0 for a buffer that isn't
@@ -42,7 +42,7 @@ pub trait Sink {
     // the bytes written so far, where they are known
     ghost written: { Self → Option (List ℕ) };
 
-    // how many faults there were; a counter that stands still at its last value
+    // how many faults there were; a counter that stops at its last value
     ghost faults: { Self → ℕ };
 
     /// Appends the first bytes of `bytes` and says how many: at least one where there is one.

@@ -30,7 +30,7 @@ first_text format workers = compact_text (first_tree format workers)
 abbrev pub end_text : ℕ → List ℕ
 end_text rows = compact_text (end_tree rows)
 
--- the texts after a journal's first line: those of the rows, and of the end line where it stands
+-- the texts after a journal's first line: those of the rows, and of the end line where there is one
 abbrev pub texts_of : List Row → Bool → List (List ℕ)
 texts_of rows false = map row_text rows
 texts_of rows true = map row_text rows ++ end_text (length rows) ∷ []
@@ -45,7 +45,7 @@ pub record IsJournalTo (workers : ℕ) (first : List ℕ) (texts : List (List �
   pub meant : AreMeant rows
   pub lines : texts ≡ texts_of rows ended
 
--- after these rows, and after the end line or not, the text is in no place of a journal: nothing stands after the end
+-- after these rows, and after the end line or not, the text is in no place of a journal: nothing comes after the end
 -- line, and before it a row or the end line with the number of the rows
 abbrev pub IsMisplaced : List Row → Bool → List ℕ → Type 0
 IsMisplaced rows true text = ⊤
@@ -121,7 +121,7 @@ LimitNumber limit.TooLarge kind = kind ≡ fault_number TooLarge
 LimitNumber limit.Failed kind = ⊥
 LimitNumber limit.OutOfMemory kind = ⊥
 
--- the first fault of the limits stands in the line after those given, which are a journal up to there
+-- the first fault of the limits is in the line after those given, which are a journal up to there
 pub record IsPastLimit (workers : ℕ) (first : List ℕ) (old new : LinesState) (bytes : List ℕ) (line kind : ℕ) : Type 0 where
   pub format : Format
   pub rows : List Row

@@ -8,7 +8,7 @@
 //! - What is proved beside is that a row's text reads back as its tree, for every tree whose numbers are whole and
 //!   below 2^64 and whose objects are sorted (`proofs/ReadBack.antt`), and the tree as the row. This takes lemmas of
 //!   the kit's JSON crates, so `json` is among the crate's own.
-//! - Reading stands above writing in a crate of its own, since `replay` needs writing alone.
+//! - Reading is above writing in a crate of its own, since `replay` needs writing alone.
 //! - An answer that is a tree is told apart by its members: `requests` (with `verdicts` or not), `version` (with
 //!   `closed` or not), `reaped`, else `result`.
 //! - Kind 9 at a line is reported by the line's number as the reader of lines counts, with no place in bytes: within one

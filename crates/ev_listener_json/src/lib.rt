@@ -2,14 +2,14 @@
 //!
 //! # Choices
 //!
-//! - The default filter chain is looked for, and not into: it is refused by V16, whatever stands in it, so a wrong
+//! - The default filter chain is looked for, and not into: it is refused by V16, whatever is in it, so a wrong
 //!   form inside it isn't V6.
 //! - Rules below V16 are looked for in all chains and all filters: of two chains of which one asks for routes by an
 //!   empty name the answer is V2.
-//! - A filter serves where it is worth something to serve: so V17 counts the filters that are, and no second test
-//!   stands beside it.
+//! - A filter serves where it is worth something to serve: so V17 counts the filters that are, and there is no second
+//!   test beside it.
 //! - What a chain serves and breaks is public (`inspect_chain`), so that a chain can be read by itself without a
-//!   change here. `read_chain` is the reader without V16, for chains that stand beside others and have a match.
+//!   change here. `read_chain` is the reader without V16, for chains that are beside others and have a match.
 //! - V17 is asked of each chain. Where there isn't exactly one chain, V16 is broken, so this shows only with one.
 //! - A `typed_config` that is absent or has no `@type` makes its filter one that is passed over; an `@type` that
 //!   isn't text is V6.

@@ -250,7 +250,7 @@ module _ (other kind : Kind) (apart : IsApart other kind) where
       leaves_then kind world (with_removals other response world) _ (removals_leave response world)
       (items_leave (zip verdicts response.items) (with_removals other response world))
 
--- a row of a number that is found stands among those numbers
+-- a row of a number that is found is among those numbers
 found_among : (n : ℕ) (rows : List GenRow) → IsSome (row_in n rows) → is_among (numbers_of rows) n ≡ true
 found_among n [] there = absurd (false≢true there)
 found_among n (row ∷ rows) there = by (nat_eq n row.number) there (λ rest. found_among n rows rest)

@@ -11,11 +11,11 @@ use std::alloc::{AllocError, Global};
 use std::sync::ledger::Ledger;
 
 /// What an event moves: which generations began to drain or were dropped, and of which a picture may show something else than before.
-/// A number is of one kind, so clusters and listeners stand in one list.
+/// A number is of one kind, so clusters and listeners are in one list.
 #[derive(Drop)]
 pub struct Moved {
     pub retired: Seq<Gen>,
-    /// A number may stand among these more than once.
+    /// A number may be among these more than once.
     pub changed: Seq<Gen>,
 }
 

@@ -120,7 +120,7 @@ fn none_of(alloc: Global, kind: Kind) -> Result<Arrival, AllocError>
     }
 }
 
-// The numbers of the generations that stood under a name.
+// The numbers of the generations that were live under a name.
 fn stood(alloc: Global, standing: Standing) -> Result<Seq<Gen>, AllocError>
     ensures { IfOk result (λ numbers. numbers ≡ option_to_list standing.warming ++ option_to_list standing.active) }
 {

@@ -183,7 +183,7 @@ script_with workers auto node deeds =
 abbrev pub script_of : List Deed → ScriptParts
 script_of deeds = script_with 1 false (codes "warmgate") deeds
 
--- where an entry stands in its script, and its answer
+-- where an entry is in its script, and its answer
 abbrev pub told : Entry → ℕ × Answer
 told entry = (entry.at, entry.answer)
 

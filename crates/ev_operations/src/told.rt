@@ -31,7 +31,7 @@ pub(crate) fn tells(script: &Script, row: &Row, due: Due) -> bool
     }
 }
 
-// Whether a row stands at this line and step and has this word.
+// Whether a row is at this line and step and has this word.
 fn is_told(row: &Row, at: u32, step: u32, op: Op) -> bool
     ensures { result ≡ ((row.now.at == at) && (row.now.step == step) && op_same row.now.op op) }
 {

@@ -14,7 +14,7 @@ use Rattle.std.proofs.lemmas.Map.Text.{is_eq-slice_cmp}
 use Rattle.ev_model.specs.Sorted.{put_by, sorted_by}
 use Rattle.ev_model.specs.Versions.{is_before}
 
--- a name that stands before another isn't after it, and isn't the same
+-- a name that comes before another isn't after it, and isn't the same
 less_is : (r : Ordering) → is_lt r ≡ true → r ≡ Less
 less_is Less h = refl
 less_is Equal h = absurd (false≢true h)
@@ -32,7 +32,7 @@ not_same a b h = sym (is_eq-slice_cmp a b) ∙ ap is_eq (before_less a b h)
 pub not_same_back : (a b : List ℕ) → is_before a b ≡ true → bytes_eq b a ≡ false
 not_same_back a b h = sym (is_eq-slice_cmp b a) ∙ ap is_eq (nat_list_cmp_total.antisymm b a ∙ ap ordering_reverse (before_less a b h))
 
--- of two names that differ, one stands before the other
+-- of two names that differ, one comes before the other
 pub turns : (a b : List ℕ) → is_before a b ≡ false → bytes_eq a b ≡ false → is_before b a ≡ true
 turns a b h k = by (slice_cmp nat_cmp a b) refl h (is_eq-slice_cmp a b ∙ k)
   where
@@ -94,12 +94,12 @@ module _ {X : Type 0} (name : X → List ℕ) (number : X → ℕ) where
   abbrev pub numbered : List X → ℕ → Option X
   numbered xs n = find (λ x. number x == n) xs
 
-  -- this element stands before another one, and has another number
+  -- this element comes before another one, and has another number
   pub record StandsBefore (x y : X) : Type 0 where
     pub names : is_before (name x) (name y) ≡ true
     pub numbers : (number x == number y) ≡ false
 
-  -- each stands before all after it
+  -- each comes before all after it
   abbrev pub AreInOrder : List X → Type 0
   AreInOrder [] = Unit {0}
   AreInOrder (x ∷ xs) = AllByRecursion (StandsBefore x) xs × AreInOrder xs
@@ -147,7 +147,7 @@ module _ {X : Type 0} (name : X → List ℕ) (number : X → ℕ) where
   all_sorted P [] all = tt
   all_sorted P (x ∷ xs) all = all_put P x (sorted_by (λ y z. is_before (name y) (name z)) xs) all.0 (all_sorted P xs all.1)
 
-  -- what differs stands in order once it is sorted
+  -- what differs is in order once it is sorted
   pub sorted_order : (xs : List X) → AllDiffer xs → AreInOrder (sorted_by (λ y z. is_before (name y) (name z)) xs)
   sorted_order [] differ = tt
   sorted_order (x ∷ xs) differ =

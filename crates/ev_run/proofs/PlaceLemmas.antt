@@ -136,7 +136,7 @@ ok_then (Err e) P fine holds = absurd (never fine)
     never : true ≡ false → ⊥
     never h = cc
 
--- within a list what stands at a place needs no other
+-- within a list what is at a place needs no other
 pub get_any : {X : Type 0} (xs : List X) (k : ℕ) (d e : X) → k < length xs → get_or xs k d ≡ get_or xs k e
 get_any [] k d e below = absurd (none k below)
   where

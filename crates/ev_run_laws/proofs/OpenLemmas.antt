@@ -46,7 +46,7 @@ only_at : {X : Type 0} (x y : X) (k : ℕ) → k < 1 → get_or (x ∷ []) k y �
 only_at x y zero lt at = at
 only_at x y (suc k) lt at = absurd (omega arith)
 
--- what a filter leaves stood there before, and passes
+-- what a filter leaves was there before, and passes
 left_parts : {X : Type 0} (keeps : X → Bool) (xs : List X) (x : X) → Contains (filter keeps xs) x → Contains xs x × (keeps x ≡ true)
 left_parts keeps xs x there = (
   All-contains (Contains xs) (filter keeps xs) x (All-filter keeps (Contains xs) xs (All-contains_itself xs)) there,

@@ -108,7 +108,7 @@ begins_there forms input workers n text g some c =
     let both = by_both input.audit (has_format c.tree) c.begins in
     record { audit = both.0; ends = g.before.ends; later = subst (λ (i : ℕ). 0 < i) (sym g.index) some; format = (c.tree, given_tree forms input workers n text g ∙ c.is, both.1) }
 
--- no fault stands at the place where the journal begins
+-- there is no fault at the place where the journal begins
 nothing_there : (forms : LineForms) (input : Input) (workers : ℕ) (place : ℕ) (kind : FaultKind) → IsReadBefore forms input workers place → BeginsJournal input place → Stands forms input place kind → ⊥
 nothing_there forms input workers place TooLong read begins s = let h : 4 ≤ 2 = of_content forms input workers place TooLong read s in omega arith
 nothing_there forms input workers place TooMany read begins s = let h : 4 ≤ 1 = of_content forms input workers place TooMany read s in omega arith

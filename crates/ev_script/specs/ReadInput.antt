@@ -41,7 +41,7 @@ pub record IsWhole (forms : LineForms) (input : Input) (count : ℕ) : Type 0 wh
   pub sound : HasNoFault forms input
   pub lines : length (lines_of input.bytes) ≡ count
 
--- after so many lines the journal begins, by a line of this text, and no fault stands up to that line's end
+-- after so many lines the journal begins, by a line of this text, and there is no fault up to that line's end
 pub record IsUpToJournal (forms : LineForms) (input : Input) (count : ℕ) (text : List ℕ) : Type 0 where
   pub place : ℕ
   pub begins : BeginsJournal input place
@@ -73,7 +73,7 @@ IsAnswer forms keeps input (Ok read) = IsReadOf forms keeps input read
 IsAnswer forms keeps input (Err fault) = IsTold forms input fault
 
 -- what an answer about the first line means: a header was given, and the line is this text, or the first fault of the bytes
--- taken stands in the first line, whether a journal has to follow or not
+-- taken is in the first line, whether a journal has to follow or not
 abbrev pub IsHeadAnswer : LineForms → LinesState → List ℕ → List ℕ → Result ℕ ScriptFault → Type 0
 IsHeadAnswer forms state bytes text (Ok workers) =
     (state.told ≡ None) × (state.given ≡ 1) × (first_content forms (slice_index_or (lines_of bytes) 0 []) ≡ first.Workers workers) × (slice_index_or (lines_of bytes) 0 [] ≡ text)

@@ -39,7 +39,7 @@ open_where t s (x ∷ xs) h = by (t x) h (open_where t s xs)
     by true any rest = rest any
     by false any rest = refl
 
--- something complete stands at the place
+-- something complete is at the place
 complete_there : (told : Told) (gs : List Guarded) (n : ℕ) → complete_at told gs n ≡ true → (g : Guarded) × (slice_get gs n ≡ Some g) × (completed told g ≡ true)
 complete_there told gs n h = by (slice_get gs n) refl h
   where

@@ -208,7 +208,7 @@ was_as lines told gs n h = by (slice_get gs n)
     by None = refl
     by (Some g) = completed_as lines told g h
 
--- what is guarded after one line more stands after the others
+-- what is guarded after one line more comes after the others
 pub guarded_grows : (before : List Data) (line : Data) (all : List Guarded) → all ≡ guarded_by by_secrets (before ++ line ∷ []) → Grows (guarded_by by_secrets before) all
 guarded_grows before line all kept =
     let old : List Guarded = guarded_by by_secrets before in

@@ -85,7 +85,7 @@ one_finished true false at h = refl
 one_finished false true at h = sym (h refl)
 one_finished false false at h = refl
 
--- a place that isn't complete comes to stand under the first that it still waits for
+-- a place that isn't complete is put under the first that it still waits for
 pub advances_waiting : {S : Type 0} (told : Told) (gs : List Guarded) (place : ℕ) (g : Guarded) (a : Awaited) (before after : Waiting) (finished : IndexSet ℕ S) → slice_get gs place ≡ Some g
     → next_of told g.key ≡ Some a → Enters a place before.under after.under → length after.passed.items ≡ length before.passed.items → HavePassed told gs after.passed.items
     → AdvancesOne told gs place before after finished finished

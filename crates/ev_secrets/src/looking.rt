@@ -84,7 +84,7 @@ fn put_all(places: &mut BTreeSet<usize>, others: &IndexSet<usize>) -> Result<(),
     Ok(())
 }
 
-// Puts the places that stand under these endpoints among others.
+// Puts the places that are under these endpoints among others.
 fn put_served(
     alloc: Global,
     places: &mut BTreeSet<usize>,
@@ -120,7 +120,7 @@ fn put(places: &mut BTreeSet<usize>, place: usize) -> Result<(), AllocError>
     Ok(())
 }
 
-// Puts what stands at a place after these, where it is due.
+// Puts what is at a place after these, where it is due.
 fn push_due(
     due: &mut Vec<Due>,
     numbers: &Numbers,

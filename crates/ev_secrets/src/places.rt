@@ -7,7 +7,7 @@ use indexmap::IndexMap;
 use std::alloc::{AllocError, Global};
 use std::marker::Model;
 
-/// Places that stand under what they wait for, or waited for.
+/// Places that are under what they wait for, or waited for.
 #[derive(Drop)]
 pub(crate) struct Places {
     lists: IndexMap<Awaited, Seq<usize>>,

@@ -135,14 +135,14 @@ fn push_named(alloc: Global, names: &mut Vec<Name>, config: &Value) -> Result<()
     Ok(())
 }
 
-// The endpoints that stand in a cluster itself.
+// The endpoints given in a cluster itself.
 pub(crate) fn own_endpoints(alloc: Global, body: Option<&Value>) -> Result<Value, AllocError>
     ensures { IfOk result (λ endpoints. view endpoints ≡ endpoints_in (load_assignment_of (tree_of body.entry))) }
 {
     endpoints_in(alloc, load_assignment(alloc, body)?)
 }
 
-// The assignment that stands in a cluster itself.
+// The assignment given in a cluster itself.
 #[tactic(auto, unfolding(ev_cluster_json::specs::Clusters::load_assignment_of))]
 fn load_assignment<'a>(
     alloc: Global,
@@ -153,7 +153,7 @@ fn load_assignment<'a>(
     inner_object(alloc, body, "load_assignment")
 }
 
-// The endpoints of an assignment, as they stand there.
+// The endpoints of an assignment, as they are there.
 pub(crate) fn endpoints_in(alloc: Global, assignment: Option<&Value>) -> Result<Value, AllocError>
     ensures { IfOk result (λ endpoints. view endpoints ≡ endpoints_in (tree_of assignment.entry)) }
 {

@@ -1,4 +1,4 @@
--- Where the first route that takes a path stands.
+-- Where the first route that takes a path is.
 use Rattle.std.proofs.Common.{◌≡◌, ℕ, ◌+◌, ◌<◌, ◌≤◌, ◌==◌, ◌&&◌, ◌||◌, ◌++◌, Bool, true, false, not, min, cond, List, [], ◌∷◌, length, take, suc, zero, get_or, refl, sym, ap, ◌∙◌, arith, subst}
 use Rattle.std.proofs.lemmas.Grind.{common_steps, take_at_read}
 use Rattle.std.proofs.lemmas.Bool.Decides.{nat_tests}

@@ -1,4 +1,4 @@
--- The domains of a listener, each with the virtual host that it stands in.
+-- The domains of a listener, each with the virtual host that it is in.
 use Rattle.std.specs.Prelude.{◌≡◌, ℕ, ◌+◌, ◌-◌, ◌==◌, Bool, true, false, ◌&&◌, All, List, [], ◌∷◌, length, slice_index_or, Option, option_map, find}
 use Rattle.std.specs.Option.{option_or}
 use Rattle.std.specs.Str.{str_to_ascii_lowercase}

@@ -27,7 +27,7 @@
 //!   one number and begins another under one name, may be given in either order. What is put in takes the place of
 //!   what has its number or its name: so `next` has a meaning for all changes, needs no condition, and keeps the
 //!   order of names and numbers by itself.
-//! - Listeners at one address stand in a group, in the order of names, so that pictures with several at one address
+//! - Listeners at one address are in a group, in the order of names, so that pictures with several at one address
 //!   have a meaning, and the first takes the connections. The rules of listeners are made so that no two that serve
 //!   have one address, and then a group has one; that isn't proved, and nothing rests on it but the time.
 //! - Rows and listeners change by value (`without(self, ..)`, `put(self, ..)`): without memory nothing is left of

@@ -152,7 +152,7 @@ impl<T: Row> Rows<T> {
         })
     }
 
-    /// Makes layers of what stands over those of its tables, so that copies share them. The rows stay, also out of memory.
+    /// Makes layers of what lies over those of its tables, so that copies share them. The rows stay, also out of memory.
     pub(crate) fn settle(&mut self, alloc: Global) -> Result<(), AllocError>
         ensures { self.new ≡ self.old }
     {

@@ -146,7 +146,7 @@ among_items response name = by response.items
     by [] = refl
     by (item ∷ items) = ap (λ b. bytes_eq item.name name || b) (by items)
 
--- a name that stands among the removed ones and at no item is removed
+-- a name that is among the removed ones and that no item has is removed
 pub removed_so : (response : ResponseParts) (name : List ℕ) → is_among name response.removed ≡ true → has_item response name ≡ false → is_removed response name ≡ true
 removed_so response name there none =
     ap (λ b. b && not (nat_le 1 (length (filter (λ (item : ItemParts). bytes_eq item.name name) response.items)))) there

@@ -74,7 +74,7 @@ stream_next format world entry heard is =
 
 -- ---- what lives after a response
 
--- after an answered response of this kind each has a name that stands in it
+-- after an answered response of this kind each has a name that is in it
 pub named_by : (format : Format) (world : World) (actor : Actor) (response : ResponseParts) (kind : Kind) (names : List (List ℕ))
     → ((name : List ℕ) → has_live world kind name ≡ true → is_among name names ≡ true) → RemovesOthers names response
     → world.stream ≡ true → response.kind ≡ Some kind → is_by_name kind ≡ false

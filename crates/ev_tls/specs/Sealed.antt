@@ -68,7 +68,7 @@ pub record IsMadeOf (journal : List Entry) (number : ℕ) (lines : List Data) (i
   pub made : made_by_first (item + 1) by.entry.event by.entry.answer ≡ made_by_first item by.entry.event by.entry.answer ++ row ∷ []
   pub numbered : number ≡ length (made_rows (take place journal)) + length (made_by_first item by.entry.event by.entry.answer) + 1
 
--- what the line became stands before place k of the journal, with the line's event
+-- what the line became comes before place k of the journal, with the line's event
 pub record StandsBefore (journal : List Entry) (k : ℕ) (lines : List Data) (index : ℕ) : Type 0 where
   pub place : ℕ
   pub earlier : place < k

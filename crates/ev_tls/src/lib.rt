@@ -4,7 +4,7 @@
 //! # Choices
 //!
 //! - The text is made by `ev_secrets`; that it is a script is the law of `ev_expand_laws`, whose premises are proved here: trees
-//!   that were read are lines of a script, and the endpoints that are sent stood in such a line at least as deep.
+//!   that were read are lines of a script, and the endpoints that are sent were in such a line at least as deep.
 #![tactic(auto)]
 
 ghost use Rattle.std.specs.Prelude.{◌≡◌, false, Some, Ok, IfOk, OnOk};

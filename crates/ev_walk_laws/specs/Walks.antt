@@ -33,7 +33,7 @@ leaves_out Two rests = rests
 abbrev pub may_leave_out : Format → ScriptParts → List Entry → Actor → Bool
 may_leave_out format script journal actor = leaves_out format (is_resting format script journal actor)
 
--- the first of the operations that the row records comes next of these: settles alone stand before it, and these may be left out
+-- the first of the operations that the row records comes next of these: settles alone come before it, and these may be left out
 pub record ComesNext (row : Row) (rests : Bool) (os : List Operation) (o : Operation) : Type 0 where
   pub tells : IsTrue (tells_of row o)
   pub skipped : List Operation

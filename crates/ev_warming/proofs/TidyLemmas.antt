@@ -193,7 +193,7 @@ module _ (s t : State) (new : GenRow) (stale : List ℕ)
           ((λ i. is_live r.status && has_host h (sym (assignment_in-agrees s.watches t.watches r.content (λ q needs. marks-agree s.watches t.watches marks q)) i))
           ∙ (λ i. keeps_result t.watches h (same i)) ∙ lost)
 
--- what stands of a name retires
+-- what is live of a name retires
 ended-told : (kind : Kind) (name : List ℕ) (rows : List GenRow) (standing : Standing) → option_to_list standing.active ≡ numbers_where (serves name) rows → option_to_list standing.warming ≡ numbers_where (warms name) rows
     → (n : ℕ) (row : GenRow) → row_in n rows ≡ Some row → is_live row.status ≡ true → is_live (ended_status kind name row) ≡ false
     → is_among (option_to_list standing.warming ++ option_to_list standing.active) n ≡ true

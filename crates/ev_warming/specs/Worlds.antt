@@ -70,7 +70,7 @@ without_generation number world = record world { rows = without_row number world
 abbrev pub with_told : State → Arrival → List ℕ → World → World
 with_told s arrival name world = told_where (list_any (depends_on name) s.table.rows) (needs_of s.kind) arrival name world
 
--- the world once a removed name is reported as absent, where it stands at no resource and a live row of the state depends on it
+-- the world once a removed name is reported as absent, where no resource has it and a live row of the state depends on it
 abbrev pub with_name_absent : State → ResponseParts → List ℕ → World → World
 with_name_absent s response name world =
     told_where (is_unlisted response name && list_any (depends_on name) s.table.rows) (needs_of s.kind) Absent name world

@@ -46,7 +46,7 @@ impl Manager {
         Ok(())
     }
 
-    // Watched names that a response removes are reported, but those that stand at a resource.
+    // Watched names that a response removes are reported, except those that a resource has.
     fn tell_absences<L: Ledger>(
         &mut self,
         alloc: Global,
@@ -70,7 +70,7 @@ impl Manager {
         Ok(())
     }
 
-    // A name that is removed is reported, where it is watched and stands at no resource.
+    // A name that is removed is reported, where it is watched and no resource has it.
     fn tell_absence<L: Ledger>(
         &mut self,
         alloc: Global,

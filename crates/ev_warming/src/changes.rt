@@ -327,7 +327,7 @@ pub(crate) fn put_one(numbers: &mut Seq<Gen>, number: &Option<Gen>) -> Result<()
     Ok(())
 }
 
-// What stands of a name once the one that warms, or the one that serves, is gone.
+// What is live of a name once the one that warms, or the one that serves, is gone.
 fn left(standing: Standing, warms: bool) -> Standing
     ensures { result ≡ (if warms then record standing { warming = None } else record standing { active = None }) }
 {

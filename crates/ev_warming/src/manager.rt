@@ -21,7 +21,7 @@ use std::mem;
 use std::sync::ledger::Ledger;
 
 /// The core of a manager: the generations of one kind with their indexes, and the numbers of those that the next forgetting
-/// looks at, since they retired or their assignment may have changed. A call says what stands after it; without memory
+/// looks at, since they retired or their assignment may have changed. A call says what holds after it; without memory
 /// nothing is promised of the manager, and its holder makes it anew, out of the journal.
 #[derive(Drop)]
 pub struct Manager {

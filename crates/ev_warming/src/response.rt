@@ -1,5 +1,5 @@
 //! Responses of clusters or listeners. A removed name is a text of any length, and no row has one that is no name of 1 to 512
-//! bytes. Whether it stands at a resource is looked up in a table of what the response mentions, made where it removes names;
+//! bytes. Whether a resource has it is looked up in a table of what the response mentions, made where it removes names;
 //! the verdicts were made by another, above both managers: with that one as an argument these calls would speak of a table
 //! in place of a response.
 
@@ -74,7 +74,7 @@ impl Manager {
         self.state.table.advance(made);
     }
 
-    // The removed names of a response come to their end, but those that stand at a resource.
+    // The removed names of a response come to their end, except those that a resource has.
     fn remove_names<L: Ledger>(
         &mut self,
         alloc: Global,
@@ -100,7 +100,7 @@ impl Manager {
         Ok(())
     }
 
-    // A removed name comes to its end, where it stands at no resource.
+    // A removed name comes to its end, where no resource has it.
     fn remove_name<L: Ledger>(
         &mut self,
         alloc: Global,

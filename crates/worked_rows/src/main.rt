@@ -2,7 +2,7 @@
 //! status, with the line and the kind of the fault where the input is no script, and its arguments. Its input is in
 //! `NAME.in`, and the output that is wanted in `NAME.out`; long ones are made of the pieces in `NAME.in.parts` and
 //! `NAME.out.parts`. The program runs each over memory, compares, and prints a line a row and the sum. Then it reads inputs of
-//! scripts, and texts of rows and of journals, which stand as files too.
+//! scripts, and texts of rows and of journals, which are files too.
 #![tactic(auto)]
 
 mod cuts;
