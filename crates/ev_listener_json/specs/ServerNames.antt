@@ -3,6 +3,7 @@ use Rattle.std.specs.Prelude.{ℕ, ◌==◌, ◌&&◌, Bool, not, nat_lt, List, 
 use Rattle.std.specs.List.{list_any}
 use Rattle.std.specs.Str.{bytes_eq}
 
+-- a star is among the bytes of the name
 abbrev pub has_star : List ℕ → Bool
 has_star name = list_any (λ byte. byte == 42) name
 
