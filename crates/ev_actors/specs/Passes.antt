@@ -22,7 +22,7 @@ waiting_without actor waiting = filter (λ (o : Operation). not (actor_same o.ac
 abbrev pub joined_by : Line → List Operation → List Operation
 joined_by line waiting = waiting ++ line_operation line ∷ []
 
--- with this accept or close so many of its worker wait as a batch may have
+-- with this accept or close as many of its worker wait as a batch may have
 abbrev pub is_filled_by : Line → List Operation → Bool
 is_filled_by line waiting = length (waiting_of line.actor (joined_by line waiting)) == batch_limit
 

@@ -121,7 +121,7 @@ dump_told : (format : Format) (script : ScriptParts) (rows : List Row) (entries 
 dump_told format script rows entries text (inl dumped) = dumped.1
 dump_told format script rows entries text (inr wrong) = absurd (cc (wrong.0))
 
--- two legal journals of one format that agree in their first so many entries give one line
+-- two legal journals of one format that agree in their first n entries give one line
 pub one_dump : (entries : ℕ) (bytes others text another : List ℕ) (one : IsDumped entries bytes Done text) (two : IsDumped entries others Done another)
     → two.format ≡ one.format → take entries (journal_told two.script two.rows) ≡ take entries (journal_told one.script one.rows) → another ≡ text
 one_dump entries bytes others text another one two same agree =

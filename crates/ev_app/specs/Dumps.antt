@@ -1,4 +1,4 @@
--- The text that answers a dump: the configuration after the first so many entries of a legal journal, as a line, or what is
+-- The text that answers a dump: the configuration after the first n entries of a legal journal, as a line, or what is
 -- found of one that isn't legal.
 use Rattle.std.specs.Prelude.{◌≡◌, ◌≢◌, ℕ, ⊤, ◌⊎◌, List, take, Result, Ok, Err}
 use Rattle.ev_io.specs.declared.faults.ScriptFault.{ScriptFault}
@@ -20,12 +20,12 @@ pub record IsNotLegal (format : Format) (script : ScriptParts) (rows : List Row)
   pub wrong : finding_of format script rows ≢ Legal
   pub told : text ≡ finding_text (finding_of format script rows)
 
--- the dump of so many entries, with Done, or what is found of rows that aren't legal, with Illegal
+-- the dump of this many entries, with Done, or what is found of rows that aren't legal, with Illegal
 abbrev pub IsDumpText : Format → ScriptParts → List Row → ℕ → Status → List ℕ → Type 0
 IsDumpText format script rows entries status text =
     ((status ≡ Done) × IsDump format script rows entries text) ⊎ ((status ≡ Illegal) × IsNotLegal format script rows text)
 
--- each legal journal that agrees with these rows' in its first so many entries has this dump of them
+-- each legal journal that agrees with these rows' in its first n entries has this dump of them
 abbrev pub IsDumpByPrefix : Format → ScriptParts → List Row → ℕ → List ℕ → Type 0
 IsDumpByPrefix format script rows entries text =
     (other : ScriptParts) (others : List Row) (another : List ℕ)
@@ -42,7 +42,7 @@ pub record IsDumped (entries : ℕ) (bytes : List ℕ) (status : Status) (text :
   pub prefix : status ≡ Done → IsDumpByPrefix format script rows entries text
   pub dumped : IsDumpText format script rows entries status text
 
--- the bytes are a script followed by a legal journal, of which no commit ends with so many entries: a fault at this line, of
+-- the bytes are a script followed by a legal journal, of which no commit ends with this many entries: a fault at this line, of
 -- kind 12
 pub record EndsNoCommit (entries : ℕ) (bytes : List ℕ) (line number : ℕ) : Type 0 where
   pub format : Format

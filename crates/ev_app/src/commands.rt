@@ -16,7 +16,7 @@ pub enum Command {
     Run,
     /// `audit`: a line that says what is found of the journal that follows a script.
     Audit,
-    /// `soak SEED COUNT`: a line that says what the replay of a seed's script came to. The script has so many lines after
+    /// `soak SEED COUNT`: a line that says what the replay of a seed's script came to. The script has COUNT lines after
     /// its header, 1 to `MAX_SOAK`; nothing is read.
     Soak { seed: u64, count: u32 },
     /// `tls`: the script in which each cluster that names secrets waits for them.
@@ -120,7 +120,7 @@ fn dump_of(arguments: &[Text]) -> Option<Command>
     }
 }
 
-// The dump of so many entries, where they are within their limit.
+// The dump of this many entries, where they are within their limit.
 fn dump_with(entries: u64) -> Option<Command>
     ensures some { IfSome result (λ command. (command ≡ Dump entries) × IsWithin command) }
     ensures none { result ≡ None → ¬ (entries < 2 ^ 32) }

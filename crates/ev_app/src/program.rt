@@ -22,7 +22,7 @@ use std::thread::Threads;
 ///   settles that are left out while a worker rests.
 /// - `audit` reads a script followed by a journal, and writes a line that says what is found of the journal. It ends as
 ///   `Illegal` where that isn't legal.
-/// - `soak SEED COUNT` reads nothing, replays the script of the seed with so many lines after its header, 1 to 100,000, and
+/// - `soak SEED COUNT` reads nothing, replays the script of the seed with COUNT lines after its header, 1 to 100,000, and
 ///   writes one line that says what it came to.
 /// - `tls` reads a script and writes the script in which each cluster that names secrets waits until all of them, and its
 ///   endpoints, have been reported. A line that uses one of the command's own names is a `BadScript` of kind 11, and a text that is too
@@ -34,7 +34,7 @@ use std::thread::Threads;
 ///   same, and writes its journal with the requests of the state of the world. Where that script is too large for an input, it is
 ///   a `BadScript` of kind 10.
 /// - `dump K` reads as `audit` does, and writes one line of what is known after the first K entries of a legal journal, or what
-///   `audit` writes of another one. Where no commit ends with so many entries it is a `BadScript` of kind 12.
+///   `audit` writes of another one. Where no commit ends with this many entries it is a `BadScript` of kind 12.
 ///
 /// `BadScript` reports the first fault of the bytes taken, those at the end of the input only where the source gave its
 /// end. A read that failed is reported only where the bytes taken have no fault and the source didn't give its end. Out of

@@ -180,7 +180,7 @@ module _ (texts : List (List ℕ)) (workers first given : ℕ) (format : Format)
           inl (subst (λ (n : ℕ). IsNoText workers n (get_or texts (first + 1 + length (texts_of rows end)) [])) (sym count)
           (subst (IsNoText workers (suc (length rows))) (sym here) m))
 
--- a first line that is the first of no journal with so many workers
+-- a first line that is the first of no journal with this many workers
 pub wrong_first : (texts : List (List ℕ)) (workers first : ℕ) (text : List ℕ) → get_or texts first [] ≡ text → ((format : Format) → text ≢ first_text format workers) → Wrong workers texts first first
 wrong_first texts workers first text here wrong =
     let none : first - first ≡ 0 = omega arith in

@@ -157,7 +157,7 @@ module _ (all : List ℕ) (state : LinesState) (script : ScriptParts) (text : Li
     headed : get_or texts script.count [] ≡ first_text format script.workers
     headed = up.here ∙ head
 
-    -- so many lines are in their places
+    -- this many lines are in their places
     placed : (place : ℕ) → index_at input place < script.count + 1 + length (texts_of rows end) → ¬ (IsMisplacedAt input place)
     placed place h m =
         none_wrong texts script.workers script.count given format rows end rest headed meant lines (index_at input place) (index_late place (misplaced_late place m)) h

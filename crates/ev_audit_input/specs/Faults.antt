@@ -17,8 +17,8 @@ pub record StartsJournal (input : Input) (start : ℕ) : Type 0 where
   pub begins : BeginsJournal input start
   pub first : (other : ℕ) → other < start → ¬ (BeginsJournal input other)
 
--- a text isn't that of the line of a journal with so many lines before it: of its first line, which names its format and the
--- script's count of workers, or after that and so many rows neither of a row nor of the end line, which names their number
+-- a text isn't that of the line of a journal with this many lines before it: of its first line, which names its format and the
+-- script's count of workers, or after that and this many rows neither of a row nor of the end line, which names their number
 abbrev pub IsNoText : ℕ → ℕ → List ℕ → Type 0
 IsNoText workers zero text = (format : Format) → text ≢ first_text format workers
 IsNoText workers (suc rows) text = IsNoRow text × (text ≢ end_text rows)

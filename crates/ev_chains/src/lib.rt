@@ -7,7 +7,7 @@
 //! # Choices
 //!
 //! - A state has the chains that serve, each with its number, and of those that drain the number alone: nothing asks what they
-//!   served. Which chain is gone shows nowhere, since a number is never drawn again.
+//!   served. Which chain is gone doesn't show, since a number is never drawn again.
 //! - Chains that serve are in the order of the last listener that was accepted. So a listener's chains are numbered where they
 //!   are, with the table that was made to find two that take the same connections, and nothing of the last version is copied.
 //! - Chains are found by keys: a match's port, or none, with each of its server names in lower case, or with none. Two matches

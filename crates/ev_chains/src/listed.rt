@@ -194,7 +194,7 @@ impl Listed {
         Ok(self.number_under(&wild_key(alloc, port, name, place)?))
     }
 
-    // The port that is looked for: this one where a chain has it, and else none.
+    // The port that is looked for: this one where a chain has it, and otherwise none.
     fn asked_port(&self, port: u16) -> Option<u16>
         ensures { result ≡ asked_port port self.now }
     {

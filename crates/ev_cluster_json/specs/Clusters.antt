@@ -92,7 +92,7 @@ load_assignment_broken tree = either_broken (assignment_broken (load_assignment_
   v6 = is_wrong (object_of (codes "load_assignment") tree);
 })
 
--- What a cluster breaks. The hosts given in it are read where the type is STATIC, and passed over else.
+-- What a cluster breaks. The hosts given in it are read where the type is STATIC, and passed over otherwise.
 unfoldable pub cluster_broken : Data → BrokenRules
 cluster_broken tree =
     either_broken (own_broken tree) (either_broken (eds_broken (is_eds tree) tree) (broken_where (is_static tree) (load_assignment_broken tree)))

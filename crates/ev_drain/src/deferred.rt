@@ -30,7 +30,7 @@ impl Deferred {
         }
     }
 
-    /// Makes room for so many more.
+    /// Makes room for this many more.
     pub fn make_room(&mut self, additional: usize) -> Result<(), AllocError>
         ensures rows { self.new.0 ≡ self.old.0 }
         ensures room { OnOk result (additional ≤ self.new.1) }

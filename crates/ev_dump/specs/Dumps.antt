@@ -9,12 +9,12 @@ use Rattle.ev_actors.specs.Journals.{JournalParts}
 use Rattle.ev_fronts.specs.Fronts.{ends_commit}
 use Rattle.ev_dump.specs.Texts.{dump_text}
 
--- the first so many entries of a journal that rows record, with its format, workers and node
+-- the first n entries of a journal that rows record, with its format, workers and node
 abbrev pub front_of : Format → ScriptParts → List Row → ℕ → JournalParts
 front_of format script rows entries =
     record { format = format; workers = script.workers; node = script.node; journal = take entries (journal_told script rows) }
 
--- the text is the dump of so many entries: the rows are found legal, and a commit ends there
+-- the text is the dump of this many entries: the rows are found legal, and a commit ends there
 pub record IsDump (format : Format) (script : ScriptParts) (rows : List Row) (entries : ℕ) (text : List ℕ) : Type 0 where
   pub legal : finding_of format script rows ≡ Legal
   pub ends : IsTrue (ends_commit rows entries)
@@ -24,7 +24,7 @@ pub record IsDump (format : Format) (script : ScriptParts) (rows : List Row) (en
 abbrev pub end_line : ScriptParts → List Row → ℕ
 end_line script rows = script.count + length rows + 2
 
--- the rows are found legal, but no commit ends with so many entries, which is reported at the end line: there aren't so many, or the last
+-- the rows are found legal, but no commit ends with this many entries, which is reported at the end line: there are fewer, or the last
 -- of them is an accept or a close
 pub record IsNoCommit (format : Format) (script : ScriptParts) (rows : List Row) (entries line : ℕ) : Type 0 where
   pub legal : finding_of format script rows ≡ Legal

@@ -44,7 +44,7 @@ impl Endpoints {
         }
     }
 
-    /// Keeps a result of a host for a generation in place of an earlier one. Without memory all stays as it was.
+    /// Keeps a result of a host for a generation in place of an earlier one. Out of memory, all stays as it was.
     pub fn note(
         &mut self,
         alloc: Global,
@@ -120,7 +120,7 @@ impl Endpoints {
         self.results.swap_remove(&number.number());
     }
 
-    /// Forgets the results of a generation for hosts that aren't among these rows. Without memory all stays as it was.
+    /// Forgets the results of a generation for hosts that aren't among these rows. Out of memory, all stays as it was.
     pub fn trim(&mut self, alloc: Global, number: Gen, rows: &Assignment) -> Result<(), AllocError>
         ensures ok { OnOk result (Trims self.old self.new number rows.now) }
         ensures err { OnErr result (self.new ≡ self.old) }

@@ -91,7 +91,7 @@ pub const MOST_LINES: usize = 4_294_967_290;
 ///
 /// # Errors
 /// `Private` exactly for the first line that uses a private name. `Large` where there is none, exactly for the line with whose
-/// output the text goes above a limit of inputs. `OutOfMemory` without memory, and for 2^32 lines and more.
+/// output the text goes above a limit of inputs. `OutOfMemory` where memory runs out, and for 2^32 lines and more.
 pub fn expand_with<E: Expansion + Drop>(
     alloc: Global,
     expansion: E,

@@ -55,7 +55,7 @@ impl TextSoFar {
     }
 }
 
-// Whether there is room for a line of this length, its line feed counted, after so many bytes and lines.
+// Whether there is room for a line of this length, its line feed counted, after this many bytes and lines.
 fn has_room(bytes: usize, lines: u32, line: usize) -> bool
     ensures { IsTrue result ↔ HasRoom bytes lines line }
 {

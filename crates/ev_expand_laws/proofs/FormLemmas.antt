@@ -108,7 +108,7 @@ line_ends (byte ∷ bytes) i h = by (λ j k. line_ends bytes j k) (eqb byte 10) 
 
 -- ---- the forms
 
--- at this place the tree has the form of a line, of a script of so many workers
+-- at this place the tree has the form of a line, of a script of this many workers
 pub record HasForm (forms : LineForms) (workers at : ℕ) (tree : Data) : Type 0 where
   pub named : Option ℕ
   pub reads : forms.lines at tree ≡ Some named

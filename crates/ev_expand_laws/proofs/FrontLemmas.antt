@@ -60,7 +60,7 @@ up_to_at lines index front there =
 
 -- ---- lines of the text
 
--- so many lines of the text are given by those of the input before this one
+-- this many lines of the text are given by those of the input before this one
 abbrev pub given_before : Rules → List Data → ℕ → ℕ
 given_before rules lines index = length (given_lines rules (take index lines))
 

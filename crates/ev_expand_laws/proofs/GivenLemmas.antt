@@ -40,7 +40,7 @@ all_fronts P (first ∷ lines) all =
 all_one : {X : Type 0} (P : X → Type 0) (x : X) → P x → All P (x ∷ [])
 all_one P x is = All-cons P x [] is (All-nil P)
 
--- a line of a script of so many workers, not too deep
+-- a line of a script of this many workers, not too deep
 pub record IsGiven (workers : ℕ) (tree : Data) : Type 0 where
   pub line : HasLine workers 0 tree
   pub readable : IsReadable tree

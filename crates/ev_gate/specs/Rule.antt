@@ -144,7 +144,7 @@ module _ {V O C : Type 0} (opening : V → O) (commits : V → List (ℕ × C)) 
     pub commits_are : commits value ≡ m.0.start ++ n.0.since
     pub not_below : version_of (opening value) (m.0.start ++ m.0.heard) ≤ version_of (opening value) (commits value)
 
-  -- where the word is the seat's ticket, it is served, and else nothing changed
+  -- where the word is the seat's ticket, it is served, and otherwise nothing changed
   abbrev pub Looks : Me (Option V) (View O C) → ℕ → Me (Option V) (View O C) → Type 0
   Looks m found n = MatchBool (found == m.0.ticket % 2 ^ 64) (Takes m n) (n ≡ m)
 

@@ -67,7 +67,7 @@ impl Generations {
         self.made = made;
     }
 
-    /// A new row, which warms and has the next number. It costs one look-up by number. Without memory the table stays as it was.
+    /// A new row, which warms and has the next number. It costs one look-up by number. Out of memory, the table stays as it was.
     pub fn add(&mut self, kind: Kind, name: Name, content: Content) -> Result<Gen, AllocError>
         requires { self.old.made + 1 < 2 ^ 32 }
         ensures number { IfOk result (λ number. number ≡ self.old.made + 1) }

@@ -71,7 +71,7 @@ without-none x (y ∷ ys) none =
     ap (λ zs. y ∷ zs) (without-none x ys (λ k l. none (suc k) (omega (arith, l))))
     ∙ sym (λ j. cond (not (none 0 (omega arith) j)) (y ∷ numbers_without x ys) (numbers_without x ys))
 
--- what a search by halves finds is the number, and where it finds none, the number is nowhere
+-- what a binary search finds is the number, and where it finds none, the number is nowhere
 pub halves : (x : ℕ) (xs : List ℕ) (r : Result ℕ ℕ) → Rise xs → IsBinarySearchResult (λ y. nat_cmp y x) xs r
     → MatchResult r (λ i. remove xs i ≡ numbers_without x xs) (λ i. xs ≡ numbers_without x xs)
 halves x xs r h found = by r (searched xs x r found (λ i j le lt. non_decreasing_from_sorted xs h i j 0 le lt))

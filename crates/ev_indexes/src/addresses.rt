@@ -51,7 +51,7 @@ impl Addresses {
         self.numbers.get(address)
     }
 
-    /// A generation of this content holds the address at which it listens, where it listens. Without memory nothing is promised.
+    /// A generation of this content holds the address at which it listens, where it listens. Out of memory, nothing is promised.
     pub fn hold(&mut self, alloc: Global, content: &Content, number: Gen) -> Result<(), AllocError>
         ensures { OnOk result (HoldsAddress self.old self.new number content.now) }
     {
@@ -70,7 +70,7 @@ impl Addresses {
         }
     }
 
-    // One more number is at the address. Without memory nothing is promised.
+    // One more number is at the address. Out of memory, nothing is promised.
     fn enter(&mut self, alloc: Global, address: &Host, number: Gen) -> Result<(), AllocError>
         ensures { OnOk result (EntersAt self.old self.new address.now number) }
     {
@@ -85,7 +85,7 @@ impl Addresses {
     }
 }
 
-// One more number is at an address. Without memory the numbers stay as they were.
+// One more number is at an address. Out of memory, the numbers stay as they were.
 fn enter_number(
     map: &mut Numbers,
     alloc: Global,

@@ -65,7 +65,7 @@ impl Names {
         }
     }
 
-    /// These generations of the name are live. Without memory all stays as it was.
+    /// These generations of the name are live. Out of memory, all stays as it was.
     pub fn enter(&mut self, name: Name, standing: Standing) -> Result<(), AllocError>
         ensures ok { OnOk result (Sets nobody self.old self.new name standing) }
         ensures err { OnErr result (self.new ≡ self.old) }

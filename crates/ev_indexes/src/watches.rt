@@ -68,7 +68,7 @@ impl Watches {
         self.watches.get(&NameKey::new(text))
     }
 
-    /// One more generation depends on the name. Without memory nothing is promised.
+    /// One more generation depends on the name. Out of memory, nothing is promised.
     pub fn watch(
         &mut self,
         alloc: Global,
@@ -102,7 +102,7 @@ impl Watches {
         }
     }
 
-    /// Something came for the name. Without memory nothing is promised.
+    /// Something came for the name. Out of memory, nothing is promised.
     pub fn tell(&mut self, alloc: Global, name: &Name, arrival: &Arrival) -> Result<(), AllocError>
         requires { IsSome (lookup (bytes_eq name.now) self.old) }
         ensures { OnOk result (Turns (with_arrival arrival.now) self.old self.new name.now) }

@@ -13,7 +13,7 @@ IsTooLarge place = MAX_INPUT_BYTES ≤ place
 abbrev pub IsTooMany : List ℕ → ℕ → Type 0
 IsTooMany bytes place = MAX_LINES ≤ feeds_in (take place bytes)
 
--- a byte above the most bytes of its line: neither it nor any of so many bytes before it is a line feed
+-- a byte above the most bytes of its line: neither it nor any of this many bytes before it is a line feed
 abbrev pub IsTooLong : List ℕ → ℕ → Type 0
 IsTooLong bytes place = (MAX_LINE_BYTES ≤ place) × ((k : ℕ) → place ≤ k + MAX_LINE_BYTES → k ≤ place → slice_index bytes k ≢ 10)
 

@@ -9,7 +9,7 @@ use super::limits::{MAX_INPUT_BYTES, MAX_LINE_BYTES, MAX_LINES};
 /// What comes next in the bytes taken.
 #[derive(Clone, Copy)]
 pub(crate) enum Found {
-    /// A line of so many bytes.
+    /// A line of this many bytes.
     Line(usize),
     /// A fault.
     Fault(LineFault),

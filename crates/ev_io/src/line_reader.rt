@@ -222,7 +222,7 @@ impl Lines {
     }
 }
 
-// A buffer of so many bytes.
+// A buffer of this many bytes.
 fn buffer_of(alloc: Global, size: usize) -> Result<Vec<u8>, AllocError>
     ensures { IfOk result (λ buffer. vec_len buffer ≡ size) }
 {

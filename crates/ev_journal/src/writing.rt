@@ -11,7 +11,7 @@ use ev_types::{Actor, Entry, Format, Op, Row};
 use serde_json::{Value, json};
 use std::alloc::{AllocError, Global};
 
-/// Writes the text of a journal of a format, for so many workers: the first line, a line an entry, and the end line
+/// Writes the text of a journal of a format, for this many workers: the first line, a line an entry, and the end line
 /// with their number, each closed by a line feed.
 pub fn render_journal(
     alloc: Global,
@@ -68,7 +68,7 @@ pub fn write_row(alloc: Global, row: &Row) -> Result<Vec<u8>, AllocError>
     value.to_vec(alloc)
 }
 
-/// Writes the last line of a journal of so many entries, with the line feed that closes it.
+/// Writes the last line of a journal of this many entries, with the line feed that closes it.
 pub fn write_end_line(alloc: Global, entries: usize) -> Result<Vec<u8>, AllocError>
     ensures line { IfOk result (λ line. line.items ≡ line_text (end_tree entries)) }
 {

@@ -26,7 +26,7 @@ use Rattle.ev_journal_read.specs.Reading.{IsNoRow}
 abbrev pub first_text : Format → ℕ → List ℕ
 first_text format workers = compact_text (first_tree format workers)
 
--- the text of the end line after so many rows
+-- the text of the end line after this many rows
 abbrev pub end_text : ℕ → List ℕ
 end_text rows = compact_text (end_tree rows)
 
@@ -51,7 +51,7 @@ abbrev pub IsMisplaced : List Row → Bool → List ℕ → Type 0
 IsMisplaced rows true text = ⊤
 IsMisplaced rows false text = IsNoRow text × (text ≢ end_text (length rows))
 
--- what is found of a first line: its format, or none where it is the first of no journal with so many workers
+-- what is found of a first line: its format, or none where it is the first of no journal with this many workers
 abbrev pub IsFirstAnswer : List ℕ → ℕ → Option Format → Type 0
 IsFirstAnswer first workers (Some format) = first ≡ first_text format workers
 IsFirstAnswer first workers None = (format : Format) → first ≢ first_text format workers
@@ -82,7 +82,7 @@ pub record IsRead (workers : ℕ) (first : List ℕ) (old new : LinesState) (byt
 
 -- ---- faults
 
--- the first line is the first of no journal with so many workers
+-- the first line is the first of no journal with this many workers
 pub record IsWrongFirst (workers : ℕ) (first : List ℕ) (old new : LinesState) (line kind : ℕ) : Type 0 where
   pub wrong : (format : Format) → first ≢ first_text format workers
   pub nothing : new ≡ old

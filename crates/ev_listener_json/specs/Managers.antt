@@ -50,7 +50,7 @@ manager_broken manager = either_broken (table_broken (inline_of manager)) (eithe
       || is_given (field_of (codes "scoped_routes") manager);
 }))
 
--- the routes of this name, where one is asked for, and else those given in the manager
+-- the routes of this name, where one is asked for, and otherwise those given in the manager
 abbrev pub serve_with : Bool → List ℕ → Bool → RouteTable → Serve
 serve_with asks name limited table = if asks && is_name name then Rds name limited else Inline table
 

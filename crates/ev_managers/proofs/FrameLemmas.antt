@@ -477,7 +477,7 @@ keeps : (kind : Kind) (made : ℕ) (m : Manager) (before after : World) → IsMa
 keeps kind made m before after is has sound leaves same =
     stays m.state before after has sound (subst (λ (k : Kind). Leaves k before after) (sym is.rows) leaves) (same_results m.state before after same)
 
--- both stand for a world that one of them followed to, where the other sees nothing of it, and no number was drawn, or so many were
+-- both stand for a world that one of them followed to, where the other sees nothing of it, and no number was drawn, or this many were
 pub stand-with : (m : Managers) (kind : Kind) (own : Manager) (before after : World) → AreKept m → StandFor m before → StandsFor own.state after
     → after.made ≡ before.made → Leaves (others_of kind) before after → after.results ≡ before.results → StandFor (with_manager m kind own) after
 stand-with m Cds own before after kept stand has made leaves same =

@@ -70,7 +70,7 @@ impl Managers {
     }
 
     /// Each generation that is due serves, and the one that served its name before it drains. The ones that drain are put to those
-    /// that retired, and both to those that changed. Without memory nothing is promised.
+    /// that retired, and both to those that changed. Out of memory, nothing is promised.
     pub fn promote<L: Ledger>(
         &mut self,
         alloc: Global,
@@ -87,7 +87,7 @@ impl Managers {
         Ok(())
     }
 
-    /// Forgets what nobody needs any more. Without memory nothing is promised.
+    /// Forgets what nobody needs any more. Out of memory, nothing is promised.
     pub fn forget<L: Ledger>(
         &mut self,
         alloc: Global,

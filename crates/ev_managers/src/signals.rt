@@ -15,7 +15,7 @@ use std::alloc::{AllocError, Global};
 use std::sync::ledger::Ledger;
 
 impl Managers {
-    /// Something came for a name of endpoints or of routes that a live generation depends on. Without memory nothing is promised.
+    /// Something came for a name of endpoints or of routes that a live generation depends on. Out of memory, nothing is promised.
     pub fn arrive<L: Ledger>(
         &mut self,
         alloc: Global,
@@ -36,7 +36,7 @@ impl Managers {
     }
 
     /// What a name of this kind stands for has come to its end: a cluster or listener goes as if it were removed, and endpoints or
-    /// routes become none, where the name is watched. Answers which generations retired. Without memory nothing is promised.
+    /// routes become none, where the name is watched. Answers which generations retired. Out of memory, nothing is promised.
     pub fn end<L: Ledger>(
         &mut self,
         alloc: Global,

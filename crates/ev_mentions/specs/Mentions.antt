@@ -5,7 +5,7 @@ use Rattle.indexmap.specs.IndexSet.{IndexSet, contains}
 use Rattle.ev_types.specs.Items.{ItemParts, ResponseParts}
 use Rattle.ev_model.specs.Verdicts.{items_named, is_among}
 
--- the set has the names that so many resources here have, or more
+-- the set has the names that this many resources here have, or more
 abbrev pub HasNamed : ℕ → List ItemParts → (List ℕ → Bool) → Type 0
 HasNamed count items has = (name : List ℕ) → has name ≡ nat_le count (length (items_named name items))
 

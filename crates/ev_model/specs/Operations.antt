@@ -89,12 +89,12 @@ abbrev pub is_since_settle : List Line → Line → Line → Bool
 is_since_settle lines line other =
     is_batched other.event && actor_same other.actor line.actor && nat_le other.at line.at && not (list_any (settles_between other line) lines)
 
--- so many accepts and closes a batch may have
+-- this many accepts and closes a batch may have
 abbrev pub batch_limit : ℕ
 batch_limit = 256
 
--- A batch is full at a line: it is an accept or close, and with it those since the worker's last settle line are so many.
--- A settle is forced after each full batch, so twice so many make a full batch again, and so on.
+-- A batch is full at a line: it is an accept or close, and with it those since the worker's last settle line are that many.
+-- A settle is forced after each full batch, so twice as many make a full batch again, and so on.
 abbrev pub is_full_at : List Line → Line → Bool
 is_full_at lines line = is_batched line.event && (length (filter (is_since_settle lines line) lines) % batch_limit == 0)
 

@@ -197,7 +197,7 @@ answers_reap = record {
   served = λ listener cluster host number. refl;
 }
 
--- what is named by a reaping is away after it
+-- what is named by a reaping is gone after it
 abbrev AreAway : World × Answer → Type 0
 AreAway did = (number : ℕ) → has_number number (numbers_reaped did.1) ≡ true → IsAway number did.0
 

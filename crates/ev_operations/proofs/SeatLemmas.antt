@@ -122,7 +122,7 @@ begun_come format script actor course begun = record {
   rests = begun.rests;
 }
 
--- so many have a seat, and each has come so far
+-- this many have a seat, and each has come so far
 pub record AreSeated (format : Format) (script : ScriptParts) (journal : List Entry) (count : ℕ) (seats : List Course) : Type 0 where
   pub seated : length seats ≡ count
   pub each : (actor : Actor) (course : Course) → slice_get seats (seat_of actor) ≡ Some course → HasCome format script journal actor course

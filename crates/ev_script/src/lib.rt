@@ -40,7 +40,7 @@
 //! - The reader asks that the reader of lines is fresh: the definition speaks of all bytes of the input, and none of
 //!   those may have gone elsewhere.
 //! - A script whose responses have 2^32 - 1 resources or more together is being out of memory: no input has room for
-//!   so many (that isn't proved).
+//!   that many (that isn't proved).
 //! - In an audit's input a line with a member `format` begins the journal even where it would be a fault of kind 6,
 //!   and even with `{"format":null}`; a first line with it is a header with a member too many.
 #![tactic(auto)]

@@ -64,7 +64,7 @@ impl Told {
         secrets.len()
     }
 
-    /// The first of what the clusters of a key wait for that hasn't come, where so many of its secrets, from the first on,
+    /// The first of what the clusters of a key wait for that hasn't come, where this many of its secrets, from the first on,
     /// have come.
     pub(crate) fn next_of(
         &self,

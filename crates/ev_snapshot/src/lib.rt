@@ -30,7 +30,7 @@
 //! - Listeners at one address are in a group, in the order of names, so that pictures with several at one address
 //!   have a meaning, and the first takes the connections. The rules of listeners are made so that no two that serve
 //!   have one address, and then a group has one; that isn't proved, and nothing rests on it but the time.
-//! - Rows and listeners change by value (`without(self, ..)`, `put(self, ..)`): without memory nothing is left of
+//! - Rows and listeners change by value (`without(self, ..)`, `put(self, ..)`): out of memory, nothing is left of
 //!   them, and no half-changed one can be seen. They lend their tables to the functions that change these, so that
 //!   who owns the tables lets them go in one place: a proof takes the longer, the more values a function owns and the
 //!   more ways out it has.

@@ -133,7 +133,7 @@ fn is_part(path: &[u8], length: usize) -> bool
     length == path.len()
 }
 
-// The first place of each path match of the first so many routes of the virtual host at this place.
+// The first place of each path match of the first n routes of the virtual host at this place.
 fn places_of(
     alloc: Global,
     table: &Shared<RouteTable>,

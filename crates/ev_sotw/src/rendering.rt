@@ -11,7 +11,7 @@ use ev_types::{Entry, Event, Format, Text};
 use serde_json::Value;
 use std::alloc::{AllocError, Global};
 
-/// Writes the text of a journal in format 2, for so many workers, with the requests of the state of the world: the first line,
+/// Writes the text of a journal in format 2, for this many workers, with the requests of the state of the world: the first line,
 /// a line an entry, and the end line with their number, each closed by a line feed. `lines` are the trees of the lines after
 /// the header of the script of the state of the world that was replayed; the version of a response is found in them.
 ///

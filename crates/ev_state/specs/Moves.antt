@@ -41,7 +41,7 @@ pub record IsOver (s : State) (asked : Asked) (these : Moved) (before after : Wo
   pub left : asked.left ≡ has_left_clusters before after
   pub moved : HaveMoved these before after
 
--- An event has led the old state from one world to another, so many numbers were drawn before it, and it has moved these: tidying it up
+-- An event has led the old state from one world to another, this many numbers were drawn before it, and it has moved these: tidying it up
 -- is over, and the others are all that it moved.
 abbrev pub TidiesUp : State → State → ℕ → Moved → Moved → Asked → Type 0
 TidiesUp old new made these all asked =

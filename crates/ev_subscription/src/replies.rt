@@ -91,7 +91,7 @@ fn joined(alloc: Global, texts: &[Text]) -> Result<String, AllocError>
     Ok(text)
 }
 
-// Appends a text after so many others.
+// Appends a text after this many others.
 fn push_text(text: &mut String, others: usize, next: &str) -> Result<(), AllocError>
     ensures { OnOk result (string_bytes text.new ≡ string_bytes text.old ++ separated others next.now) }
 {

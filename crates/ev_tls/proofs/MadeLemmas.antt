@@ -78,7 +78,7 @@ made_good kind (Refused rule) name body row h = absurd (cc)
 abbrev made_of_judged : Kind → Verdict × ItemParts → List MadeRow
 made_of_judged kind judged = made_by kind judged.0 judged.1.name judged.1.body
 
--- the event is a response whose resource at this place makes the generation, and so many come before it among those that it makes
+-- the event is a response whose resource at this place makes the generation, and this many come before it among those that it makes
 pub record MakesAt (event : Event) (answer : Answer) (item : ℕ) (row : MadeRow) : Type 0 where
   pub response : ResponseParts
   pub is : event ≡ Response response

@@ -54,7 +54,7 @@ pub record IsByLine (journal : List Entry) (place : ℕ) (lines : List Data) (in
   pub at : entry.at ≡ place_given tls_rules lines index
   pub own : entry.step ≡ 0
 
--- what an event makes by the verdicts on the first so many of its resources
+-- what an event makes by the verdicts on the first n of its resources
 abbrev pub made_by_first : ℕ → Event → Answer → List MadeRow
 made_by_first count event (Replied requests verdicts) = made_in event (Replied requests (take count verdicts))
 made_by_first count event answer = []

@@ -124,7 +124,7 @@ impl BrokenRules {
         }
     }
 
-    /// These rules where a condition holds, and none else.
+    /// These rules where a condition holds, and no others.
     pub fn only_if(self, condition: bool) -> BrokenRules
         ensures { result ≡ broken_where condition self }
     {

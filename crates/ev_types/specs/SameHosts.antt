@@ -34,7 +34,7 @@ has_host host rows = list_any (λ (h : HostRowParts). host_same h.host host) row
 abbrev pub AreHostsOf : List HostRowParts → List Host → Type 0
 AreHostsOf rows hosts = (host : Host) → list_any (host_same host) hosts ≡ has_host host rows
 
--- so many hosts, or more, are in each list that has all hosts of the rows
+-- this many hosts, or more, are in each list that has all hosts of the rows
 abbrev pub NeedsHosts : List HostRowParts → ℕ → Type 0
 NeedsHosts rows count = (hosts : List Host) → ((host : Host) → has_host host rows ≡ true → list_any (host_same host) hosts ≡ true) → count ≤ length hosts
 

@@ -36,7 +36,7 @@ next_are Two script journal actor = refl
 abbrev next_so : {row : Row} {rests : Bool} {os : List Operation} {o : Operation} → ComesNext row rests os o → IsNext rests os o
 next_so next = record { skipped = next.skipped; behind = next.behind; whole = next.whole; passes = next.settles }
 
--- where nothing comes next for the row it is stray, and else it isn't
+-- where nothing comes next for the row it is stray, and otherwise it isn't
 pub stray_found : (format : Format) (script : ScriptParts) (journal : List Entry) (number : ℕ) (row : Row)
     → list_any (tells_of row) (next_by (may_leave_out format script journal row.actor) (operations_left script journal row.actor)) ≡ false
     → row_finding format script journal number row ≡ Some (NotTheScript number)

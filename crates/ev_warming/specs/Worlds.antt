@@ -27,7 +27,7 @@ use Rattle.ev_warming.specs.Changes.{is_unlisted, status_left_by}
 abbrev pub Follows : State → State → (World → World) → Type 0
 Follows old new change = (world : World) → StandsFor old world → StandsFor new (change world)
 
--- whatever world the first state stands for in which so many numbers were drawn, the second one stands for that world changed so, and as
+-- whatever world the first state stands for in which this many numbers were drawn, the second one stands for that world changed so, and as
 -- many numbers were drawn in both
 abbrev pub FollowsDrawing : ℕ → State → State → (World → World) → Type 0
 FollowsDrawing made old new change = (world : World) → StandsFor old world → made ≡ world.made

@@ -25,7 +25,7 @@ impl Manager {
     /// A response of the manager's own kind, with the verdicts on its resources: removed generations drain, or are dropped where
     /// they warmed; then each new resource makes a generation, in order, whose number is the next after `made`, and one that
     /// warmed under its name is dropped. Other resources change nothing here. Answers the numbers of those that began to drain
-    /// or were dropped. Look-ups are counted, and not bounded. Without memory nothing is promised.
+    /// or were dropped. Look-ups are counted, and not bounded. Out of memory, nothing is promised.
     pub fn apply<L: Ledger>(
         &mut self,
         alloc: Global,
@@ -43,7 +43,7 @@ impl Manager {
         ensures kind { OnOk result (self.new.state.kind ≡ self.old.state.kind) }
         ensures grows { OnOk result (made ≤ self.new.state.table.made) }
         ensures retired { IfOk result (λ retired. HaveRetired retired self.old.state self.new.state) }
-        // Whatever world the manager stood for in which so many numbers were drawn, it stands for that world once the response's
+        // Whatever world the manager stood for in which this many numbers were drawn, it stands for that world once the response's
         // removals and resources are in, and as many were drawn.
         ensures stands { OnOk result (FollowsDrawing made self.old.state self.new.state
             (with_response self.old.state.kind verdicts.now response.now)) }

@@ -95,7 +95,7 @@ fn write_out(alloc: Global, table: &str) -> Result<String, AllocError> {
     )
 }
 
-// Asserts that a table has so many rows, and that the body of each reads as its text says.
+// Asserts that a table has this many rows, and that the body of each reads as its text says.
 fn assert_told(
     rt: &impl Abort,
     alloc: Global,

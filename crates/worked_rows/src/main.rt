@@ -131,7 +131,7 @@ fn run<R: Threads + Wait + Sync>(
     Ok((status, sink.as_bytes() == wanted))
 }
 
-// Whether the program, which reads so many bytes at once, ends a row with its status and writes its output.
+// Whether the program, which reads this many bytes at once, ends a row with its status and writes its output.
 fn answers<R: Threads + Wait + Sync>(
     rt: &R,
     alloc: Global,
