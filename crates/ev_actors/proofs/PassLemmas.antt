@@ -543,7 +543,7 @@ module _ (script : ScriptParts) (front : List Line) (before waiting : List Opera
       keeps = kept_behind (before ++ line_operation line ∷ []) (λ actor. since_same actor before (line_operation line) alone goes_on);
     }
 
-  -- so it is at each line
+  -- this holds at each line
   module _ (behind : List Line) (rise : LinesRise script.lines) (all : front ++ line ∷ behind ≡ script.lines) where
     not_batched : (ends : Bool) → is_batched line.event ≡ false → is_settle line.event ≡ ends → Goes script front before waiting line rest
     not_batched true alone is = settle_goes alone is

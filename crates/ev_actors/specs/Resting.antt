@@ -29,7 +29,7 @@ SettlesForNews format worker rests world (entry ∷ entries) =
     (IsTrue (rests && is_settle_by worker entry) → IsBehind worker world)
     × SettlesForNews format worker (rests_after worker rests after entry) after entries
 
--- so it is with each of a journal's workers, all of which rest at first
+-- this holds for each of a journal's workers, all of which rest at first
 abbrev pub IdleSettlesBringNews : Format → ℕ → List ℕ → List Entry → Type 0
 IdleSettlesBringNews format workers node journal =
     (worker : ℕ) → worker < workers → SettlesForNews format worker true (opening workers node) journal

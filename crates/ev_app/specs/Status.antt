@@ -113,7 +113,7 @@ pub record TellsInput (command : Command) (outside : Outside) : Type 0 where
   pub sound : HasNoneFor command record { bytes = bytes; ended = true; audit = has_journal command }
   pub no_read_fault : ¬ Rose outside.reads_before outside.reads_after
 
--- so it is for a command that reads an input; the others ask for nothing
+-- this holds for a command that reads an input; the others ask for nothing
 abbrev pub IsToldFor : Command → Outside → Type 0
 IsToldFor Replay outside = TellsInput Replay outside
 IsToldFor Run outside = TellsInput Run outside

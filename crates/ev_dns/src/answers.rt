@@ -38,7 +38,7 @@ impl Answers {
         }
     }
 
-    // Puts the addresses of a name in the place of those of before.
+    // Puts the addresses of a name in place of those before.
     fn put(&mut self, name: Name, addresses: IndexSet<Name>) -> Result<(), AllocError>
         ensures answered { OnOk result (AnswersOne self.old self.new name) }
         ensures addresses { OnOk result (GivesOne self.old self.new name addresses.keys) }

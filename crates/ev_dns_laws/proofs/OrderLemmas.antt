@@ -60,7 +60,7 @@ module _ (script : ScriptParts) (journal : List Entry) (actor : Actor) (kept : I
     pub there : slice_get journal place ≡ Some entry
     pub does : operation_of entry ≡ o
 
-  -- so it is of each operation of the actor that is no later than its entry at place k
+  -- this holds for each operation of the actor that is no later than its entry at place k
   pub done_by : (k : ℕ) (entry : Entry) (o : Operation) → slice_get journal k ≡ Some entry → entry.actor ≡ actor → IsIn o (operations_of script actor)
       → is_earlier (operation_of entry) o ≡ false → IsDoneBy k o
   done_by k entry o there mine among late =

@@ -8,7 +8,7 @@
 //!
 //! # What it is
 //!
-//! A gate is a lock round one value whose history can be told. The value *stands for* a list of commits, each beside
+//! A gate is a lock around one value whose history can be told. The value *stands for* a list of commits, each beside
 //! the number of the seat that made it, and has an *opening* that no commit changes. It also has a *version*, a
 //! number that opening and commits determine and that does not fall along its history. It implements the trait
 //! `Stands`, whose ghost members say what the three are. A gate has 1 to 20 seats. `Gate::new` gives a pass for each;

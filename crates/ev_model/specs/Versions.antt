@@ -18,7 +18,7 @@ is_version_of kind name kept = kind_same kept.kind kind && bytes_eq kept.name na
 abbrev pub is_before : List ℕ → List ℕ → Bool
 is_before a b = is_lt (slice_cmp nat_cmp a b)
 
--- the versions with this one: in the place of the one that was kept for its kind and name, or among them by name
+-- the versions with this one: in place of the one that was kept for its kind and name, or among them by name
 abbrev pub with_version : KeptVersion → List KeptVersion → List KeptVersion
 with_version new [] = new ∷ []
 with_version new (kept ∷ others) =

@@ -38,7 +38,7 @@ numbered [] apart = tt
 numbered (row ∷ rows) apart =
     (none_of row.number rows (IsDistinct-head nat_eq row.number (numbers_of rows) apart), numbered rows (IsDistinct-tail nat_eq row.number (numbers_of rows) apart))
 
--- so it is at every world between two events
+-- this holds at every world between two events
 pub at-numbered : (s : _) (world : World) → ManagesAt s world → AreNumbered world.rows
 at-numbered s world at = numbered world.rows at.follows.sound.table.apart
 

@@ -57,8 +57,8 @@ impl Proxy {
     }
 
     /// What an event does, and its answer: one step of the machine, by the rules of a journal's format. What only a worker does is
-    /// ignored where another actor brings it. The rows of the generations that it reaped are deferred, and no others. Without
-    /// memory nothing is promised.
+    /// ignored where another actor brings it. The rows of the generations that it reaped are deferred, and no others. Out of
+    /// memory, nothing is promised.
     pub fn step(
         &mut self,
         alloc: Global,

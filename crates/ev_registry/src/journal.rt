@@ -111,8 +111,8 @@ impl Registry {
         })
     }
 
-    /// What is known, as it is shown: the generations by number, each with how many connections are open on it. There is none where want
-    /// of memory cut the last event off, and otherwise there is one. It costs look-ups of each number that was drawn.
+    /// What is known, as it is shown: the generations by number, each with how many connections are open on it. There is none where the
+    /// last event ran out of memory, and otherwise there is one. It costs look-ups of each number that was drawn.
     pub fn view(&self, alloc: Global) -> Result<Option<View>, AllocError>
         ensures shown { IfOk result (λ view. IfSome view (λ v. v ≡ view_of (world_now self.now.journaled))) }
         ensures lost { IfOk result (λ view. is_none view ≡ self.now.is_lost) }

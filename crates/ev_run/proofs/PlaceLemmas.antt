@@ -10,7 +10,7 @@ use Rattle.ev_fits.proofs.BeginLemmas.{next_of}
 use Rattle.ev_run.specs.Playing.{EachAt, IsTask}
 use Rattle.ev_run.specs.declared.player.Task.TheVariants.{Worker}
 
--- so it is with each of these, by its place after the first ones
+-- this holds for each of these, by its place after the first ones
 abbrev pub EachFrom : {X : Type 0} → ℕ → List X → (ℕ → X → Type 0) → Type 0
 EachFrom {X} first xs P = (k : ℕ) (d : X) → k < length xs → P (first + k) (get_or xs k d)
 

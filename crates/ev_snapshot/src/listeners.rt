@@ -133,7 +133,7 @@ impl Listeners {
         Ok(Listeners { rows, groups })
     }
 
-    /// The listeners with this one in the place of those of its number and its name.
+    /// The listeners with this one in place of those of its number and its name.
     pub(crate) fn put(
         self,
         alloc: Global,

@@ -133,7 +133,7 @@ impl<T: Row> Rows<T> {
         Ok(Rows { by_name, by_number })
     }
 
-    /// The rows with this one in the place of those of its number and its name.
+    /// The rows with this one in place of those of its number and its name.
     pub(crate) fn put(self, row: Shared<T>) -> Result<Rows<T>, AllocError>
         ensures { IfOk result (λ rows. rows ≡ put_in T.number_of T.name_of row self) }
     {

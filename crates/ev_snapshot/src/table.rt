@@ -184,7 +184,7 @@ fn is_short(length: usize, over: usize) -> bool
     length / 4 < over
 }
 
-/// Puts a value in the place of that of its key.
+/// Puts a value in place of that of its key.
 pub(crate) fn put<K: Eq + Hash + Drop, V: Drop>(
     map: &mut IndexMap<K, V>,
     key: K,
@@ -198,7 +198,7 @@ pub(crate) fn put<K: Eq + Hash + Drop, V: Drop>(
     Ok(())
 }
 
-// Puts a value in the place of that of its key, or removes the key.
+// Puts a value in place of that of its key, or removes the key.
 fn put_or_remove<K: Eq + Hash + Drop, V: Drop>(
     map: &mut IndexMap<K, V>,
     key: K,
@@ -271,7 +271,7 @@ fn put_over<K: Eq + Hash + TryCopy + Drop, V: TryCopy + Drop>(
     Ok(())
 }
 
-// Puts a copy of a value in the place of that of its key, or removes the key.
+// Puts a copy of a value in place of that of its key, or removes the key.
 fn put_copy_or_remove<K: Eq + Hash + TryCopy + Drop, V: TryCopy + Drop>(
     alloc: Global,
     map: &mut IndexMap<K, V>,

@@ -66,7 +66,7 @@ module _ (kind : Kind) (name : List ℕ) (format : Format) (world : World) (acto
     settled = λ worker is by h. h;
   })
 
--- so it is of what lives
+-- this holds for what lives
 pub lived_before : (kind : Kind) (name : List ℕ) (format : Format) (world : World) (actor : Actor) (event : Event) → IsOther kind event
     → has_live (step format world actor event).0 kind name ≡ true → has_live world kind name ≡ true
 lived_before kind name format world actor event other h =

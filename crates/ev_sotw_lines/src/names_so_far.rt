@@ -99,7 +99,7 @@ impl NamesSoFar {
     }
 }
 
-// Puts names in the place of the last ones, where the stream is open, and gives those that were there and aren't now.
+// Puts names in place of the last ones, where the stream is open, and gives those that were there and aren't now.
 fn turn(
     alloc: Global,
     connected: bool,

@@ -28,7 +28,7 @@ stream_told event = None
 abbrev pub is_open_behind : List Entry → Bool
 is_open_behind entries = unwrap_or (last_or None (filter_map (λ (entry : Entry). stream_told entry.event) entries)) false
 
--- so it is in the machine
+-- this holds in the machine
 abbrev pub StreamFollows : Type 0
 StreamFollows =
     (format : Format) (workers : ℕ) (node : List ℕ) (entries : List Entry)

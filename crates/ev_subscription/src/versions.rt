@@ -35,7 +35,7 @@ impl Clone for Held {
 /// By name what is held, in the order of the names.
 pub(crate) type Versions = BTreeMap<VersionName, Held>;
 
-/// Holds this of the name, in the place of what was held of it. Out of memory, all is as before.
+/// Holds this of the name, in place of what was held of it. Out of memory, all is as before.
 pub(crate) fn hold(versions: &mut Versions, name: VersionName, held: Held) -> Result<(), AllocError>
     ensures entries { OnOk result (versions.new.entries ≡ insert_entry name_order versions.old.entries name held) }
     ensures err { OnErr result (versions.new.entries ≡ versions.old.entries) }

@@ -95,7 +95,7 @@ impl First {
     }
 }
 
-// The place of a name that waits, looked for from a place on and round the list.
+// The place of a name that waits, looked for from a place on and around the list.
 fn waiting(known: &State, names: &[Text], from: usize) -> Option<usize>
     requires indexed { IsIndexed known.now }
     ensures { is_some result ≡ not (list_all (has_come_in known.now.table.rows) names.now) }

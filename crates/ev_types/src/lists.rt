@@ -77,7 +77,7 @@ impl<T> Seq<T> {
         self.items.is_empty()
     }
 
-    /// Puts an element in the place of another.
+    /// Puts an element in place of another.
     pub fn set(&mut self, place: usize, item: T)
     where
         T: Drop,

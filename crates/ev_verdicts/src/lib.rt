@@ -16,7 +16,7 @@
 //!   generations.
 //! - Live generations are borrowed rows, `LiveRow`, which clauses see as `Live`: no name and no content is copied.
 //! - The loop over the resources gets what the response mentions by reference: a loop that owned those three sets
-//!   would drop them at each way out of it, and be dear to prove.
+//!   would drop them at each way out of it, and be expensive to prove.
 //! - `Listed` answers by a search of lists. It is for tests and for callers with few generations.
 //! - What a response mentions, texts as keys and live rows are in ev_mentions, below this crate: the managers and
 //!   the subscription need these and nothing else of it, so they don't wait for the verdicts' proofs.

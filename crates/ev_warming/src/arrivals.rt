@@ -21,8 +21,8 @@ use std::sync::ledger::Ledger;
 impl Manager {
     /// A response of what the manager's generations depend on, with the verdicts on its resources: a watched name that is removed
     /// is reported as absent; then, in order, each resource that is kept arrives, and one that is refused is reported where its
-    /// name is watched. Look-ups are counted: one for each generation that depends on a name that something came for. Without
-    /// memory nothing is promised.
+    /// name is watched. Look-ups are counted: one for each generation that depends on a name that something came for. Out of
+    /// memory, nothing is promised.
     pub fn arrive_all<L: Ledger>(
         &mut self,
         alloc: Global,
