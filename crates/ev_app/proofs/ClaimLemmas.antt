@@ -78,7 +78,7 @@ illegal_is_no_run bytes text is run = not_illegal (finding_of is.format is.scrip
 
 -- ---- the only journal of a text
 
--- of two calls of `run` with one script and one text both journals are one
+-- of two calls of `run` with one script and one text both journals are the same
 pub one_journal : (script : ScriptParts) (text : List ℕ) (one two : IsRunText script text) → two.journal ≡ one.journal
 one_journal script text one two = (one.only Two two.journal two.run two.bounded (sym two.rendered)).1
 

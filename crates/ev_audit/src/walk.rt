@@ -103,7 +103,7 @@ fn breaks(batch: Option<Actor>, actor: Actor) -> bool
     }
 }
 
-// Whether the two are one actor.
+// Whether the two are the same actor.
 fn is_same_actor(one: Actor, other: Actor) -> bool
     ensures { result ≡ actor_same one other }
 {

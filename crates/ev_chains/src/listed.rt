@@ -351,7 +351,7 @@ fn any_named(
     Ok(has)
 }
 
-// Puts the port of a chain, where it has one, among others.
+// Adds the port of a chain, where it has one, to others.
 fn put_port(ports: &mut IndexSet<u16>, row: &Row) -> Result<(), AllocError>
     ensures { OnOk result (Gains (contains nat_eq) (λ port. has_port port row.now) ports.old ports.new) }
 {
@@ -361,7 +361,7 @@ fn put_port(ports: &mut IndexSet<u16>, row: &Row) -> Result<(), AllocError>
     }
 }
 
-// Puts a port among others.
+// Adds a port to others.
 fn insert_port(ports: &mut IndexSet<u16>, port: u16) -> Result<(), AllocError>
     ensures { OnOk result (Gains (contains nat_eq) (nat_eq port) ports.old ports.new) }
 {

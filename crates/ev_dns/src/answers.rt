@@ -92,7 +92,7 @@ fn each_once(alloc: Global, names: Seq<Name>) -> Result<IndexSet<Name>, AllocErr
     Ok(set)
 }
 
-// Puts these names after those of a set, each once.
+// Appends these names to those of a set, each once.
 fn put_once(set: &mut IndexSet<Name>, names: Seq<Name>) -> Result<(), AllocError>
     ensures { OnOk result (set.new.keys ≡ insert_all bytes_eq set.old.keys names) }
 {

@@ -56,7 +56,7 @@ fn due_each(
     Ok(due)
 }
 
-// Puts what is at a place after these, where it is complete.
+// Appends what is at a place to these, where it is complete.
 fn push_there(
     alloc: Global,
     due: &mut Vec<Due>,
@@ -75,7 +75,7 @@ fn push_there(
     }
 }
 
-// Puts a template after these, with its endpoints.
+// Appends a template to these, with its endpoints.
 fn push_due(
     alloc: Global,
     due: &mut Vec<Due>,

@@ -160,7 +160,7 @@ fn set_passed(passed: &mut Vec<usize>, place: usize, count: usize)
     }
 }
 
-// Puts a place after the others.
+// Appends a place to the others.
 fn push_place(places: &mut Vec<usize>, place: usize) -> Result<(), AllocError>
     ensures { OnOk result (places.new.items ≡ places.old.items ++ place ∷ []) }
 {

@@ -59,7 +59,7 @@ fn waits(note: &Note, name: &str) -> bool
 /// The notes by number.
 pub(crate) type Notes = BTreeMap<Gen, Note>;
 
-/// Puts a note among the others. Out of memory, they stay as they were.
+/// Adds a note to the others. Out of memory, they stay as they were.
 pub(crate) fn put(notes: &mut Notes, number: Gen, note: Note) -> Result<(), AllocError>
     ensures entries { OnOk result (notes.new.entries ≡ insert_entry nat_cmp notes.old.entries number note) }
     ensures err { OnErr result (notes.new.entries ≡ notes.old.entries) }

@@ -31,7 +31,7 @@ pub record IsNoCommit (format : Format) (script : ScriptParts) (rows : List Row)
   pub goes_on : IsTrue (not (ends_commit rows entries))
   pub told : line ≡ end_line script rows
 
--- dumps of journals that agree in their first entries are one, whatever comes after, and whatever their workers and nodes
+-- dumps of journals that agree in their first entries are the same, whatever comes after, and whatever their workers and nodes
 abbrev pub DumpsByPrefix : Type 0
 DumpsByPrefix =
     (format : Format) (script other : ScriptParts) (rows others : List Row) (entries : ℕ) (text another : List ℕ) → IsScript script → IsScript other

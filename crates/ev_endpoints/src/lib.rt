@@ -151,7 +151,7 @@ impl TryCopy for Endpoints {
     }
 }
 
-// Puts the results of a number that has none after the others.
+// Appends the results of a number that has none yet to the others.
 fn put_hosts(
     results: &mut IndexMap<u32, IndexMap<Host, bool>>,
     number: u32,
@@ -180,7 +180,7 @@ fn copy_hosts(
     Ok(copied)
 }
 
-// Puts the result of a host that has none after the others.
+// Appends the result of a host that has none yet to the others.
 fn put_new(hosts: &mut IndexMap<Host, bool>, host: Host, healthy: bool) -> Result<(), AllocError>
     requires { get host_same hosts.old host ≡ None }
     ensures { OnOk result (hosts.new.entries ≡ hosts.old.entries ++ (host, healthy) ∷ []) }

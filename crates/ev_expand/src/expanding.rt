@@ -122,7 +122,7 @@ pub fn expand_with<E: Expansion + Drop>(
     Ok(text.bytes)
 }
 
-// Puts what the next line gives after the text, and answers whether it had room there.
+// Appends what the next line gives to the text, and answers whether it had room there.
 fn push_line<E: Expansion>(
     alloc: Global,
     expansion: &mut E,
@@ -162,7 +162,7 @@ fn push_read<E: Expansion>(
     push_due(alloc, expansion.prefix(), expansion.nonce(), text, at, due)
 }
 
-// Puts a line itself after the text, where it is written, by the places of its keys.
+// Appends a line itself to the text, where it is written, by the places of its keys.
 fn push_written<E: Expansion>(
     alloc: Global,
     expansion: &E,
@@ -184,7 +184,7 @@ fn push_written<E: Expansion>(
     }
 }
 
-// Puts the line that follows line `at` after the text, where some are due.
+// Appends the line that follows line `at` to the text, where some are due.
 fn push_due(
     alloc: Global,
     prefix: &str,

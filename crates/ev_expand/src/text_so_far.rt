@@ -30,7 +30,7 @@ impl TextSoFar {
         }
     }
 
-    /// Puts the line of a tree after the text, with -1 for each float in it, and answers whether it had room there, by the
+    /// Appends the line of a tree to the text, with -1 for each float in it, and answers whether it had room there, by the
     /// limits of inputs. Where it hadn't, the text stays as it was.
     ///
     /// # Errors

@@ -196,7 +196,7 @@ fn copy_rows(alloc: Global, rows: &Rows) -> Result<Rows, AllocError>
     Ok(copied)
 }
 
-// Puts a row after the others, whose numbers are below its own.
+// Appends a row to the others, whose numbers are below its own.
 fn put(rows: &mut Rows, number: u32, row: GenRow) -> Result<(), AllocError>
     requires { AllByRecursion (λ n. n < number) (keys rows.old) }
     ensures { OnOk result (rows.new.entries ≡ rows.old.entries ++ (number, row) ∷ []) }

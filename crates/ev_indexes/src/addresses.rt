@@ -162,7 +162,7 @@ fn copy_numbers(alloc: Global, map: &Numbers) -> Result<Numbers, AllocError>
     Ok(copied)
 }
 
-// Puts the numbers of an address that has none after the others.
+// Appends the numbers of an address that has none yet to the others.
 fn put(map: &mut Numbers, address: Host, numbers: Seq<Gen>) -> Result<(), AllocError>
     requires { get host_same map.old address ≡ None }
     ensures { OnOk result (map.new.entries ≡ map.old.entries ++ (address, numbers) ∷ []) }

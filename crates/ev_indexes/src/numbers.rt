@@ -68,7 +68,7 @@ impl Numbers {
         self.len() == 0
     }
 
-    /// Puts a number after the others. Out of memory, they stay as they were.
+    /// Appends a number to the others. Out of memory, they stay as they were.
     pub fn push(&mut self, number: Gen) -> Result<(), AllocError>
         ensures ok { OnOk result (self.new ≡ self.old ++ number ∷ []) }
         ensures err { OnErr result (self.new ≡ self.old) }

@@ -12,7 +12,7 @@ use std::collections::BTreeMap;
 /// 64 bits here, so that there is one above each.
 pub(crate) type Members = BTreeMap<(u64, u64), (Gen, Option<Gen>)>;
 
-/// Puts a connection among the others. Out of memory, they stay as they were.
+/// Adds a connection to the others. Out of memory, they stay as they were.
 pub(crate) fn put(
     members: &mut Members,
     place: (u64, u64),

@@ -62,7 +62,7 @@ pub(crate) fn promote<L: Ledger>(
     Ok(())
 }
 
-// Puts numbers to the others.
+// Adds numbers to the others.
 fn put_all(numbers: &mut Seq<Gen>, more: &[Gen]) -> Result<(), AllocError>
     ensures { OnOk result (numbers.new ≡ numbers.old ++ more.now) }
 {

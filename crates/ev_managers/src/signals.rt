@@ -130,7 +130,7 @@ fn stood(alloc: Global, standing: Standing) -> Result<Seq<Gen>, AllocError>
     Ok(numbers)
 }
 
-// Puts a number to the others, where there is one.
+// Adds a number to the others, where there is one.
 fn put_one(numbers: &mut Seq<Gen>, number: Option<Gen>) -> Result<(), AllocError>
     ensures { OnOk result (numbers.new ≡ numbers.old ++ option_to_list number) }
 {

@@ -38,7 +38,7 @@ step_behind line step event = record { actor = line.actor; at = line.at; step = 
 abbrev pub last_settle : ScriptParts → ℕ → Operation
 last_settle script worker = record { actor = Worker worker; at = script.count + 1; step = 0; event = Settle }
 
--- the two are one actor
+-- the two are the same actor
 abbrev pub actor_same : Actor → Actor → Bool
 actor_same Stream Stream = true
 actor_same Health Health = true

@@ -1,4 +1,4 @@
--- Two lists of names in order with the same names are one, and what is among them.
+-- Two lists of names in order with the same names are equal, and what is among them.
 use Rattle.std.proofs.Common.{◌≡◌, ◌∙◌, ℕ, ◌+◌, ◌<◌, length, take, get_or, Bool, true, false, cond, not, ◌&&◌, ◌||◌, List, [], ◌∷◌, ◌++◌, map, filter, refl, sym, ap, subst}
 use Rattle.std.specs.declared.alloc.Global.{Global}
 use Rattle.std.specs.BTreeMap.{is_at}
@@ -119,7 +119,7 @@ all_among P (first ∷ names) each = (
   all_among P names (λ name there. each name (ap (λ b. bytes_eq first name || b) there ∙ or_true (bytes_eq first name))),
 )
 
--- two lists in order of the same names are one
+-- two lists in order of the same names are equal
 pub same-names : (xs ys : List (List ℕ)) → IsInOrder xs → IsInOrder ys → ((name : List ℕ) → is_among name xs ≡ is_among name ys) → xs ≡ ys
 same-names xs ys first second same =
     sorted-unique (slice_cmp nat_cmp) nat_list_cmp_total xs ys first second (record {

@@ -28,7 +28,7 @@ use Rattle.ev_operations.specs.declared.course.Course.{Course}
 use Rattle.ev_operations.specs.declared.courses.Courses.{Courses}
 use Rattle.ev_operations.specs.declared.courses.Found.{Found}
 
--- two actors of one seat are one
+-- two actors of one seat are the same
 same_worker : (a b : ℕ) → 4 + a ≡ 4 + b → a ≡ b
 same_worker a b is = omega arith
 

@@ -30,7 +30,7 @@ pub fn operations(alloc: Global, script: &Script, actor: Actor) -> Result<Seq<Du
     Ok(dues)
 }
 
-// Whether the two are one actor.
+// Whether the two are the same actor.
 fn is_same(one: Actor, other: Actor) -> bool
     ensures { result ≡ actor_same one other }
 {

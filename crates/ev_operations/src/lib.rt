@@ -7,7 +7,7 @@
 //!   together cost the lines times a bounded number, and each actor of a threaded run makes its own.
 //! - What is to be done is given by the place of its line, in eight bytes, and not copied.
 //! - Whether a settle is forced after an accept or close is decided by a count of the worker's accepts and closes since its last
-//!   settle; the definition says it by the lines since the last settle line and a multiple of 256. That both are one is proved
+//!   settle; the definition says it by the lines since the last settle line and a multiple of 256. That both are the same is proved
 //!   here.
 //! - A walk keeps a place in each actor's list that only goes on, so each operation is passed once. Actors have seats: the main
 //!   side's four, then the workers by number. A row of a worker that isn't there has no seat.

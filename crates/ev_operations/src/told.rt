@@ -38,7 +38,7 @@ fn is_told(row: &Row, at: u32, step: u32, op: Op) -> bool
     row.at == at && row.step == step && is_same_word(row.op, op)
 }
 
-// Whether the two are one word.
+// Whether the two are the same word.
 fn is_same_word(one: Op, other: Op) -> bool
     ensures { result ≡ op_same one other }
 {

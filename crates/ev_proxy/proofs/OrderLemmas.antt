@@ -1,4 +1,4 @@
--- Lists in the order of their elements' names, whose numbers differ: two that find the same by number are one, and what changes by
+-- Lists in the order of their elements' names, whose numbers differ: two that find the same by number are equal, and what changes by
 -- number is put to its place.
 use Rattle.std.proofs.Common.{◌≡◌, ◌∙◌, ℕ, Bool, true, false, not, ◌||◌, ◌==◌, cond, List, [], ◌∷◌, Option, Some, None, Ordering, find, filter, refl, sym, ap, subst, arith}
 use Rattle.std.proofs.Math.Bool.{or-false, or-true}
@@ -197,7 +197,7 @@ module _ {X : Type 0} (name : X → List ℕ) (number : X → ℕ) where
   some_same : (x y : X) → Some x ≡ Some y → x ≡ y
   some_same x y e = cc e
 
-  -- of two lists that find the same, the first elements are one
+  -- of two lists that find the same, the first elements are equal
   heads : (x y : X) (xs ys : List X) → AllByRecursion (StandsBefore x) xs → AllByRecursion (StandsBefore y) ys
       → ((n : ℕ) → numbered (x ∷ xs) n ≡ numbered (y ∷ ys) n) → x ≡ y
   heads x y xs ys first second same =
@@ -211,7 +211,7 @@ module _ {X : Type 0} (name : X → List ℕ) (number : X → ℕ) where
           absurd (false≢true (sym (not_behind (name x) (name y) (all_found (StandsBefore x) (λ z. number z == number y) xs y first f).names)
           ∙ (all_found (StandsBefore y) (λ z. number z == number x) ys x second e).names))
 
-  -- two lists in order that find the same by number are one
+  -- two lists in order that find the same by number are equal
   pub same_lists : (xs ys : List X) → AreInOrder xs → AreInOrder ys → ((n : ℕ) → numbered xs n ≡ numbered ys n) → xs ≡ ys
   same_lists [] [] first second same = refl
   same_lists [] (y ∷ ys) first second same = absurd (cc (same (number y) ∙ own_found y ys))

@@ -40,7 +40,7 @@ pub(crate) fn rows_of(alloc: Global, proxy: &Proxy) -> Result<Seq<ViewRow>, Allo
     Ok(rows)
 }
 
-// Puts the generation of a number, where there is one, after the others.
+// Appends the generation of a number, where there is one, to the others.
 fn put_row(
     rows: &mut Seq<ViewRow>,
     alloc: Global,

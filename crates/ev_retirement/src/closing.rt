@@ -71,7 +71,7 @@ impl Closing {
     }
 }
 
-// Puts a place among the others. Out of memory, they stay as they were.
+// Adds a place to the others. Out of memory, they stay as they were.
 fn put(places: &mut BTreeSet<(u64, u64)>, place: (u64, u64)) -> Result<(), AllocError>
     ensures put { OnOk result (contains key_order places.new place ≡ true) }
     ensures kept { HoldsMore (contains key_order places.old) (contains key_order places.new) }

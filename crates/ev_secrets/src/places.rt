@@ -41,7 +41,7 @@ impl Places {
         }
     }
 
-    /// Puts a place after those under this.
+    /// Appends a place to those under this.
     pub(crate) fn put(
         &mut self,
         alloc: Global,

@@ -104,7 +104,7 @@ pub(crate) fn references_of(alloc: Global, body: Option<&Value>) -> Result<Vec<N
     Ok(names)
 }
 
-// Puts the secrets that these entries name after these.
+// Appends the secrets that these entries name to these.
 fn push_all(alloc: Global, names: &mut Vec<Name>, configs: &[Value]) -> Result<(), AllocError>
     ensures { OnOk result (names.new.items ≡ names.old.items ++ filter_map secret_named (map view configs.now)) }
 {
@@ -114,7 +114,7 @@ fn push_all(alloc: Global, names: &mut Vec<Name>, configs: &[Value]) -> Result<(
     Ok(())
 }
 
-// Puts the secret that an entry names after these, where an entry is given.
+// Appends the secret that an entry names to these, where an entry is given.
 fn push_given(alloc: Global, names: &mut Vec<Name>, config: Found<&Value>) -> Result<(), AllocError>
     ensures { OnOk result (names.new.items
         ≡ names.old.items ++ filter_map secret_named (given_list (found_map (λ v. view v.now) config.entry))) }
@@ -125,7 +125,7 @@ fn push_given(alloc: Global, names: &mut Vec<Name>, config: Found<&Value>) -> Re
     }
 }
 
-// Puts the secret that an entry names after these, where it names one.
+// Appends the secret that an entry names to these, where it names one.
 fn push_named(alloc: Global, names: &mut Vec<Name>, config: &Value) -> Result<(), AllocError>
     ensures { OnOk result (names.new.items ≡ names.old.items ++ option_to_list (secret_named (view config.now))) }
 {

@@ -56,7 +56,7 @@ fn refusals(alloc: Global, verdicts: &[Verdict], items: &[Item]) -> Result<Vec<T
     Ok(texts)
 }
 
-// Puts what is said of a resource to the others, where it is refused.
+// Adds what is said of a resource to the others, where it is refused.
 fn push_refusal(
     alloc: Global,
     verdict: Verdict,

@@ -133,7 +133,7 @@ fn made_names(alloc: Global, verdicts: &[Verdict], items: &[Item]) -> Result<Seq
     Ok(Seq::from_vec(names))
 }
 
-// Puts the name of a resource to the others, where it made a generation.
+// Adds the name of a resource to the others, where it made a generation.
 fn push_made(
     alloc: Global,
     verdict: Verdict,

@@ -317,7 +317,7 @@ fn append<L: Ledger>(
     Ok(())
 }
 
-// Puts a number to the others, where there is one.
+// Adds a number to the others, where there is one.
 pub(crate) fn put_one(numbers: &mut Seq<Gen>, number: &Option<Gen>) -> Result<(), AllocError>
     ensures { OnOk result (numbers.new ≡ numbers.old ++ option_to_list number.now) }
 {

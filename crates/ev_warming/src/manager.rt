@@ -163,7 +163,7 @@ impl TryCopy for Manager {
     }
 }
 
-// Puts numbers to the others.
+// Adds numbers to the others.
 fn put_all(numbers: &mut Seq<Gen>, more: &[Gen]) -> Result<(), AllocError>
     ensures { OnOk result (numbers.new ≡ numbers.old ++ more.now) }
 {

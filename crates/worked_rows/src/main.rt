@@ -1,7 +1,7 @@
 //! The worked rows: scripts with what the program has to write of them, as files. Each name in `rows` is a row: its exit
 //! status, with the line and the kind of the fault where the input is no script, and its arguments. Its input is in
 //! `NAME.in`, and the output that is wanted in `NAME.out`; long ones are made of the pieces in `NAME.in.parts` and
-//! `NAME.out.parts`. The program runs each over memory, compares, and prints a line a row and the sum. Then it reads inputs of
+//! `NAME.out.parts`. The program runs each over memory, compares, and prints a line for each row and the sum. Then it reads inputs of
 //! scripts, and texts of rows and of journals, which are files too.
 #![tactic(auto)]
 
@@ -52,7 +52,7 @@ fn main(rt: HostRuntime) -> io::Result<()> {
     try_journals(&rt)
 }
 
-// Runs each row, and prints a line a row, and the sum.
+// Runs each row, and prints a line for each row, and the sum.
 fn try_rows<R: Files + Print + AllocGlobal + Threads + Wait + Sync>(rt: &R) -> io::Result<()> {
     let list = fs::read_to_string(rt, "rows")?;
     let mut passed = 0u32;
