@@ -97,7 +97,13 @@ impl Registry {
             journal: journal.as_slice(),
         };
         let proxy = make_anew(alloc, past)?;
-        let latest = proxy.snapshot()?;
+        let latest = match proxy.snapshot() {
+            Ok(latest) => latest,
+            Err(error) => {
+                drop(proxy);
+                return Err(error);
+            }
+        };
         Ok(Registry {
             alloc,
             format,
