@@ -3,8 +3,10 @@ import copy
 import pickle
 
 from shared import came, rules
+from shared.addresses import read_address
 from shared.fields import DISCOVERY, Reader, camel, enumeration
-from shared.resources import MANAGER, TCP_PROXY, read_address, read_route
+from shared.routes import read_route
+from shared.urls import MANAGER, TCP_PROXY
 from shared.words import few
 
 from .capture import get, list_in, text_in

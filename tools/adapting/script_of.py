@@ -3,9 +3,10 @@ import contextlib
 import copy
 import json
 
-from shared.resources import KINDS, read_message
+from shared.resources import read_message
 from shared.script import MAX_INPUT, MAX_LINE, MAX_LINES
 from shared.shown import quoted
+from shared.urls import KINDS
 from shared.words import counted
 
 from . import envoy_log

@@ -3,8 +3,8 @@ from collections import Counter
 
 from shared import rules
 from shared.bodies import differences
-from shared.resources import WORD, WORDS
 from shared.shown import named, quoted, shown
+from shared.urls import WORD, WORDS
 from shared.words import content_words, counted, few
 
 from .outcome import Sent, of_kinds

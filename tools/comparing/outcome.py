@@ -2,9 +2,9 @@
 from shared.bodies import resources_of, sent
 from shared.envoy_waits import EnvoyWaits
 from shared.fields import Reader
-from shared.machine import Machine
 from shared.pair import NotTheJournal
-from shared.resources import KINDS
+from shared.pictures import follower
+from shared.urls import KINDS
 
 
 class Sent:
@@ -34,7 +34,7 @@ class Outcome:
 
     def __init__(self, pair):
         self.reading = pair.reading
-        self.machine, self.envoy = Machine(pair.reading.workers, pair.format), EnvoyWaits(pair.reading)
+        self.machine, self.envoy = follower(pair.reading, pair.format), EnvoyWaits(pair.reading)
         self.generations, self.refusals, self.asks = {}, {}, {}
         self.unjudged, self.present, self.anew = {}, set(), []
         self.names, self.versions, self.nonces, self.order = {}, {}, [], []

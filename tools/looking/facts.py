@@ -3,10 +3,10 @@ import json
 from collections import Counter
 
 from shared import rules
-from shared.machine import Machine
-from shared.resources import WORD, WORDS
+from shared.pictures import follower
 from shared.shown import quoted, shown
 from shared.teller import refusal_words
+from shared.urls import WORD, WORDS
 from shared.words import counted
 
 MOST_WORDS = 400
@@ -28,7 +28,7 @@ class Facts:
 
     def __init__(self, pair, report, errors):
         self.report, self.errors = report, list(errors)
-        self.machine = Machine(pair.reading.workers, pair.format)
+        self.machine = follower(pair.reading, pair.format)
         self.verdicts, self.by_nonce, self.refusals, self.answers = {}, {}, Counter(), Counter()
         for entry in pair.entries():
             self.take(entry)

@@ -10,7 +10,7 @@ from shared import script
 from shared.answers import NACK, Answering
 from shared.json_text import compact
 from shared.replayed import WholeRequests
-from shared.resources import KINDS
+from shared.urls import KINDS
 from shared.whole import Whole
 
 from .program import answers_of

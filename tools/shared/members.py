@@ -6,8 +6,8 @@ capitals and underscores alone, is likely not meant so. Not proved: docs/FORMATS
 import functools
 
 from .fields import camel
-from .resources import MANAGER, TCP_PROXY
 from .spelling import snake
+from .urls import MANAGER, TCP_PROXY
 
 NONE = {}
 SOURCE = dict.fromkeys(('ads', 'self', 'path', 'path_config_source', 'api_config_source', 'initial_fetch_timeout'), NONE)

@@ -7,20 +7,31 @@ import collections
 import itertools
 
 from . import rules
+from .choices import Choice
 from .envoy_waits import EnvoyWaits
 from .guarded import SECRET, told_secrets
-from .resources import KINDS, WORD, WORDS
 from .shown import named, quoted, shown
 from .spelling import spelled
+from .urls import KINDS, WORD, WORDS
 from .words import cluster_words, content_words, counted, few, listener_words
 
 MOST_RESOURCES = 200
 MOST_CHANGES = 100
 MOST_NAMES = 20
+DOUBT = 'this tool expected'
 ACTIVE = {'listeners': 'the wait for the first clusters is over: listeners are asked for from here on',
           'serving': 'the wait for the first listeners is over: pictures show listeners from here on'}
+# Answers that open nothing, and answers that leave the host open.
+LOST = {'noListener': 'no listener', 'noChain': 'no filter chain takes it'}
+OPEN_ENDS = {'undecided': 'undecided', 'elsewhere': 'goes elsewhere'}
 ENDS = {'noRoute': 'no route', 'redirect': 'a redirect', 'noCluster': 'its cluster isn\'t there',
         'noEndpoint': 'its cluster has no host that may be chosen'}
+
+
+def choice_of(machine, members, worker, answer):
+    """The choice behind the answer to an accept, with what the answer leaves unsaid, where the machine keeps its pictures and answers so too."""
+    choice = machine.choice(members, worker) if hasattr(machine, 'choice') else None
+    return choice if choice and choice.answer == answer else Choice(answer)
 
 
 def place_of(reading, row):
@@ -80,7 +91,7 @@ class Teller:
         if row.op == 'settle':
             return bool(row.answer['closed']) or row.answer['version'] != held
         if row.op == 'accept':
-            return not isinstance(row.answer, dict) or row.answer['result'] in ('noRoute', 'noCluster', 'noEndpoint')
+            return not isinstance(row.answer, dict) or row.answer['result'] in ('noRoute', 'noCluster', 'noEndpoint', 'undecided')
         return row.answer != 'unchanged' and row.op != 'close' and not (row.op == 'reap' and not row.answer['reaped'])
 
     # What happened
@@ -140,11 +151,16 @@ class Teller:
         asked = f'connection {members["conn"]} to {where}, host {quoted(members["host"])}, path {quoted(members["path"])}'
         if answer == 'inUse':
             return f'{asked}: the number is in use, ignored'
-        if answer == 'noListener':
+        if isinstance(answer, str):
             held, last = self.machine.held[int(row.actor[1:])], self.machine.published_before(row.at)
             behind = f'{last} is published' if held < last else 'the last that was published'
-            return f'{asked}: no listener: {row.actor} holds picture {held}; {behind}'
-        listener = f'listener generation {answer["listener"]}'
+            return f'{asked}: {LOST[answer]}: {row.actor} holds picture {held}; {behind}'
+        choice = choice_of(self.machine, members, int(row.actor[1:]), answer)
+        why = f', since {choice.why}' if choice.why else ''
+        listener = f'listener generation {answer["listener"]}' + (f', {choice.chain}' if choice.chain else '')
+        if answer['result'] in OPEN_ENDS:
+            cluster = f'cluster generation {answer["cluster"]}, ' if 'cluster' in answer else ''
+            return f'{asked}: {OPEN_ENDS[answer["result"]]}, {cluster}{listener}{why}'
         if answer['result'] == 'served':
             return (f'{asked}: {self.page.paint("good", "served")} by {named(answer["address"])}:{answer["port"]} of cluster '
                     f'generation {answer["cluster"]}, {listener}')
@@ -330,7 +346,7 @@ class Teller:
             self.doubt(f'a request for {WORDS[kind]} of {names}' if changed else f'no request for {WORDS[kind]}')
 
     def doubt(self, words):
-        self.page.line(f'(this tool expected {shown(words, 300)}; the journal says otherwise)', 'bad', news=True)
+        self.page.line(f'({DOUBT} {shown(words, 300)}; the journal says otherwise)', 'bad', news=True)
 
     def ending(self, entries):
         self.page.end(f'The end: {entries} entries.')
