@@ -17,8 +17,8 @@ class Item:
     """A resource of a response: its outer name, version, and body as it was read. `alike` is what two clusters or listeners of one name have in
     common that are the same."""
 
-    def __init__(self, name, version):
-        self.name, self.version = name, version
+    def __init__(self, name, version, profile):
+        self.name, self.version, self.profile = name, version, profile
         self.content, self.alike, self.beat, self.ttl, self.broken, self.least = None, None, False, False, [], None
 
     def complaints(self, verdict):
@@ -27,7 +27,7 @@ class Item:
 
     def whose(self, kind, verdict):
         """Whose rule refuses it: one of the tags of rules.whose."""
-        return rules.whose(int(verdict[1:]), kind, self.complaints(verdict))
+        return rules.whose(int(verdict[1:]), kind, self.complaints(verdict), self.profile)
 
 
 class Response:
@@ -64,7 +64,7 @@ def read_message(value, path='message', profile=OWN):
 
 
 def read_item(kind, url, resource, name, version, path, profile=OWN):
-    reader, item = Reader(profile), Item(name, version)
+    reader, item = Reader(profile), Item(name, version, profile)
     body = reader.any(resource, 'resource', path)
     named = 1 <= size(name) <= MAX_NAME
     if not named:

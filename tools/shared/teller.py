@@ -13,7 +13,7 @@ from .guarded import SECRET, told_secrets
 from .shown import named, quoted, shown
 from .spelling import spelled
 from .urls import KINDS, WORD, WORDS
-from .words import cluster_words, content_words, counted, few, listener_words
+from .words import cluster_words, content_words, counted, few, listener_words, more_asked
 
 MOST_RESOURCES = 200
 MOST_CHANGES = 100
@@ -38,6 +38,13 @@ def place_of(reading, row):
     if row.op == 'settle' and row.step == 0 and reading.line_at(row.at) is None:
         return 'end'
     return f'line {row.at}' + (f'+{row.step}' if row.step else '')
+
+
+def hosts_of(row):
+    """How many hosts a generation has, in words."""
+    if 'elsewhere' in row.content:
+        return ', whose hosts no script tells'
+    return f' with {row.eligible or "no"} host{"s" * (row.eligible != 1)}' if row.kind == 'cds' else ''
 
 
 def refusal_words(line, index, verdict):
@@ -148,7 +155,7 @@ class Teller:
         if row.op == 'close':
             return f'connection {members["conn"]} ' + ('closes' if answer == 'done' else 'isn\'t open')
         where = f'{named(members["address"])}:{members["port"]}'
-        asked = f'connection {members["conn"]} to {where}, host {quoted(members["host"])}, path {quoted(members["path"])}'
+        asked = f'connection {members["conn"]} to {where}, host {quoted(members["host"])}, path {quoted(members["path"])}{more_asked(members)}'
         if answer == 'inUse':
             return f'{asked}: the number is in use, ignored'
         if isinstance(answer, str):
@@ -212,7 +219,7 @@ class Teller:
         if not is_told:
             return
         rule = int(verdict[1:])
-        self.page.line(f'{text}refused by {verdict} ({tag}): {rules.WORDS.get(rule, "a rule this tool does not know")}', 'bad', news=True)
+        self.page.line(f'{text}refused by {verdict} ({tag}): {rules.words(rule, self.reading.profile)}', 'bad', news=True)
         for path, words in complaints[:MOST_NAMES]:
             self.page.line(f'    {shown(path, 120)} {shown(words, 200)}', news=True)
         self.more(len(complaints) - MOST_NAMES, 'members more')
@@ -278,8 +285,7 @@ class Teller:
         numbers, count = self.machine.showing()
         for number in itertools.islice(numbers, MOST_NAMES):
             row = self.machine.rows[number]
-            hosts = f' with {row.eligible or "no"} host{"s" * (row.eligible != 1)}' if row.kind == 'cds' else ''
-            self.page.line(f'shows {row.words()}{hosts}')
+            self.page.line(f'shows {row.words()}{hosts_of(row)}')
         self.more(count - MOST_NAMES, 'generations more')
 
     def changes(self):

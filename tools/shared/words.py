@@ -79,6 +79,15 @@ def hosts_words(rows):
     return 'no hosts' if not hosts else 'hosts ' + few(hosts)
 
 
+def more_asked(members):
+    """What an accept asks for beside host and path, in words."""
+    parts = [f'server name {quoted(members["serverName"], 60)}'] if members.get('serverName') else []
+    parts += ['over TLS'] if members.get('tls') else []
+    parts += [f'alpn {few(quoted(protocol, 40) for protocol in members["alpn"])}'] if members.get('alpn') else []
+    parts += [f'header {quoted(name, 40)} {quoted(value, 60)}' for name, value in sorted(members.get('headers', {}).items())[:MOST]]
+    return ''.join(f', {part}' for part in parts)
+
+
 def type_words(content):
     """The type of a cluster whose hosts no script tells."""
     kind = str(content['elsewhere'])

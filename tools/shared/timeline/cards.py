@@ -114,7 +114,7 @@ def refused_words(key, group):
     kind, name, rule, tag = key
     lines = [str(refusal.at) for refusal in group]
     times = f'line {lines[0]}' if len(lines) == 1 else f'{len(lines)} times, lines {", ".join(lines[:MOST_LINES])}{" .." if len(lines) > MOST_LINES else ""}'
-    why = group[0].why() or rules.WORDS.get(int(rule[1:]), '')
+    why = group[0].why() or rules.words(int(rule[1:]), group[0].profile)
     return f'{sign(tag)} {WORD[kind]} <b>{text(name, 40)}</b> by <b>{rule}</b> ({TAG_WORDS[tag]}), {times}: {text(why, 90)}'
 
 

@@ -62,8 +62,9 @@ class Connection:
 
 
 class Refusal:
-    def __init__(self, x, at, kind, name, rule, tag, complaints):
-        self.x, self.at, self.kind, self.name, self.rule, self.tag, self.complaints = x, at, kind, name, rule, tag, complaints
+    def __init__(self, x, at, kind, item, rule, tag, complaints):
+        self.x, self.at, self.kind, self.name, self.rule, self.tag, self.complaints = x, at, kind, item.name, rule, tag, complaints
+        self.profile = item.profile
 
     def why(self):
         """The first members that break the rule, each by the end of its path."""
@@ -205,7 +206,7 @@ class History:
 
     def refuse(self, x, at, line, index, verdict):
         kind, item = line.response.kind, line.response.items[index]
-        refusal = Refusal(x, at, kind, item.name, verdict, *refusal_words(line, index, verdict))
+        refusal = Refusal(x, at, kind, item, verdict, *refusal_words(line, index, verdict))
         self.refusals.append(refusal)
         if kind in ('cds', 'lds'):
             self.band(kind, item.name).refusals.append(refusal)

@@ -84,7 +84,7 @@ def refusal_mark(view, refusal, y):
 def refusal_title(refusal):
     whose = {rules.ENVOY: 'Envoy refuses it too', rules.PROFILE: 'This profile alone refuses it',
              rules.UNKNOWN: 'Whether Envoy refuses it is not known'}[refusal.tag]
-    why = refusal.why() or rules.WORDS.get(int(refusal.rule[1:]), '')
+    why = refusal.why() or rules.words(int(refusal.rule[1:]), refusal.profile)
     return f'line {refusal.at}: {WORD[refusal.kind]} {shown(refusal.name, 60)} refused by {refusal.rule}: {shown(why, 300)}. {whose}'
 
 
