@@ -43,7 +43,7 @@ class Probes:
         address, port = listener['address']
         for chain in chains_of(listener):
             begun = {'address': address, 'port': port}
-            asked = asked_by(chain['match'], listener) if 'match' in chain else {}
+            asked = asked_by(chain['match'], listener)
             for ask in self.asks_of(chain['serves']):
                 yield {**begun, **ask, **asked}
 

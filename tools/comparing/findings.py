@@ -163,7 +163,7 @@ def states(key, old, new):
         yield Finding(CHANGED, *key, 'serves' + (', and warmed on before' if old_warms else ', and is new'), generation)
     if key[0] == 'cds' and old_serves and serves and old_serves.results != serves.results:
         yield from results(key, old_serves, serves, generation)
-    if key[0] == 'cds' and old_serves and serves and old_serves.eligible and not serves.eligible:
+    if key[0] == 'cds' and old_serves and serves and old_serves.eligible and serves.lacking():
         yield Finding(REGRESSION, *key, f'has no host that may be chosen; it had {old_serves.eligible}', generation)
 
 
@@ -194,7 +194,7 @@ def change_words(kind, before, after):
     if kind == 'rds':
         return route_words(before or (), after or ())
     was, now = content_words(kind, before), content_words(kind, after)
-    if 'rows' in (before or {}) and 'rows' in (after or {}) and before['rows'] != after['rows']:
+    if all('rows' in (content or {}) and 'elsewhere' not in content for content in (before, after)) and before['rows'] != after['rows']:
         return host_words(before['rows'], after['rows'])
     return f'{now}; before {was}' if was != now else f'{now}, in another way than before'
 

@@ -42,7 +42,7 @@ def choose(picture, members):
         return Choice('noListener')
     listener, tables = found
     chains, default = listener.content['chains'], listener.content['default']
-    chain, why = chain_for(chains, default, ask) if default or chains[0].get('match') else (chains[0], '')
+    chain, why = chain_for(chains, default, ask)
     undecided = {'listener': listener.number, 'result': 'undecided'}
     if why:
         return Choice(undecided, why=why)
@@ -105,7 +105,7 @@ def listener_for(picture, ask):
         return None
     every = ('0.0.0.0', '::') if address.version == 4 else ('::',)
     found = (picture.listener(text, ask.port) for text in every)
-    return next((one for one in found if one is not None and one[0].content.get('takes_all')), None)
+    return next((one for one in found if one is not None and one[0].content['takes_all']), None)
 
 
 def chain_for(chains, default, ask):

@@ -1,7 +1,7 @@
 """Listeners, their filter chains and connection managers: which rules they break, and what they contain. Not proved.
 
-A listener has `address`, `chains` and `default`, each chain with `serves`, by the profile envoy also with its `match` and `label`. What a chain
-serves is routes of its own (`routes`), those of a name (`rds`, with `limited`), a target (`target`), or something else (`other`).
+A listener has `address`, `chains` and `default`, and whether it `takes_all` addresses of its port. A chain has its `match`, what it `serves` and a
+`label`. It serves routes of its own (`routes`), those of a name (`rds`, with `limited`), a target (`target`), or something else (`other`).
 """
 from .addresses import read_address, read_source
 from .chain_matches import ANY, read_chain_match
@@ -26,8 +26,9 @@ def read_listener(reader, body, path):
         reader.breaks(16, f'{path}.filterChains', f'has {len(chains)} chains: exactly one is read')
     if reader.object(body, 'default_filter_chain', path) not in (None, WRONG):
         reader.breaks(16, f'{path}.defaultFilterChain', 'is given')
-    found = [{'serves': read_chain(reader, chain, f'{path}.filterChains[{place}]')} for place, chain in enumerate(chains if chains is not WRONG else [])]
-    return {'address': address, 'chains': tuple(found), 'default': None}
+    found = [{'match': ANY, 'serves': read_chain(reader, chain, f'{path}.filterChains[{place}]'), 'label': Label('the filter chain')}
+             for place, chain in enumerate(chains if chains is not WRONG else [])]
+    return {'address': address, 'chains': tuple(found), 'default': None, 'takes_all': False}
 
 
 def read_chain(reader, chain, path):
