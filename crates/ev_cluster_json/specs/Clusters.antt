@@ -86,13 +86,13 @@ eds_broken by_eds tree = either_broken (broken_where (is_given (object_of (codes
   v9 = not by_eds && is_given (object_of (codes "eds_cluster_config") tree);
 })
 
--- what the hosts that stand in the cluster break
+-- what the hosts given in the cluster break
 unfoldable pub load_assignment_broken : Data → BrokenRules
 load_assignment_broken tree = either_broken (assignment_broken (load_assignment_of tree)) (record none_broken {
   v6 = is_wrong (object_of (codes "load_assignment") tree);
 })
 
--- What a cluster breaks. The hosts that stand in it are read where the type is STATIC, and passed over else.
+-- What a cluster breaks. The hosts given in it are read where the type is STATIC, and passed over otherwise.
 unfoldable pub cluster_broken : Data → BrokenRules
 cluster_broken tree =
     either_broken (own_broken tree) (either_broken (eds_broken (is_eds tree) tree) (broken_where (is_static tree) (load_assignment_broken tree)))

@@ -19,7 +19,7 @@ use std::alloc::{AllocError, Global};
 ///
 /// # Errors
 /// `Rule` has the least form rule that it breaks: V2 and V3 as far as they show in the cluster alone, and V6
-/// to V13. `OutOfMemory` comes without memory, and for 2^32 - 1 hosts or more.
+/// to V13. `OutOfMemory` comes where memory runs out, and for 2^32 - 1 hosts or more.
 pub fn read_cluster(alloc: Global, value: &Value) -> Result<Cluster, ReadError>
     ensures { ReadsAs result (cluster_reading (view value.now)) }
 {

@@ -104,7 +104,7 @@ pub fn inspect_eds(
     })
 }
 
-// Inspects the hosts that stand in the cluster itself.
+// Inspects the hosts given in the cluster itself.
 fn inspect_load_assignment(alloc: Global, cluster: &Value) -> Result<Tally, AllocError>
     ensures rows { IfOk result (λ t. t.rows.items ≡ made_rows (load_assignment_of (view cluster.now))) }
     ensures broken { IfOk result (λ t. t.broken ≡ load_assignment_broken (view cluster.now)) }
@@ -121,7 +121,7 @@ fn inspect_load_assignment(alloc: Global, cluster: &Value) -> Result<Tally, Allo
     })
 }
 
-/// Inspects the hosts that stand in the cluster itself. They are passed over where its type isn't STATIC.
+/// Inspects the hosts given in the cluster itself. They are passed over where its type isn't STATIC.
 pub fn inspect_hosts(alloc: Global, cluster: &Value, in_cluster: bool) -> Result<Tally, AllocError>
     ensures rows { IfOk result (λ t. t.rows.items ≡ made_where in_cluster (load_assignment_of (view cluster.now))) }
     ensures broken { IfOk result (λ t. t.broken ≡ broken_where in_cluster (load_assignment_broken (view cluster.now))) }

@@ -1,4 +1,4 @@
--- Names that generations began or ceased to depend on since so many numbers were drawn, by the numbers of the generations that were
+-- Names that generations began or ceased to depend on since this many numbers were drawn, by the numbers of the generations that were
 -- made and of those that retired.
 use Rattle.std.specs.Prelude.{ℕ, zero, suc, ◌+◌, ◌-◌, Bool, not, ◌&&◌, nat_le, if◌then◌else◌, List, [], ◌∷◌, ◌++◌, Option, None, Some, filter, option_to_list}
 use Rattle.std.specs.List.{list_any, flat_map}
@@ -36,7 +36,7 @@ need_lost made rows number = if nat_le number made then need_found made rows (ro
 abbrev pub need_gained : ℕ → List GenRow → ℕ → List (List ℕ)
 need_gained made rows number = live_need_found made rows (row_in number rows)
 
--- so many numbers after this one
+-- this many numbers after this one
 abbrev pub numbers_behind : ℕ → ℕ → List ℕ
 numbers_behind made zero = []
 numbers_behind made (suc count) = numbers_behind made count ++ (made + suc count) ∷ []

@@ -40,7 +40,7 @@ names_needed rows = flat_map (λ (row : GenRow). option_to_list (name_needed row
 abbrev pub names_watched : List GenRow → List (List ℕ)
 names_watched rows = sorted_names (names_needed rows)
 
--- a live row waits for the name within a limit, and the name was neither told of nor timed out
+-- a live row waits for the name within a limit, and the name was neither reported nor timed out
 abbrev pub is_timeout_due : WatchesKept → List GenRow → List ℕ → Bool
 is_timeout_due watches rows name = list_any (waits_limited name) rows && not ((watch_in watches name).told || (watch_in watches name).timed)
 
@@ -102,7 +102,7 @@ listeners_found watches rows = flat_map (λ (row : GenRow). listener_in watches 
 abbrev pub listeners_in : WatchesKept → List GenRow → List ServedListener
 listeners_in watches rows = flat_map (λ (row : GenRow). listener_in watches row row.content) (active_by_name rows)
 
--- a live row of the world waits for the name of this kind within a limit, and the name was neither told of nor timed out
+-- a live row of the world waits for the name of this kind within a limit, and the name was neither reported nor timed out
 abbrev pub is_awaited_at : World → Kind → List ℕ → Bool
 is_awaited_at world kind name = is_awaited world.arrivals world.rows kind name
 

@@ -41,7 +41,7 @@ abbrev pub IsNeedName : Option (List ℕ) → Type 0
 IsNeedName None = ⊤
 IsNeedName (Some name) = IsName name
 
--- the name was told of, or timed out where the wait is limited
+-- the name was reported, or timed out where the wait is limited
 abbrev pub has_answer_in : WatchesKept → Bool → Option (List ℕ) → Bool
 has_answer_in watches limited None = true
 has_answer_in watches limited (Some name) = (watch_in watches name).told || ((watch_in watches name).timed && limited)
@@ -50,7 +50,7 @@ has_answer_in watches limited (Some name) = (watch_in watches name).told || ((wa
 abbrev pub is_answered_in : WatchesKept → Content → Bool
 is_answered_in watches content = has_answer_in watches (is_limited_in content) (name_needed content)
 
--- the hosts that stand in a cluster, or the value of its service, or none
+-- the hosts given in a cluster, or the value of its service, or none
 abbrev pub discovered_in : WatchesKept → Discovery → List HostRowParts
 discovered_in watches (Static rows) = rows
 discovered_in watches (by_eds service limited) = rows_in (watch_in watches service).value

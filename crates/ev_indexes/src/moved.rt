@@ -11,7 +11,7 @@ use std::alloc::{AllocError, Global};
 
 impl State {
     /// The names that these retired generations depended on and no live generation up to the number `made` does, in the order of
-    /// their bytes, each once; of generations after that number nothing is told. It looks at these generations alone.
+    /// their bytes, each once; of generations after that number nothing is said. It looks at these generations alone.
     pub fn names_lost(
         &self,
         alloc: Global,
@@ -43,7 +43,7 @@ impl State {
         Ok(Seq::from_vec(names))
     }
 
-    // Puts to the others the name that a generation up to the number `made` leaves.
+    // Adds to the others the name that a generation up to the number `made` leaves.
     fn push_lost(
         &self,
         alloc: Global,
@@ -63,7 +63,7 @@ impl State {
         }
     }
 
-    // Puts to the others the name that a live generation brings.
+    // Adds to the others the name that a live generation brings.
     fn push_gained(
         &self,
         alloc: Global,
@@ -82,7 +82,7 @@ impl State {
         }
     }
 
-    // Puts to the others the name that a generation of this content depends on, where no live one up to the number `made` does.
+    // Adds to the others the name that a generation of this content depends on, where no live one up to the number `made` does.
     fn push_free(
         &self,
         alloc: Global,

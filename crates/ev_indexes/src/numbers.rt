@@ -1,5 +1,5 @@
-//! Numbers of the generations that depend on a name. They are lent as a slice, so they stand one after another and not in a tree, and
-//! one is found by halves. The first leaves its place empty, so that generations that retire in the order in which they came cost
+//! Numbers of the generations that depend on a name. They are lent as a slice, so they are one after another and not in a tree, and
+//! one is found by binary search. The first leaves its place empty, so that generations that retire in the order in which they came cost
 //! no move; the rest moves up after another. That numbers come in rising order is no condition of `push`, so that each clause
 //! holds of every list: each list keeps whether it is known to rise, and is walked where it isn't, which never comes of numbers
 //! in the order in which they are drawn.
@@ -14,7 +14,7 @@ use std::alloc::{AllocError, Global};
 use std::marker::Model;
 
 /// Numbers of generations in the order in which they came. As long as each is above those before it, which is so of numbers in
-/// the order in which they are drawn, one is found among them by halves.
+/// the order in which they are drawn, one is found among them by binary search.
 #[derive(Drop)]
 pub struct Numbers {
     numbers: Vec<Gen>,
@@ -68,7 +68,7 @@ impl Numbers {
         self.len() == 0
     }
 
-    /// Puts a number after the others. Without memory they stay as they were.
+    /// Appends a number to the others. Out of memory, they stay as they were.
     pub fn push(&mut self, number: Gen) -> Result<(), AllocError>
         ensures ok { OnOk result (self.new ≡ self.old ++ number ∷ []) }
         ensures err { OnErr result (self.new ≡ self.old) }
@@ -79,7 +79,7 @@ impl Numbers {
         Ok(())
     }
 
-    /// Leaves a number out. Where they rise, it is found by halves; the first leaves its place empty, and after another the
+    /// Leaves a number out. Where they rise, it is found by binary search; the first leaves its place empty, and after another the
     /// rest moves up at once.
     pub fn leave_out(&mut self, number: Gen)
         ensures { self.new ≡ numbers_without number self.old }

@@ -40,7 +40,7 @@ impl State {
         }
     }
 
-    /// Whether the fetch timeout of the name is due: a live generation waits for it within a limit, and it was neither told of
+    /// Whether the fetch timeout of the name is due: a live generation waits for it within a limit, and it was neither reported
     /// nor timed out.
     pub fn timeout_due(&self, name: &Name) -> bool
         requires indexed { IsIndexed self.now }
@@ -80,7 +80,7 @@ fn numbers(alloc: Global, table: &Generations) -> Result<Vec<Gen>, AllocError>
     Ok(numbers)
 }
 
-// Puts the number of a row to the others, where it is live.
+// Adds the number of a row to the others, where it is live.
 fn push_number(row: &GenRow, numbers: &mut Vec<Gen>) -> Result<(), AllocError>
     ensures { OnOk result (numbers.new.items ≡ numbers.old.items ++ numbers_of (live_rows (row.now ∷ []))) }
 {
@@ -97,7 +97,7 @@ fn has_number(numbers: &Numbers) -> bool
     !numbers.is_empty()
 }
 
-// Whether a row waits within a limit for a name, which was neither told of nor timed out.
+// Whether a row waits within a limit for a name, which was neither reported nor timed out.
 fn is_awaited(watch: &Watch) -> bool
     ensures { result ≡ (has_number watch.now.limited && not (watch.now.told || watch.now.timed)) }
 {
@@ -115,7 +115,7 @@ fn lives<'a>(alloc: Global, table: &'a Generations) -> Result<Vec<LiveRow<'a>>, 
     Ok(lives)
 }
 
-// Puts what is seen of a row to the others, where it is live.
+// Adds what is seen of a row to the others, where it is live.
 fn push_live<'a>(row: &'a GenRow, lives: &mut Vec<LiveRow<'a>>) -> Result<(), AllocError>
     ensures { OnOk result (lives.new.items ≡ lives.old.items ++ map live_of (live_rows (row.now ∷ []))) }
 {

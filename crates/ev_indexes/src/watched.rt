@@ -31,7 +31,7 @@ fn needs(alloc: Global, table: &Generations) -> Result<Vec<Name>, AllocError>
     Ok(names)
 }
 
-// Puts the name that a row depends on to the others, where it is live and depends on one.
+// Adds the name that a row depends on to the others, where it is live and depends on one.
 fn push_need(alloc: Global, row: &GenRow, names: &mut Vec<Name>) -> Result<(), AllocError>
     ensures { OnOk result (names.new.items ≡ names.old.items ++ names_needed (row.now ∷ [])) }
 {

@@ -1,4 +1,4 @@
-//! What is known of names that generations depend on. Values stand beside the marks of their names, for endpoints and for routes
+//! What is known of names that generations depend on. Values are kept beside the marks of their names, for endpoints and for routes
 //! alike: a content is shared, so there is one place for both.
 
 ghost use Rattle.std.specs.Prelude.{◌≡◌, ◌≢◌, [], Decides, IsSome, OnOk, OnErr};
@@ -17,7 +17,7 @@ use std::alloc::{AllocError, Global};
 use std::marker::Model;
 
 /// What is known of a name that is watched: the generations that depend on it, those among them whose wait is limited, whether
-/// the name was told of, whether its wait timed out, and its last value.
+/// the name was reported, whether its wait timed out, and its last value.
 #[derive(Drop)]
 pub struct Watch {
     pub rows: Numbers,
@@ -68,7 +68,7 @@ impl Watches {
         self.watches.get(&NameKey::new(text))
     }
 
-    /// One more generation depends on the name. Without memory nothing is promised.
+    /// One more generation depends on the name. Out of memory, nothing is promised.
     pub fn watch(
         &mut self,
         alloc: Global,
@@ -102,7 +102,7 @@ impl Watches {
         }
     }
 
-    /// Something came for the name. Without memory nothing is promised.
+    /// Something came for the name. Out of memory, nothing is promised.
     pub fn tell(&mut self, alloc: Global, name: &Name, arrival: &Arrival) -> Result<(), AllocError>
         requires { IsSome (lookup (bytes_eq name.now) self.old) }
         ensures { OnOk result (Turns (with_arrival arrival.now) self.old self.new name.now) }

@@ -1,6 +1,6 @@
 -- HTTP connection managers
 -- (`envoy.extensions.filters.network.http_connection_manager.v3.HttpConnectionManager`): their routes come by
--- the route discovery service (`rds`), or stand in them (`route_config`).
+-- the route discovery service (`rds`), or are given in them (`route_config`).
 use Rattle.std.specs.Prelude.{ℕ, ◌||◌, ◌&&◌, List, [], ◌∷◌, Bool, not, if◌then◌else◌, codes}
 use Rattle.serde_json.specs.Data.{Data}
 use Rattle.ev_types.specs.declared.listeners.Serve.{Serve}
@@ -26,11 +26,11 @@ rds_source_of manager = inside (object_of (codes "config_source") (rds_of manage
 unfoldable pub route_name_of : Data → List ℕ
 route_name_of manager = given_or [] (text_of (codes "route_config_name") (rds_of manager))
 
--- the routes that stand in the manager: none where no `route_config` is given
+-- the routes given in the manager: none where no `route_config` is given
 unfoldable pub inline_of : Data → Data
 inline_of manager = inside (object_of (codes "route_config") manager)
 
--- What a connection manager breaks: what the routes that stand in it break, what the source breaks of those that are
+-- What a connection manager breaks: what the routes given in it break, what the source breaks of those that are
 -- asked for, and what it breaks itself. V2: the routes that are asked for have no name, or one over 512 bytes; one of a
 -- wrong form is V6 alone. V18: not exactly one of `rds` and `route_config`, or `scoped_routes` in any form.
 unfoldable pub manager_broken : Data → BrokenRules
@@ -50,7 +50,7 @@ manager_broken manager = either_broken (table_broken (inline_of manager)) (eithe
       || is_given (field_of (codes "scoped_routes") manager);
 }))
 
--- the routes of this name, where one is asked for, and else those that stand in the manager
+-- the routes of this name, where one is asked for, and otherwise those given in the manager
 abbrev pub serve_with : Bool → List ℕ → Bool → RouteTable → Serve
 serve_with asks name limited table = if asks && is_name name then Rds name limited else Inline table
 

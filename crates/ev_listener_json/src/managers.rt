@@ -41,7 +41,7 @@ pub fn inspect_manager(
     })
 }
 
-// The routes of this name, where one is asked for, and else those that stand in the manager.
+// The routes of this name, where one is asked for, and otherwise those given in the manager.
 fn make_serve(
     alloc: Global,
     asks: bool,

@@ -1,4 +1,4 @@
--- What an entry of a journal tells by itself. This project's own.
+-- What an entry of a journal says by itself. This project's own.
 use Rattle.std.specs.Prelude.{ℕ, zero, suc, Bool, true, false, ◌&&◌, ◌||◌, ◌==◌, if◌then◌else◌, List, [], ◌∷◌, filter_map, Option, Some, None, unwrap_or, slice_get, option_map}
 use Rattle.std.specs.List.{flat_map, last_or, list_any, zip}
 use Rattle.std.specs.Str.{bytes_eq}
@@ -113,7 +113,7 @@ abbrev pub is_accept : Event → Bool
 is_accept (Accept ask) = true
 is_accept event = false
 
--- the version that a settle has told
+-- the version that a settle has reported
 abbrev pub version_settled : Answer → Option ℕ
 version_settled (Settled closed version) = Some version
 version_settled answer = None

@@ -59,7 +59,7 @@ health name host healthy world = health_of host healthy (rows_meant world.arriva
 abbrev pub is_waiting : Kind → List ℕ → GenRow → Bool
 is_waiting kind name row = is_live row.status && has_limited_dependency kind name row.content
 
--- the name is awaited within a limit: a row waits for it, and it was neither told of nor timed out
+-- the name is awaited within a limit: a row waits for it, and it was neither reported nor timed out
 abbrev pub is_awaited : List Arrived → List GenRow → Kind → List ℕ → Bool
 is_awaited arrivals rows kind name =
     list_any (is_waiting kind name) rows && not (is_told_by arrivals kind name || is_timed_by arrivals kind name)

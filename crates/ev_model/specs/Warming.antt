@@ -55,7 +55,7 @@ is_timeout Absent = false
 is_timeout Bad = false
 is_timeout TimedOut = true
 
--- the name was told of, by what came
+-- the name was reported, by what came
 abbrev pub is_told_by : List Arrived → Kind → List ℕ → Bool
 is_told_by arrivals kind name = list_any is_word (came_for arrivals kind name)
 
@@ -63,7 +63,7 @@ is_told_by arrivals kind name = list_any is_word (came_for arrivals kind name)
 abbrev pub is_timed_by : List Arrived → Kind → List ℕ → Bool
 is_timed_by arrivals kind name = list_any is_timeout (came_for arrivals kind name)
 
--- the name was told of
+-- the name was reported
 abbrev pub is_told : World → Kind → List ℕ → Bool
 is_told world kind name = is_told_by world.arrivals kind name
 
@@ -71,7 +71,7 @@ is_told world kind name = is_told_by world.arrivals kind name
 abbrev pub is_timed : World → Kind → List ℕ → Bool
 is_timed world kind name = is_timed_by world.arrivals kind name
 
--- what is depended on was told of, or timed out where the wait is limited
+-- what is depended on was reported, or timed out where the wait is limited
 abbrev pub has_answer : List Arrived → Dependency → Bool
 has_answer arrivals d = is_told_by arrivals d.kind d.name || (is_timed_by arrivals d.kind d.name && d.limited)
 
@@ -91,7 +91,7 @@ rows_in (Some (an_assignment rows)) = rows
 rows_in (Some (a_listener listener)) = []
 rows_in (Some (routes table)) = []
 
--- the hosts that stand in a cluster, or the value of its service, or none
+-- the hosts given in a cluster, or the value of its service, or none
 abbrev pub discovered : List Arrived → Discovery → List HostRowParts
 discovered arrivals (Static rows) = rows
 discovered arrivals (by_eds service limited) = rows_in (value_by arrivals Eds service)

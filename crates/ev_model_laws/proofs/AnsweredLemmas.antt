@@ -46,7 +46,7 @@ timeout_timed true told timed isnt h = absurd (false≢true (sym isnt))
 timeout_timed false told timed isnt h = h
 
 module _ (entries : List Entry) (world : World) (come : ComesByEntries world entries) (kind : Kind) (name : List ℕ) where
-  -- the entry that has told of the name, or was its timeout, is of this kind and name
+  -- the entry that has reported the name, or was its timeout, is of this kind and name
   same_kind : (a : Arrived) → (kind_same a.kind kind && bytes_eq a.name name) ≡ true → (a.kind ≡ kind) × (a.name ≡ name)
   same_kind a is = (
     (kind_decides a.kind kind).0 (first_so (kind_same a.kind kind) (bytes_eq a.name name) is),

@@ -1,5 +1,5 @@
 -- What came for names was said by the control plane, or timed out, and a version of endpoints or routes is kept only of a name
--- that was told of.
+-- that was reported.
 use Rattle.std.proofs.Common.{◌≡◌, ℕ, ◌+◌, Bool, true, false, ◌&&◌, ◌||◌, cond, List, [], ◌∷◌, ◌++◌, take, map, filter, Option, Some, refl, sym, ap, ap₂, ◌∙◌, subst, subst₂}
 use Rattle.std.specs.Prelude.{unwrap_or, option_map}
 use Rattle.std.specs.List.{All, Contains, AllByRecursion as ByRecursion, fold, zip}
@@ -47,7 +47,7 @@ use Rattle.ev_model_laws.proofs.VerdictLemmas.{fits, judged_by, verdict_fits}
 use Rattle.ev_model_laws.proofs.EventLemmas.{step-leads}
 use Rattle.ev_model_laws.proofs.PlaceLemmas.{take_one, IsAnswered, world_next}
 
--- it is one of endpoints or routes of a name that was told of, or one of clusters or listeners
+-- it is one of endpoints or routes of a name that was reported, or one of clusters or listeners
 abbrev IsVersionTold : List Entry → KeptVersion → Type 0
 IsVersionTold entries kept = is_by_name kept.kind ≡ true → was_told entries kept.kind kept.name ≡ true
 
@@ -89,7 +89,7 @@ module _ (entries : List Entry) where
     versions = All-filter (is_version_due (lives_of (promoted world))) (IsVersionTold entries) world.versions come.versions;
   }
 
-  -- what a response does, whose words and removals the entries have told
+  -- what a response does, whose words and removals the entries have reported
   module _ (kind : Kind) (told : List ℕ → Bool) (so : (name : List ℕ) → told name ≡ true → was_told entries kind name ≡ true) where
     absences_come : (names : List (List ℕ)) → ByRecursion (λ name. told name ≡ true) names
         → ByRecursion (λ (a : Arrived). has_come_by entries a ≡ true) (map (arrived kind Absent) names)
@@ -222,7 +222,7 @@ answered_come entries kind response world so come =
     (recursion_from_All (λ (one : Verdict × ItemParts). (name : List ℕ) → is_word_on name one.0 one.1 ≡ true → told name ≡ true) judged words)
     (removals_come entries kind told response world so (λ name is. or_right (has_word_on name verdicts response.items) (is_removed response name) is) come)))
 
--- a bounded life is that of a version that is kept, so its name was told of
+-- a bounded life is that of a version that is kept, so its name was reported
 bounded_told : (entries : List Entry) (kind : Kind) (name : List ℕ) (world : World) → is_by_name kind ≡ true → is_bounded world.versions kind name ≡ true
     → ComesByEntries world entries → was_told entries kind name ≡ true
 bounded_told entries kind name world by_name bounded come =

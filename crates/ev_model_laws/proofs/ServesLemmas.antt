@@ -1,4 +1,4 @@
--- A generation that serves behind an event served before it, or the event has made it serve: it is ready then.
+-- A generation that serves after an event served before it, or the event has made it serve: it is ready then.
 use Rattle.std.proofs.Common.{◌≡◌, ℕ, ◌<◌, ◌≤◌, ◌+◌, ◌⊎◌, inl, inr, Bool, true, false, ◌&&◌, ◌==◌, List, [], ◌∷◌, ◌++◌, take, drop, Some, refl, sym, ap, ◌∙◌, subst, arith}
 use Rattle.std.specs.Cmp.{first_so, second_so}
 use Rattle.std.specs.List.{Contains, fold, zip, list_any}
@@ -205,7 +205,7 @@ tidied_serves before world within number h =
     ((numbers_decide row.number number).0 (first_so (row.number == number) (is_active row.status) found.2))
     (serves_or before world row within found.1 serves (promoted_served_or_ready world row found.1 serves))
 
--- so it is behind any event
+-- this holds after any event
 pub step-serves : (format : Format) (world : World) (actor : Actor) (event : Event) → ServesNow world (step format world actor event).0
 step-serves format world actor event =
     let same : ServesWithin world world = λ number h. h in
@@ -238,7 +238,7 @@ warmed_later told number j k le had =
     let lt : had.place < j = had.earlier in
     record { place = had.place; earlier = omega (arith, lt, le); serving = had.serving; answered = had.answered }
 
--- one that serves behind an entry and is ready there has warmed by then
+-- one that serves after an entry and is ready there has warmed by then
 serving_warmed : (told : Told) (k number : ℕ) → AreMade (world_told told (k + 1)) (take (k + 1) told.journal)
     → ComesByEntries (world_told told (k + 1)) (take (k + 1) told.journal) → IsServing (world_told told (k + 1)) number → HadWarmed told number (k + 1)
 serving_warmed told k number made come serving =

@@ -1,5 +1,5 @@
 -- What every event of a run keeps, and the opening has: the parts from which the laws of runs follow. This project's own. Some
--- speak of one world, and some of a journal's first entries, since they tell how that world came about.
+-- speak of one world, and some of a journal's first entries, since they say how that world came about.
 use Rattle.std.specs.Prelude.{ℕ, ◌≡◌, ◌≤◌, ◌<◌, ◌⊎◌, Bool, true, false, not, ◌&&◌, ◌==◌, if◌then◌else◌, IsTrue, List, length, take, Contains, All, Some}
 use Rattle.std.specs.List.{list_any, flat_map}
 use Rattle.ev_types.specs.declared.contents.Kind.{Kind}
@@ -112,7 +112,7 @@ pub record AreMade (world : World) (entries : List Entry) : Type 0 where
   pub rows : All (λ (row : GenRow). made_of entries row.number ≡ Some (made_as row)) world.rows
   pub drawn : length (made_rows entries) ≡ world.made
 
--- one of these entries has told of the name: by a resource that was kept or refused, or by its removal
+-- one of these entries has reported the name: by a resource that was kept or refused, or by its removal
 abbrev pub was_told : List Entry → Kind → List ℕ → Bool
 was_told entries kind name = list_any (λ (entry : Entry). tells_of_name kind name entry.event entry.answer) entries
 
@@ -120,17 +120,17 @@ was_told entries kind name = list_any (λ (entry : Entry). tells_of_name kind na
 abbrev pub was_timed : List Entry → Kind → List ℕ → Bool
 was_timed entries kind name = list_any (λ (entry : Entry). times_out kind name entry.event entry.answer) entries
 
--- one of these entries is why it came: it has told of the name or, where a timeout came, was that
+-- one of these entries is why it came: it has reported the name or, where a timeout came, was that
 abbrev pub has_come_by : List Entry → Arrived → Bool
 has_come_by entries a = if is_word a.arrival then was_told entries a.kind a.name else was_timed entries a.kind a.name
 
 -- all that came for names was said by the control plane or timed out, and a version of endpoints or routes is kept only of a
--- name that was told of; so the value that the end of a time to live puts in its place is one of a name that was told of, too
+-- name that was reported; so the value that the end of a time to live puts in its place is one of a name that was reported, too
 pub record ComesByEntries (world : World) (entries : List Entry) : Type 0 where
   pub arrivals : All (λ (a : Arrived). IsTrue (has_come_by entries a)) world.arrivals
   pub versions : All (λ (kept : KeptVersion). is_by_name kept.kind ≡ true → IsTrue (was_told entries kept.kind kept.name)) world.versions
 
--- what came for names is kept only of names that are watched, and a version of endpoints or routes only of one that was told of
+-- what came for names is kept only of names that are watched, and a version of endpoints or routes only of one that was reported
 pub record KeepsWatched (world : World) : Type 0 where
   pub arrivals : All (λ (a : Arrived). IsTrue (is_watched (lives_of world) a.kind a.name)) world.arrivals
   pub versions : All (λ (kept : KeptVersion). is_by_name kept.kind ≡ true → IsTrue (is_told world kept.kind kept.name)) world.versions

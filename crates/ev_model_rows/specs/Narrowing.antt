@@ -21,7 +21,7 @@ any = record {
   asks_source = false;
 }
 
--- a chain that forwards to a cluster, by whose name it is told from others
+-- a chain that forwards to a cluster, by whose name it is distinguished from others
 abbrev pub chain : List ℕ → FilterChainMatch → ServedChain
 chain name criteria = record { criteria = criteria; routing = Tcp (One name) }
 

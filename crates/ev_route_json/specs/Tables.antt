@@ -43,7 +43,7 @@ unfoldable pub table_of : Data → RouteTable
 table_of tree = record { hosts = map virtual_host_of (virtual_hosts_of tree) }
 
 -- What a route configuration breaks: what one of its virtual hosts breaks, and what it breaks itself. V20: a domain
--- stands twice in the whole configuration.
+-- occurs twice in the whole configuration.
 unfoldable pub table_broken : Data → BrokenRules
 table_broken tree = either_broken (any_broken virtual_host_broken (virtual_hosts_of tree)) (record none_broken {
   v6 = is_wrong (text_of (codes "name") tree) || is_wrong (objects_of (codes "virtual_hosts") tree);

@@ -3,18 +3,18 @@
 //!
 //! # Choices
 //!
-//! - The loop over the parts of a list (`Inspect`, `inspect_all`) stands here and not in ev_tree: a trait can be
+//! - The loop over the parts of a list (`Inspect`, `inspect_all`) is here and not in ev_tree: a trait can be
 //!   written only for a type of the crate that has the one or the other, and the parts are types of ev_types.
 //!   ev_listener_json has loops of its own, since what it reads of a filter is no type of its own.
 //! - The value of a reading is a total function of the tree, so that a rule can be stated without it: weights that no
 //!   pick can be taken of stand for the single cluster, a status outside 200 to 599 for 0. It shows only where no
 //!   rule is broken.
-//! - A target's rules hold in a route only where `route` is given, and a config source's only where what it stands in
+//! - A target's rules hold in a route only where `route` is given, and a config source's only where what it is in
 //!   is.
-//! - The same name may stand twice among weighted clusters, and two virtual hosts may have the same name.
+//! - The same name may occur twice among weighted clusters, and two virtual hosts may have the same name.
 //! - A domain is compared by its bytes, ASCII letters as lower case; other letters stay as they are.
 //! - `read_routes` and `read_target` have no condition on the value.
-//! - `inspect_route_match` reads a match as Envoy reads it. No reader of a route stands on it yet. Where several kinds
+//! - `inspect_route_match` reads a match as Envoy reads it. No reader of a route builds on it yet. Where several kinds
 //!   of path, tests of a header or patterns are given, its value has one of them: that breaks V21. Conditions that
 //!   aren't decided here are one condition, since nothing that is read tells them apart.
 #![tactic(auto)]

@@ -8,7 +8,7 @@ use ev_tree::{BrokenRules, Inspection};
 use serde_json::Value;
 use std::alloc::{AllocError, Global};
 
-/// A part of a body that stands in lists.
+/// A part of a body that comes in lists.
 pub trait Inspect: Drop {
     ghost value_of: { Data → Self };
 

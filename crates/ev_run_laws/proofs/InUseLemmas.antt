@@ -1,4 +1,4 @@
--- What is in use stands among the rows, and what was reaped stands there no longer.
+-- What is in use is among the rows, and what was reaped is there no longer.
 use Rattle.std.proofs.Common.{◌≡◌, ℕ, ◌≤◌, Bool, true, false, ◌&&◌, ◌==◌, length, take, IsTrue}
 use Rattle.std.specs.Cmp.{first_so}
 use Rattle.std.specs.List.{list_any}

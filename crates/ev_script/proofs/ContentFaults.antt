@@ -1,4 +1,4 @@
--- The fault that the content of a line tells is the first of the input.
+-- The fault that the content of a line gives is the first of the input.
 use Rattle.std.proofs.Common.{◌≡◌, ℕ, ◌+◌, ◌<◌, ◌≤◌, Bool, true, false, ◌&&◌, List, [], get_or, IsTrue, Option, None, Some, refl, sym, ap, subst, ◌∙◌, ◌⊎◌, inl, inr, arith}
 use Rattle.std.proofs.lemmas.Bool.Decides.{nat_tests}
 use Rattle.std.proofs.lemmas.Bool.{cases_lt}
@@ -15,7 +15,7 @@ use Rattle.ev_script.specs.ReadInput.{IsUpToJournal}
 use Rattle.ev_script.proofs.SoundLemmas.{no_journal}
 use Rattle.ev_script.proofs.FirstLemmas.{IsReadBefore, nothing_before, no_journal_before, of_content, json_first, header_first, line_first, worker_first}
 
--- the line behind the first n ones ends at a place and is this text, and those before it were read
+-- the line after the first n ones ends at a place and is this text, and those before it were read
 pub record IsGiven (forms : LineForms) (input : Input) (workers : ℕ) (n : ℕ) (text : List ℕ) : Type 0 where
   pub place : ℕ
   pub before : IsReadBefore forms input workers place
@@ -108,7 +108,7 @@ begins_there forms input workers n text g some c =
     let both = by_both input.audit (has_format c.tree) c.begins in
     record { audit = both.0; ends = g.before.ends; later = subst (λ (i : ℕ). 0 < i) (sym g.index) some; format = (c.tree, given_tree forms input workers n text g ∙ c.is, both.1) }
 
--- no fault stands at the place where the journal begins
+-- there is no fault at the place where the journal begins
 nothing_there : (forms : LineForms) (input : Input) (workers : ℕ) (place : ℕ) (kind : FaultKind) → IsReadBefore forms input workers place → BeginsJournal input place → Stands forms input place kind → ⊥
 nothing_there forms input workers place TooLong read begins s = let h : 4 ≤ 2 = of_content forms input workers place TooLong read s in omega arith
 nothing_there forms input workers place TooMany read begins s = let h : 4 ≤ 1 = of_content forms input workers place TooMany read s in omega arith

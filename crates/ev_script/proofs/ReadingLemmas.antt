@@ -46,7 +46,7 @@ pub record IsReading {A : Type 0} (forms : LineForms) (keeps : ℕ → Data → 
 abbrev pub Exits : {A : Type 0} → LineForms → (ℕ → Data → A → Type 0) → Bool → Option (List ℕ) → Option (List ℕ) → LinesState → Result (ReadLines A) ScriptFault → Type 0
 Exits forms keeps audit before after new result = (bytes : List ℕ) × Takes before after bytes × HasTaken new bytes × IsAnswer forms keeps (input_of audit new bytes) result
 
--- where a failed read is told, the source isn't known to be at its end
+-- where a failed read is reported, the source isn't known to be at its end
 pub told_open : {A : Type 0} (forms : LineForms) (keeps : ℕ → Data → A → Type 0) (audit : Bool) (before after : Option (List ℕ)) (new : LinesState) (result : Result (ReadLines A) ScriptFault) → Exits forms keeps audit before after new result → result ≡ Err Read → ¬ (IsTrue new.ended)
 told_open {A = A} forms keeps audit before after new result exits failed =
     let told : IsTold forms (input_of audit new exits.0) Read = subst (λ (r : Result (ReadLines A) ScriptFault). IsAnswer forms keeps (input_of audit new exits.0) r) failed exits.3 in
@@ -60,7 +60,7 @@ prepend_known-append xs ys (Some zs) = ap Some (sym (append_assoc xs ys zs))
 takes_both : (before now after : Option (List ℕ)) (taken more : List ℕ) → Takes before now taken → Takes now after more → Takes before after (taken ++ more)
 takes_both before now after taken more e f = e ∙ ap (prepend_known taken) f ∙ prepend_known-append taken more after
 
--- ---- the lines behind the header
+-- ---- the lines after the header
 
 given_now : {A : Type 0} (forms : LineForms) (keeps : ℕ → Data → A → Type 0) (audit : Bool) (before now : Option (List ℕ)) (old new : LinesState) (workers : ℕ) (heading : List ℕ) (kept : List A) (more out text : List ℕ) → (r : IsReading forms keeps audit before now old workers heading kept) → ReadsLine old new r.bytes more out text (Ok Line) → IsGiven forms (input_of audit new (r.bytes ++ more)) workers old.given text
 given_now forms keeps audit before now old new workers heading kept more out text r reads = given_line forms audit workers old new r.bytes more out text reads r.read

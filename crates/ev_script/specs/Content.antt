@@ -27,7 +27,7 @@ abbrev pub is_above : ℕ → Option ℕ → Bool
 is_above workers None = false
 is_above workers (Some worker) = nat_le workers worker
 
--- a line by these forms, at its place, in a script of so many workers: its tree begins no journal and is a line, whose
+-- a line by these forms, at its place, in a script of this many workers: its tree begins no journal and is a line, whose
 -- worker, where it names one, is below the count
 pub record IsLineOf (forms : LineForms) (audit : Bool) (workers at : ℕ) (found : Option Data) : Type 0 where
   pub tree : Data

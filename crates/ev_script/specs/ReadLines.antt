@@ -6,7 +6,7 @@ use Rattle.ev_script.specs.Members.{tree_of}
 use Rattle.ev_script.specs.Faults.{LineForms}
 use Rattle.ev_script.specs.Content.{first_content, IsLineOf, IsKeptOf}
 
--- by these forms, of the first n lines the first is a header with so many workers, and each other a line
+-- by these forms, of the first n lines the first is a header with this many workers, and each other a line
 pub record AreRead (forms : LineForms) (audit : Bool) (texts : List (List ℕ)) (workers n : ℕ) : Type 0 where
   pub head : 0 < n → first_content forms (slice_index_or texts 0 []) ≡ first.Workers workers
   pub others : (i : ℕ) → 0 < i → i < n → IsLineOf forms audit workers (i + 1) (tree_of (slice_index_or texts i []))

@@ -13,7 +13,7 @@ use std::alloc::{AllocError, Global};
 // What the first line of an input is.
 #[derive(Drop)]
 pub(crate) enum First {
-    /// A header, which names so many workers.
+    /// A header, which names this many workers.
     Workers(u32),
     /// No header, with this fault.
     Fault(FaultKind),
@@ -54,7 +54,7 @@ fn first_of(workers: Option<u32>) -> First
     }
 }
 
-// What line `at` is, by its text without its line feed, in a script of so many workers: a line, or a
+// What line `at` is, by its text without its line feed, in a script of this many workers: a line, or a
 // fault of kind 4, 6 or 7. In an audit's input an object with a member `format` begins the journal,
 // whatever else it has. The line's tree is gone before the answer, where it isn't what is kept.
 pub(crate) fn read_content<F: Forms>(

@@ -1,4 +1,4 @@
--- The domains of a listener, each with the virtual host that it stands in.
+-- The domains of a listener, each with the virtual host that it is in.
 use Rattle.std.specs.Prelude.{◌≡◌, ℕ, ◌+◌, ◌-◌, ◌==◌, Bool, true, false, ◌&&◌, All, List, [], ◌∷◌, length, slice_index_or, Option, option_map, find}
 use Rattle.std.specs.Option.{option_or}
 use Rattle.std.specs.Str.{str_to_ascii_lowercase}
@@ -44,7 +44,7 @@ has_length n there = slice_index_or there n false
 abbrev pub KeepsLengths : List Bool → List Bool → Type 0
 KeepsLengths before after = (n : ℕ) → has_length n before ≡ true → has_length n after ≡ true
 
--- the first domain that passes the test, with so many bytes beside its star
+-- the first domain that passes the test, with this many bytes beside its star
 abbrev pub find_beside : ℕ → (HostDomain → Bool) → List HostDomain → Option HostDomain
 find_beside n fits domains = find (λ (d : HostDomain). (length d.domain == n + 1) && fits d) domains
 

@@ -24,13 +24,13 @@
 //! - Whether anything changed is asked under the names that the changes touch, before and after: that all others are
 //!   as before is proved, so *unchanged* needs no look at them.
 //! - A change is a number and what serves of it now. All numbers go before any is put in, so an update, which ends
-//!   one number and begins another under one name, may be told in either order. What is put in takes the place of
+//!   one number and begins another under one name, may be given in either order. What is put in takes the place of
 //!   what has its number or its name: so `next` has a meaning for all changes, needs no condition, and keeps the
 //!   order of names and numbers by itself.
-//! - Listeners at one address stand in a group, in the order of names, so that pictures with several at one address
+//! - Listeners at one address are in a group, in the order of names, so that pictures with several at one address
 //!   have a meaning, and the first takes the connections. The rules of listeners are made so that no two that serve
 //!   have one address, and then a group has one; that isn't proved, and nothing rests on it but the time.
-//! - Rows and listeners change by value (`without(self, ..)`, `put(self, ..)`): without memory nothing is left of
+//! - Rows and listeners change by value (`without(self, ..)`, `put(self, ..)`): out of memory, nothing is left of
 //!   them, and no half-changed one can be seen. They lend their tables to the functions that change these, so that
 //!   who owns the tables lets them go in one place: a proof takes the longer, the more values a function owns and the
 //!   more ways out it has.
@@ -40,8 +40,8 @@
 //!   looked up whole, then from its longest end to its shortest where a suffix form has that length, then its
 //!   beginnings the same: a look-up for each length that is there, however many domains there are, and the first hit
 //!   is the longest form. The keys of ends and beginnings are made of the host text, so an ask takes no memory.
-//! - A virtual host with more than 32 routes keeps the first place of each path match, and the lengths of the fronts.
-//!   A path is looked up whole and by its front of each of the lengths; the least place is the first route that takes
+//! - A virtual host with more than 32 routes keeps the first place of each path match, and the lengths of the prefixes.
+//!   A path is looked up whole and by its prefix of each of the lengths; the least place is the first route that takes
 //!   it, which is proved of all paths. Where there are so many lengths that trying the routes takes less time, it has
 //!   no index. A path match is found by kind and text, and its key is one more owner of the table, so an index copies
 //!   no text.

@@ -74,7 +74,7 @@ any_number p n (m ∷ ms) there is = by (nat_eq n m) refl there (λ rest. any_nu
     by true same there rest = or_left (p m) (list_any p ms) (ap p (sym (eqb-true n m same)) ∙ is)
     by false other there rest = or_right (p m) (list_any p ms) (rest there)
 
--- the numbers behind this one, so many of them
+-- the numbers after this one, this many of them
 behind : (made count number : ℕ) → made < number → number ≤ made + count → is_among (numbers_behind made count) number ≡ true
 behind made zero number low high = absurd (omega arith)
 behind made (suc count) number low high =

@@ -1,4 +1,4 @@
--- Sorted lists of names, each once: two with the same names are one, and what stands in those that generations left and brought.
+-- Sorted lists of names, each once: two with the same names are equal, and what is in those that generations left and brought.
 use Rattle.std.proofs.Common.{◌≡◌, ◌∙◌, ℕ, ◌-◌, Bool, true, false, cond, not, ◌&&◌, ◌||◌, List, [], ◌∷◌, Option, None, Some, option_to_list, refl, sym, ap, subst}
 use Rattle.std.proofs.Math.Bool.{or-false}
 use Rattle.std.specs.Prelude.{nat_le}
@@ -58,7 +58,7 @@ all_among P (first ∷ names) each = (
   all_among P names (λ name there. each name (ap (λ b. bytes_eq first name || b) there ∙ or_true (bytes_eq first name))),
 )
 
--- two ordered lists of the same names are one
+-- two ordered lists of the same names are equal
 pub same-names : (xs ys : List (List ℕ)) → IsInOrder xs → IsInOrder ys → ((name : List ℕ) → is_among name xs ≡ is_among name ys) → xs ≡ ys
 same-names xs ys first second same =
     sorted-unique (slice_cmp nat_cmp) nat_list_cmp_total xs ys first second (record {

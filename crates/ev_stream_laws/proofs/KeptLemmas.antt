@@ -1,4 +1,4 @@
--- A resource that is kept stands once in its response, so it is the last that came for its name.
+-- A resource that is kept occurs once in its response, so it is the last that came for its name.
 use Rattle.std.proofs.Common.{◌≡◌, ℕ, zero, suc, ◌+◌, ◌≤◌, Bool, true, false, cond, ◌&&◌, List, [], ◌∷◌, ◌++◌, length, map, filter_map, nat_le, Option, None, Some, inl, inr, refl, sym, ap, subst, ◌∙◌, arith}
 use Rattle.std.specs.Prelude.{slice_get}
 use Rattle.std.specs.List.{list_any, last_or, fold, zip, AllByRecursion as ByRecursion}
@@ -34,7 +34,7 @@ use Rattle.ev_model_laws.proofs.VerdictLemmas.{judged_by}
 use Rattle.ev_stream_laws.specs.Told.{KeptIsValue}
 use Rattle.ev_stream_laws.proofs.ToldLemmas.{came, came-append, Hush, items_came, first_came, tidied_came}
 
--- ---- a resource that is kept stands once
+-- ---- a resource that is kept occurs once
 
 lesser_none : (a b : Option ℕ) → lesser a b ≡ None → (a ≡ None) × (b ≡ None)
 lesser_none None b h = (refl, h)
@@ -53,7 +53,7 @@ untold : (test : Bool) → cond {A = Option ℕ} test (Some 4) None ≡ None →
 untold true h = absurd (cc)
 untold false h = refl
 
--- its name doesn't stand twice
+-- its name doesn't occur twice
 abbrev StandsOnce : ResponseParts → Verdict × ItemParts → Type 0
 StandsOnce response one = one.0 ≡ Kept → nat_le 2 (length (items_named one.1.name response.items)) ≡ false
 

@@ -24,12 +24,12 @@ abbrev pub ends_name : Kind → List ℕ → Event → Bool
 ends_name kind name (TtlExpired of ended) = kind_same of kind && bytes_eq ended name
 ends_name kind name event = false
 
--- a name has the value that it had, and is told of where it was
+-- a name has the value that it had, and is reported where it was
 pub record HasSameValue (kind : Kind) (name : List ℕ) (before after : World) : Type 0 where
   pub value : value_of after kind name ≡ value_of before kind name
   pub told : is_told after kind name ≡ is_told before kind name
 
--- a name that is watched behind an event which says nothing of it has the value that it had, and is told of where it was
+-- a name that is watched after an event which says nothing of it has the value that it had, and is reported where it was
 abbrev pub ToldStays : Type 0
 ToldStays =
     (format : Format) (world : World) (actor : Actor) (event : Event) (kind : Kind) (name : List ℕ)
@@ -38,7 +38,7 @@ ToldStays =
     → ends_name kind name event ≡ false
     → HasSameValue kind name world (step format world actor event).0
 
--- a resource that an answered response keeps is the value of its name, which is told of, where the name is watched behind it
+-- a resource that an answered response keeps is the value of its name, which is reported, where the name is watched after it
 abbrev pub KeptIsValue : Type 0
 KeptIsValue =
     (format : Format) (world : World) (actor : Actor) (response : ResponseParts) (kind : Kind) (place : ℕ) (item : ItemParts) (content : Content)

@@ -1,13 +1,13 @@
 ghost use Rattle.ev_stream_laws.specs.Told.{KeptIsValue, ToldStays};
 
-/// A law of the machine: a name that is watched behind an event which says nothing of it has the value that it had, and is told of
+/// A law of the machine: a name that is watched after an event which says nothing of it has the value that it had, and is reported
 /// where it was. It does nothing.
 pub fn told_stays()
     ensures { ToldStays }
 {}
 
-/// A law of the machine: a resource that an answered response keeps is the value of its name, which is told of, where the name is
-/// watched behind it. It does nothing.
+/// A law of the machine: a resource that an answered response keeps is the value of its name, which is reported, where the name is
+/// watched after it. It does nothing.
 pub fn kept_is_value()
     ensures { KeptIsValue }
 {}

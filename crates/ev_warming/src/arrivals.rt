@@ -20,9 +20,9 @@ use std::sync::ledger::Ledger;
 
 impl Manager {
     /// A response of what the manager's generations depend on, with the verdicts on its resources: a watched name that is removed
-    /// is told of as absent; then, in order, each resource that is kept arrives, and one that is refused is told of where its
-    /// name is watched. Look-ups are counted: one for each generation that depends on a name that something came for. Without
-    /// memory nothing is promised.
+    /// is reported as absent; then, in order, each resource that is kept arrives, and one that is refused is reported where its
+    /// name is watched. Look-ups are counted: one for each generation that depends on a name that something came for. Out of
+    /// memory, nothing is promised.
     pub fn arrive_all<L: Ledger>(
         &mut self,
         alloc: Global,
@@ -46,7 +46,7 @@ impl Manager {
         Ok(())
     }
 
-    // Watched names that a response removes are told of, but those that stand at a resource.
+    // Watched names that a response removes are reported, except those that a resource has.
     fn tell_absences<L: Ledger>(
         &mut self,
         alloc: Global,
@@ -70,7 +70,7 @@ impl Manager {
         Ok(())
     }
 
-    // A name that is removed is told of, where it is watched and stands at no resource.
+    // A name that is removed is reported, where it is watched and no resource has it.
     fn tell_absence<L: Ledger>(
         &mut self,
         alloc: Global,

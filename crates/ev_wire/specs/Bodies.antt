@@ -88,7 +88,7 @@ content_of Eds body = content_with Assignment (assignment_reading body)
 content_of Lds body = content_with Listener (listener_reading body)
 content_of Rds body = content_with Routes (table_reading body)
 
--- the content, where no rule is broken, and else the least of those that are: by the item itself, and by its content
+-- the content, where no rule is broken, and otherwise the least of those that are: by the item itself, and by its content
 abbrev pub body_with : Option ℕ → Result Content ℕ → Body
 body_with None (Ok content) = Good content
 body_with None (Err rule) = Bad rule

@@ -22,7 +22,7 @@ use std::alloc::{AllocError, Global};
 /// # Errors
 /// `NotResponse` comes where the tree is no object, `nonce` is empty or one of the fields of the message itself
 /// has a wrong form: `type_url` and `nonce` are texts, `removed_resources` is a list of texts, and `resources` a
-/// list of objects whose `name` and `version` are texts. `OutOfMemory` comes without memory.
+/// list of objects whose `name` and `version` are texts. `OutOfMemory` comes where memory runs out.
 pub fn read_response(alloc: Global, value: &Value) -> Result<Response, WireError>
     ensures { Reads result (response_of (view value.now)) }
 {
