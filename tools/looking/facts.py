@@ -104,9 +104,10 @@ class Facts:
 
     def connections(self):
         words = {'served': 'served', 'local': 'answered directly', 'redirect': 'redirected', 'noRoute': 'no route', 'noCluster': 'no cluster',
-                 'noEndpoint': 'no host', 'noListener': 'no listener', 'inUse': 'number in use'}
+                 'noEndpoint': 'no host', 'noListener': 'no listener', 'noChain': 'no filter chain', 'inUse': 'number in use',
+                 'undecided': 'undecided', 'elsewhere': 'gone elsewhere, to a host that no script tells'}
         lines = [f'{count} {words[result]}' for result, count in self.answers.most_common()]
-        bad = any(self.answers[result] for result in ('noRoute', 'noCluster', 'noEndpoint', 'noListener'))
+        bad = any(self.answers[result] for result in ('noRoute', 'noCluster', 'noEndpoint', 'noListener', 'noChain'))
         return Section('Connections tried', lines, alarms=bad, count=sum(self.answers.values()))
 
 

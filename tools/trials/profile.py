@@ -10,7 +10,8 @@ from shared.profiles import ENVOY
 from shared.replayed import replayed
 from shared.teller import DOUBT
 from shared.urls import MANAGER, TCP_PROXY, URLS
-from trials import TOP, called, content, tool, written
+from trials import TOP, called, content, loaded, ran, tool, written
+from trials.look import STAND_IN
 
 FOLDER = f'{TOP}/tools/trials/data/profile'
 HEADER = {'workers': 1, 'profile': 'envoy'}
@@ -58,6 +59,7 @@ def run(check):
         facts(check)
         drawn(check, folder)
         compared(check, folder)
+        others(check, folder)
 
 
 def pair_of(name):
@@ -87,6 +89,23 @@ def faults(check, folder):
     path = written(f'{folder}/script', f'{json.dumps(HEADER)}\n{json.dumps(whole)}\n')
     status, out, errors = called(tool('why'), path)
     check(status == 0 and 'the program doesn\'t take the profile envoy yet' in out, f'why of a script of the profile: {status} {out}{errors}')
+
+
+def others(check, folder):
+    """tally, look and record --compare, with a stand-in for the program."""
+    path, pages = pair_of('chain_matches_that_break_rules')
+    told = loaded('tools/tally').told_of(script.read_script(content(path)), content(pages), False)
+    check(told['refused'] == {'Envoy too': 5, 'not known': 5} and told['rules']['V27'] == 1, f'tally of {path}: {told}')
+    program = written(f'{folder}/program', STAND_IN, 0o755)
+    status, out, errors = ran(f'{TOP}/tools/look', '--program', program, '--out', f'{folder}/look', f'{FOLDER}/clusters_of_each_type.jsonl')
+    check(status == 0 and b'4 gone elsewhere, to a host that no script tells' in out, f'look at a script of the profile: {status} {out} {errors}')
+    path, pages = pair_of('update_waits_for_endpoints')
+    answers = [json.loads(line)['answer'] for line in content(pages).splitlines()[1:-1]]
+    requests = [{'op': 'request', 'message': request} for answer in answers if isinstance(answer, dict) for request in answer.get('requests', [])]
+    lines = [{'op': 'connect', 'protocol': 'incremental'}, *requests, {'op': 'disconnect'}]
+    asked = written(f'{folder}/requests.jsonl', ''.join(json.dumps(line) + '\n' for line in lines))
+    status, out, errors = called(tool('record'), '--program', program, '--compare', path, asked)
+    check(status == 0 and f'{len(requests)} alike' in out and not errors, f'record --compare of a script of the profile: {status} {out} {errors}')
 
 
 # Scripts that are made here
