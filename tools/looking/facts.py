@@ -54,7 +54,7 @@ class Facts:
 
     def refusal(self, line, place, verdict):
         tag, complaints = refusal_words(line, place, verdict)
-        path, words = complaints[0] if complaints else ('', rules.words(int(verdict[1:]), line.response.items[place].profile))
+        path, words = complaints[0] if complaints else ('', rules.words(int(verdict[1:]), line.response.items[place].profile, 'a rule that this tool does not know'))
         return f'refused by {verdict} ({tag}): {shown(path, 120)} {shown(words, 200)}'.replace(':  ', ': ')
 
     # Sections

@@ -20,7 +20,7 @@ HINTS = {
     2: ['a recording of many days: cut it at a disconnect, and replay the parts apart'],
     3: ['a recording of many days: cut it at a disconnect, and replay the parts apart'],
     4: [],
-    5: ['the header is {"workers":N}, and may have "auto", "node" and "profile"'],
+    5: ['the header is {"workers":N}, and may have "auto" and "node"'],
     6: [],
     7: ['raise "workers" in line 1, or use a number below it'],
     8: ['the file is empty, or the command before the pipe wrote nothing'],

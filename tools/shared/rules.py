@@ -1,8 +1,7 @@
 """The rules in words, what to do, and whose they are: short forms of docs/RULES.md, for the tools."""
 import re
 
-from .profiles import ENVOY as ENVOY_PROFILE
-from .profiles import OWN
+from . import profiles
 
 WORDS = {
     1: 'the body is missing, is no object, or its @type isn\'t that of the response',
@@ -92,9 +91,9 @@ WHOSE_OF_ENVOY += [case for case in WHOSE if case[0] not in {rule for rule, _, _
 MISSING = r'has 0 (of|chains)|has neither'
 
 
-def words(rule, profile=OWN):
-    """A rule in words."""
-    return (WORDS_OF_ENVOY.get(rule) if profile == ENVOY_PROFILE else None) or WORDS.get(rule, 'a rule that this tool does not know')
+def words(rule, profile, unknown=''):
+    """A rule in words; those of `unknown` where there is no such rule."""
+    return (WORDS_OF_ENVOY.get(rule) if profile == profiles.ENVOY else None) or WORDS.get(rule, unknown)
 
 
 def telling(complaints):
@@ -103,12 +102,12 @@ def telling(complaints):
     return [(path, words) for path, words in complaints if not (given and re.search(MISSING, words))]
 
 
-def whose(rule, kind, complaints, profile=OWN):
+def whose(rule, kind, complaints, profile=profiles.OWN):
     """Whether Envoy refuses a resource of this kind too that this rule refuses: `Envoy too`, `profile` (this profile alone does) or
     `not known`. The complaints are those of this rule, each a path and words."""
     if rule == 4:
         return ENVOY if kind in ('cds', 'lds') else UNKNOWN
-    found, cases = set(), WHOSE_OF_ENVOY if profile == ENVOY_PROFILE else WHOSE
+    found, cases = set(), WHOSE_OF_ENVOY if profile == profiles.ENVOY else WHOSE
     for path, words in telling(complaints) or [('', '')]:
         found.add(next((of for number, pattern, of in cases if number == rule and re.search(pattern, f'{kind} {path} {words}')), UNKNOWN))
     return next((of for of in (ENVOY, UNKNOWN, PROFILE) if of in found), UNKNOWN)

@@ -219,7 +219,7 @@ class Teller:
         if not is_told:
             return
         rule = int(verdict[1:])
-        self.page.line(f'{text}refused by {verdict} ({tag}): {rules.words(rule, self.reading.profile)}', 'bad', news=True)
+        self.page.line(f'{text}refused by {verdict} ({tag}): {rules.words(rule, self.reading.profile, "a rule this tool does not know")}', 'bad', news=True)
         for path, words in complaints[:MOST_NAMES]:
             self.page.line(f'    {shown(path, 120)} {shown(words, 200)}', news=True)
         self.more(len(complaints) - MOST_NAMES, 'members more')
