@@ -7,8 +7,7 @@ from .shown import quoted
 CRITERIA = ('ports', 'ranges', 'names', 'transports', 'protocols')
 CRITERIA_WORDS = {'ports': 'destinationPort', 'ranges': 'prefixRanges', 'names': 'serverNames', 'transports': 'transportProtocol',
                   'protocols': 'applicationProtocols'}
-FROM_SOURCES = {'direct_source_prefix_ranges': Reader.objects, 'source_prefix_ranges': Reader.objects,
-                'source_ports': lambda reader, holder, name, path: reader.numbers(holder, name, path),
+FROM_SOURCES = {'direct_source_prefix_ranges': Reader.objects, 'source_prefix_ranges': Reader.objects, 'source_ports': Reader.numbers,
                 'source_type': lambda reader, holder, name, path: reader.enumeration(holder, name, path, SOURCE)}
 
 
@@ -28,6 +27,10 @@ class ChainMatch:
     def __hash__(self):
         return hash(self.values())
 
+    def keys(self):
+        """Pairs of port and server name; two matches that clash have one in common."""
+        return {(port, name) for port in self.ports or (None,) for name in self.names or (None,)}
+
     def clashes(self, other):
         """Whether one connection could fit both as well."""
         return not self.sources and not other.sources and all(
@@ -35,6 +38,18 @@ class ChainMatch:
 
 
 ANY = ChainMatch()
+
+
+def clashing(matches):
+    """(place, place of one before it) of each match that clashes with one before it."""
+    places = {}
+    for place, match in enumerate(matches):
+        keys = match.keys()
+        before = sorted({other for key in keys for other in places.get(key, ()) if match.clashes(matches[other])})
+        if before:
+            yield place, before[0]
+        for key in keys:
+            places.setdefault(key, []).append(place)
 
 
 def read_chain_match(reader, match, path):

@@ -81,7 +81,8 @@ def answer_of_target(picture, target, ask):
         return {'result': 'noCluster'}, ''
     cluster, hosts = found
     if 'elsewhere' in cluster.content:
-        return {'cluster': cluster.number, 'result': 'elsewhere'}, f'cluster {quoted(name)} is of {type_words(cluster.content)}: Envoy or an extension finds its host'
+        why = f'cluster {quoted(name)} is of {type_words(cluster.content)}: Envoy or an extension finds its host'
+        return {'cluster': cluster.number, 'result': 'elsewhere'}, why
     least = min((priority for _, _, priority, _ in hosts), default=None)
     hosts = [(host, share) for host, share, priority, _ in hosts if priority == least]
     if not hosts:

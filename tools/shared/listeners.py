@@ -4,7 +4,7 @@ A listener has `address`, `chains` and `default`, and whether it `takes_all` add
 `label`. It serves routes of its own (`routes`), those of a name (`rds`, with `limited`), a target (`target`), or something else (`other`).
 """
 from .addresses import read_address, read_source
-from .chain_matches import ANY, read_chain_match
+from .chain_matches import ANY, clashing, read_chain_match
 from .fields import MAX_NAME, WRONG, Reader, size
 from .profiles import Label
 from .routes import read_routes, read_target
@@ -124,9 +124,8 @@ def read_chains(reader, body, path):
         where = f'{path}.filterChains[{place}]'
         match = read_chain_match(reader, reader.object(chain, 'filter_chain_match', where), f'{where}.filterChainMatch')
         found.append(chain_of(reader, chain, where, match, f'filter chain {place + 1}'))
-        for before, other in enumerate(found[:-1]):
-            if match.clashes(other['match']):
-                reader.breaks(26, f'{where}.filterChainMatch', f'fits what that of filterChains[{before}] fits as well')
+    for place, before in clashing([chain['match'] for chain in found]):
+        reader.breaks(26, f'{path}.filterChains[{place}].filterChainMatch', f'fits what that of filterChains[{before}] fits as well')
     last = chain_of(reader, default, f'{path}.defaultFilterChain', ANY, 'the default filter chain') if isinstance(default, dict) else None
     return tuple(found), last
 

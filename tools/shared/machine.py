@@ -221,6 +221,10 @@ class Machine:
             return True
         return row.is_shown() and (bool(row.toggled) or (row.before is not None and row.before != row.shows()))
 
+    def choice(self, members, worker):
+        """What a worker's picture chooses for an accept; None where what pictures show isn't kept."""
+        return None
+
     def published_before(self, line):
         """The version of the last picture that a line before this one published."""
         return bisect.bisect_left(self.picture_lines, line) - 1

@@ -39,9 +39,8 @@ class Pictured(Machine):
                 versions.append(self.last)
                 values.append(pictured(row))
 
-    def choice(self, ask, worker):
-        """What the picture that a worker holds chooses for an accept."""
-        return choose(Picture(self, self.held[worker]), ask)
+    def choice(self, members, worker):
+        return choose(Picture(self, self.held[worker]), members)
 
     def shown_in(self, rows, version):
         """The generation of these that the picture of a version shows, with what it shows of it, or None."""

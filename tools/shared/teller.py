@@ -30,7 +30,7 @@ ENDS = {'noRoute': 'no route', 'redirect': 'a redirect', 'noCluster': 'its clust
 
 def choice_of(machine, members, worker, answer):
     """The choice behind the answer to an accept, with what the answer leaves unsaid, where the machine keeps its pictures and answers so too."""
-    choice = machine.choice(members, worker) if hasattr(machine, 'choice') else None
+    choice = machine.choice(members, worker)
     return choice if choice and choice.answer == answer else Choice(answer)
 
 
