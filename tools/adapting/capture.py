@@ -8,7 +8,7 @@ import zlib
 from shared.fields import DISCOVERY, WRONG, camel, enumeration
 from shared.json_text import NotJson, fraction
 from shared.progress import Progress
-from shared.resources import KINDS
+from shared.urls import KINDS
 
 BLANK = re.compile(r'[ \t\r\n\ufeff\x1e,]*')
 TOKEN = re.compile(r'"(?:[^"\\]|\\.)*"|[^\s",:\[\]{}]+')

@@ -1,6 +1,6 @@
 """An admin config dump, or bodies that stand alone, as messages: a state, told as the responses that would bring it about."""
 from shared.fields import DISCOVERY, enumeration
-from shared.resources import URLS
+from shared.urls import URLS
 
 from .capture import Unreadable, get, statuses_in, text_in, type_of_body
 from .statuses import assignment_of

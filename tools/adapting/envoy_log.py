@@ -1,7 +1,7 @@
 """Events that Envoy's logs tell of. The texts are from memory of Envoy's documentation and were not checked on an Envoy."""
 import re
 
-from shared.resources import KINDS
+from shared.urls import KINDS
 
 from .capture import get
 

@@ -3,8 +3,11 @@ import copy
 import pickle
 
 from shared import came, rules
+from shared.addresses import read_address
 from shared.fields import DISCOVERY, Reader, camel, enumeration
-from shared.resources import MANAGER, TCP_PROXY, read_address, read_route
+from shared.profiles import ENVOY, OWN
+from shared.routes import read_route
+from shared.urls import MANAGER, TCP_PROXY
 from shared.words import few
 
 from .capture import get, list_in, text_in
@@ -30,11 +33,12 @@ def take_out(holder, *names):
         holder.pop(camel(name), None)
 
 
-def only_profile(kind, broken, numbers):
-    """Whether the rules that are broken are of these numbers, and each this profile's alone."""
-    found = {rule for rule, _, _ in broken}
+def only_profile(kind, reader, numbers):
+    """Whether the rules that are broken are of these numbers, and each its profile's alone."""
+    found, profile = {rule for rule, _, _ in reader.broken}, ENVOY if reader.as_envoy else OWN
     return bool(found) and found <= numbers and all(
-        rules.whose(rule, kind, [(path, words) for number, path, words in broken if number == rule]) == rules.PROFILE for rule in found)
+        rules.whose(rule, kind, [(path, words) for number, path, words in reader.broken if number == rule], profile) == rules.PROFILE
+        for rule in found)
 
 
 def named_endpoint(name, port=0):
@@ -57,6 +61,8 @@ def host_words(host):
 
 class Projection:
     """`level` is none, safe or all. `apply` changes the resources of a message in place and gives those that stand in its stead."""
+
+    profile = OWN
 
     def __init__(self, level, report):
         self.level, self.report, self.stood = level, report, {}
@@ -129,9 +135,9 @@ class Projection:
         for group in objects(assignment, 'endpoints'):
             kept, hosts = [], list_in(group, 'lb_endpoints')
             for host in hosts:
-                reader = Reader()
+                reader = Reader(self.profile)
                 read_address(reader, get(host, 'endpoint'), 'endpoint', 12)
-                if not only_profile('eds', reader.broken, {12}):
+                if not only_profile('eds', reader, {12}):
                     kept.append(host)
                 elif self.level == 'all' and place_of(host):
                     self.change('stand-in', 'host', get(get(host, 'endpoint'), 'address'), ':'.join(map(str, place_of(host))))
@@ -150,7 +156,7 @@ class Projection:
                 reader = Reader()
                 if isinstance(route, dict):
                     read_route(reader, route, '')
-                if only_profile('rds', reader.broken, {21, 22}):
+                if only_profile('rds', reader, {21, 22}):
                     self.change('left-out', f'route {place} of virtual host {get(host, "name")}', route, None)
                 else:
                     kept.append(route)
@@ -180,22 +186,25 @@ class Projection:
 
     def address(self, body):
         """An address that a TCP connection can name, for a listener on UDP, a pipe or an internal one."""
-        self.of_udp = False
         outer = get(body, 'address')
         socket = get(outer, 'socket_address')
+        self.of_udp = get(socket, 'protocol') in ('UDP', 1)
         if isinstance(socket, dict):
-            if get(socket, 'protocol') in ('UDP', 1):
-                self.of_udp = True
-                socket.update(address=f'{get(socket, "address")}#udp', protocol='TCP')
-                self.change('stand-in', 'address', 'UDP', f'TCP at {socket["address"]}')
-            if get(socket, 'port_value') is None:
-                self.change('stand-in', 'address', get(socket, 'named_port'), 'port 0')
-                take_out(socket, 'named_port')
-                socket['port_value'] = 0
+            self.socket(socket)
         elif isinstance(outer, dict) or outer is None:
             path = text_in(get(outer, 'pipe'), 'path') or f'internal:{self.name}'
             body[key_of(body, 'address')] = {'socket_address': {'address': path, 'port_value': 0}}
             self.change('stand-in', 'address', outer, f'{path}, port 0')
+
+    def socket(self, socket):
+        """TCP for UDP, and a port where it is to be found by a name."""
+        if self.of_udp:
+            socket.update(address=f'{get(socket, "address")}#udp', protocol='TCP')
+            self.change('stand-in', 'address', 'UDP', f'TCP at {socket["address"]}')
+        if get(socket, 'port_value') is None:
+            self.change('stand-in', 'address', get(socket, 'named_port'), 'port 0')
+            take_out(socket, 'named_port')
+            socket['port_value'] = 0
 
     def parts_of(self, kind, body, removed):
         """The listeners that stand beside this one, for its further filter chains. Names of such that are gone are added to `removed`."""
@@ -244,3 +253,31 @@ class Projection:
             chain[key_of(chain, 'filters')] = list_in(chain, 'filters') + [copy.deepcopy(EMPTY_MANAGER)]
             self.change('stand-in', 'filters', 'no connection manager or TCP proxy', 'one more filter, a connection manager without routes')
         return chain
+
+
+class ProjectionAsEnvoy(Projection):
+    """The same for a script of the profile envoy, which takes what Envoy takes: but for listeners on UDP, and ports by name."""
+
+    profile = ENVOY
+
+    def cds(self, body):
+        if get(body, 'cluster_type') is None:
+            self.hosts(get(body, 'load_assignment'))
+
+    def rds(self, body):
+        pass
+
+    def lds(self, body):
+        socket = get(get(body, 'address'), 'socket_address')
+        self.of_udp = get(socket, 'protocol') in ('UDP', 1)
+        if self.level == 'all' and isinstance(socket, dict):
+            self.socket(socket)
+            if self.of_udp and get(body, 'default_filter_chain') is None and not list_in(body, 'filter_chains'):
+                body[key_of(body, 'filter_chains')] = [{}]
+                self.change('stand-in', 'filter_chains', 'no filter chain', 'one without filters')
+
+    def parts_of(self, kind, body, removed):
+        return []
+
+
+PROJECTIONS = {OWN: Projection, ENVOY: ProjectionAsEnvoy}

@@ -3,9 +3,11 @@ import contextlib
 import copy
 import json
 
-from shared.resources import KINDS, read_message
+from shared.profiles import ENVOY, OWN
+from shared.resources import read_message
 from shared.script import MAX_INPUT, MAX_LINE, MAX_LINES
 from shared.shown import quoted
+from shared.urls import KINDS
 from shared.words import counted
 
 from . import envoy_log
@@ -14,7 +16,7 @@ from .checked import check
 from .dump import Dump, message_of, wrapped
 from .passed import passed_over
 from .probe import Probes
-from .project import Projection, key_of, take_out
+from .project import PROJECTIONS, key_of, take_out
 from .whole_of import WholeOf
 
 RESOURCE = 'envoy.service.discovery.v3.Resource'
@@ -39,7 +41,8 @@ class ScriptOf:
 
     def __init__(self, chosen, report):
         self.chosen, self.report = chosen, report
-        self.projection, self.probes = Projection(chosen.project, report), Probes()
+        self.profile, self.probes = OWN, Probes()
+        self.go_by(chosen.profile)
         self.whole = WholeOf(report) if chosen.sotw else None
         self.header, self.lines, self.size = {}, [], 0
         self.place, self.origins, self.header_place = 'no input', [], 'the header'  # what a line is made of
@@ -47,6 +50,10 @@ class ScriptOf:
         self.open, self.nonces, self.known, self.last_full = False, 0, 0, {}
         self.clusters, self.hosts = {}, {}  # what clusters and endpoints were told to be; None of endpoints that broke a rule or timed out
         self.good = {}  # of the response that was read last: which resources break no rule
+
+    def go_by(self, profile):
+        """What comes from here on is read by this profile."""
+        self.profile, self.projection = profile, PROJECTIONS[profile](self.chosen.project, self.report)
 
     def take(self, document, place, source):
         """Takes a document. `place` says where it stands, `source` which input it is of."""
@@ -92,6 +99,8 @@ class ScriptOf:
         if not self.lines:
             self.header = dict(tree)
             self.header_place = self.place
+            if tree.get('profile') == ENVOY:
+                self.go_by(ENVOY)
 
     def request(self, tree):
         self.named(text_in(get(tree, 'node'), 'id'))
@@ -145,7 +154,7 @@ class ScriptOf:
             if words == 'endpoints':
                 self.first_waits(state)
         for kind, resource in failed:
-            self.failure(kind, resource, kept[kind, resource['name']], kind == 'cds' and resource['name'] in state.active_clusters())
+            self.failure(kind, resource, kept[kind, resource['name']], state)
 
     def lacks_endpoints(self, state):
         """A dump without any endpoints makes no script, unless that is wanted."""
@@ -189,10 +198,10 @@ class ScriptOf:
         for address, port in places:
             self.write({'op': 'health', 'cluster': name, 'address': address, 'port': port, 'healthy': True})
 
-    def failure(self, kind, resource, kept, is_active):
+    def failure(self, kind, resource, kept, state):
         """Sends what Envoy refused; where it breaks no rule here, what Envoy kept is sent again after it. The first of that is a cluster
         that is active there, or it isn't."""
-        name = resource['name']
+        name, is_active = resource['name'], kind == 'cds' and resource['name'] in state.active_clusters()
         self.report.add('made', kind, name, before='failed_configuration', after='a response', turns=True)
         self.delta(message_of(kind, [resource]))
         if not self.good.get(name):
@@ -205,8 +214,19 @@ class ScriptOf:
             self.report.add('made', kind, name, before='Envoy refused the one before, and this profile doesn\'t',
                             after='a response with what Envoy has' if kept else 'a removal: Envoy has none', turns=True)
             self.delta(message)
-            if is_active and place == 0 and self.good.get(name) and self.clusters[name]['checked']:
-                self.results(name, self.clusters[name])
+            if is_active and place == 0 and self.good.get(name):
+                self.waits_again(name, self.clusters[name], state)
+
+    def waits_again(self, name, content, state):
+        """Ends the wait of an active cluster that was sent again. By the profile envoy its endpoints have to come again too."""
+        kept = state.kept('eds', content['eds']) if content.get('eds') and self.profile == ENVOY else []
+        if kept and self.hosts.get(content['eds']) is not None:
+            self.report.add('made', 'eds', content['eds'], before=f'cluster {quoted(name)} was sent again', after='a response with its endpoints', turns=True)
+            self.delta(message_of('eds', copy.deepcopy(kept[-1:])))
+        elif content.get('eds') and self.profile == ENVOY:
+            self.timeout(name, content)
+        if content['checked']:
+            self.results(name, content)
 
     # Responses
 
@@ -314,7 +334,7 @@ class ScriptOf:
 
     def look_at(self, message):
         """Notes what is refused or passed over in a response as it is written."""
-        response, complaints = read_message(message)
+        response, complaints = read_message(message, profile=self.profile)
         if response is None:
             raise Unreadable('a message is no response: ' + '; '.join(f'{path} {words}' for path, words in complaints[:3]))
         if response.kind is None:
@@ -363,6 +383,8 @@ class ScriptOf:
             self.header['workers'] = self.chosen.workers
         if self.chosen.auto:
             self.header['auto'] = True
+        if self.profile != OWN:
+            self.header['profile'] = self.profile
         lines = [compact({'workers': 1, **self.header}), *self.lines]
         check(lines, [self.header_place, *self.origins], self.chosen.sotw)
         return lines

@@ -1,5 +1,5 @@
 """Hosts with their states, as `istioctl proxy-config endpoints -o json` and Envoy's `/clusters?format=json` print them."""
-from shared.resources import URLS
+from shared.urls import URLS
 
 from .capture import get, list_in, text_in
 

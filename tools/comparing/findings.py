@@ -3,16 +3,17 @@ from collections import Counter
 
 from shared import rules
 from shared.bodies import differences
-from shared.resources import WORD, WORDS
 from shared.shown import named, quoted, shown
+from shared.urls import WORD, WORDS
 from shared.words import content_words, counted, few
 
 from .outcome import Sent, of_kinds
 
 REGRESSION, CHANGED, UNJUDGED = 'REGRESSION', 'CHANGED', 'UNJUDGED'
-ANSWERED = ('served', 'local', 'redirect')
-RESULTS = {'redirect': 'a redirect', 'noListener': 'no listener', 'noRoute': 'no route', 'noCluster': 'its cluster isn\'t there',
-           'noEndpoint': 'its cluster has no host that may be chosen'}
+ANSWERED = ('served', 'local', 'redirect', 'elsewhere')
+RESULTS = {'redirect': 'a redirect', 'noListener': 'no listener', 'noChain': 'no filter chain', 'noRoute': 'no route',
+           'noCluster': 'its cluster isn\'t there', 'noEndpoint': 'its cluster has no host that may be chosen',
+           'undecided': 'undecided: no script tells which way it goes', 'elsewhere': 'goes elsewhere, where no script tells its host'}
 # The most places that are named of one pair of bodies.
 MOST_PLACES = 20
 
@@ -42,7 +43,7 @@ class Finding:
 def compared(old, new, also, strict):
     """(findings, what is the same in words). `also` has what else is compared: nonce, version, order, line."""
     keys = list(dict.fromkeys([*old.generations, *new.generations, *old.refusals, *new.refusals]))
-    findings = phase(old, new)
+    findings = phase(old, new) + profiles(old, new)
     for key in keys:
         findings += [*refusals(key, old, new, strict), *states(key, old, new), *contents(key, old, new)]
     findings += [*unjudged(old, new), *envoy_waits(old, new)]
@@ -60,6 +61,13 @@ def phase(old, new):
     return []
 
 
+def profiles(old, new):
+    if old.reading.profile == new.reading.profile:
+        return []
+    names = ['this project\'s own' if side.reading.profile is None else quoted(side.reading.profile) for side in (new, old)]
+    return [Finding(CHANGED, 'run', 'profile', f'{names[0]}, before {names[1]}')]
+
+
 # Refusals
 
 def refusals(key, old, new, strict):
@@ -71,17 +79,17 @@ def refusals(key, old, new, strict):
         for of in more:
             kind = CHANGED if of == rules.PROFILE and not strict else REGRESSION
             how = f'refused by {verdict} as before, which was ({less[0]}) and is' if less else f'newly refused by {verdict}'
-            yield Finding(kind, *key, f'{how} ({of}): {reason(new.refusals[key], verdict, of)}')
+            yield Finding(kind, *key, f'{how} ({of}): {reason(new.refusals[key], verdict, of, new.reading.profile)}')
         if less and not more and key in new.present:
             left = sum(count for (found, _), count in now.items() if found == verdict)
             yield Finding(CHANGED, *key, f'refused by {verdict} less often' if left else f'not refused by {verdict} any more')
-        bodies = [Sent(one[3] for one in side.refusals.get(key, ()) if one[0] == verdict) for side in (old, new)]
+        bodies = [Sent((one[3] for one in side.refusals.get(key, ()) if one[0] == verdict), side.reading.profile) for side in (old, new)]
         yield from unread(key, *bodies, True, f'; refused by {verdict}, so not judged')
 
 
-def reason(refused, verdict, of):
+def reason(refused, verdict, of, profile):
     complaints = next(complaints for found, tag, complaints, _ in reversed(refused) if (found, tag) == (verdict, of))
-    return ', '.join(f'{path.split(".resource.", 1)[-1]} {words}' for path, words in complaints[:2]) or rules.WORDS.get(int(verdict[1:]), '')
+    return ', '.join(f'{path.split(".resource.", 1)[-1]} {words}' for path, words in complaints[:2]) or rules.words(int(verdict[1:]), profile)
 
 
 # What nothing here judges
@@ -91,7 +99,7 @@ def unread(key, olds, news, alike, why='', generation=None):
     places, counts = {}, [len(side.resources) for side in (olds, news)]
     for (old, was), (new, now) in zip(reversed(olds.resources), reversed(news.resources)):
         if was != now:
-            found = {difference.words(): difference.path for difference in differences(key[0], old, new, alike)}
+            found = {difference.words(): difference.path for difference in differences(key[0], old, new, alike, news.profile)}
             places.update(found or ({'its body differs': None} if alike else {}))
     for words in list(places)[:MOST_PLACES]:
         yield Finding(UNJUDGED, *key, words + why, generation, places[words])
@@ -155,7 +163,7 @@ def states(key, old, new):
         yield Finding(CHANGED, *key, 'serves' + (', and warmed on before' if old_warms else ', and is new'), generation)
     if key[0] == 'cds' and old_serves and serves and old_serves.results != serves.results:
         yield from results(key, old_serves, serves, generation)
-    if key[0] == 'cds' and old_serves and serves and old_serves.eligible and not serves.eligible:
+    if key[0] == 'cds' and old_serves and serves and old_serves.eligible and serves.lacking():
         yield Finding(REGRESSION, *key, f'has no host that may be chosen; it had {old_serves.eligible}', generation)
 
 
@@ -186,7 +194,7 @@ def change_words(kind, before, after):
     if kind == 'rds':
         return route_words(before or (), after or ())
     was, now = content_words(kind, before), content_words(kind, after)
-    if 'rows' in (before or {}) and 'rows' in (after or {}) and before['rows'] != after['rows']:
+    if all('rows' in (content or {}) and 'elsewhere' not in content for content in (before, after)) and before['rows'] != after['rows']:
         return host_words(before['rows'], after['rows'])
     return f'{now}; before {was}' if was != now else f'{now}, in another way than before'
 
@@ -223,8 +231,10 @@ def connections(old, new):
 
 
 def connection(ask, was, now):
-    address, port, host, path, pick = ask
-    name = f'connection to {named(address, 60)}:{port}, host {quoted(host, 60)}, path {quoted(path, 60)}' + (f', pick {pick}' if pick else '')
+    address, port, host, path, pick, more = ask
+    name = f'connection to {named(address, 60)}:{port}, host {quoted(host, 60)}, path {quoted(path, 60)}' + (f', pick {pick}' if pick else '') + more
+    if was and now and now[0] == 'undecided' and was[0] in ANSWERED:
+        return Finding(UNJUDGED, 'connection', name, f'{result_words(now)}; before {result_words(was)}')
     if was and was[0] in ANSWERED and (now is None or now[0] not in ANSWERED):
         lost = result_words(now) if now else 'not asked any more: its listener, domain or route is gone'
         return Finding(REGRESSION, 'connection', name, f'{lost}; before {result_words(was)}')
@@ -241,6 +251,8 @@ def result_words(result):
     kind, what, host = result
     if kind == 'served':
         return f'served by cluster {quoted(what, 60)} at {named(host[0], 60)}:{host[1]}'
+    if kind == 'elsewhere' and what:
+        return f'goes on from cluster {quoted(what, 60)} to a host that no script tells'
     return f'answered with status {what}' if kind == 'local' else RESULTS.get(kind, kind)
 
 

@@ -2,17 +2,19 @@
 from shared.bodies import resources_of, sent
 from shared.envoy_waits import EnvoyWaits
 from shared.fields import Reader
-from shared.machine import Machine
 from shared.pair import NotTheJournal
-from shared.resources import KINDS
+from shared.pictures import follower
+from shared.profiles import OWN
+from shared.urls import KINDS
+from shared.words import more_asked
 
 
 class Sent:
     """Resources that were sent one after the other, without those that repeat the one before, each with the text of all that stands in it
     beside its name and version."""
 
-    def __init__(self, resources=()):
-        self.resources = []
+    def __init__(self, resources=(), profile=OWN):
+        self.resources, self.profile = [], profile
         for resource in resources:
             self.add(resource)
 
@@ -25,8 +27,8 @@ class Sent:
 class Generation:
     """A generation of a cluster or listener, or a value of endpoints or routes, with the resources that brought it."""
 
-    def __init__(self, content):
-        self.content, self.sent = content, Sent()
+    def __init__(self, content, profile):
+        self.content, self.sent = content, Sent(profile=profile)
 
 
 class Outcome:
@@ -34,7 +36,7 @@ class Outcome:
 
     def __init__(self, pair):
         self.reading = pair.reading
-        self.machine, self.envoy = Machine(pair.reading.workers, pair.format), EnvoyWaits(pair.reading)
+        self.machine, self.envoy = follower(pair.reading, pair.format), EnvoyWaits(pair.reading)
         self.generations, self.refusals, self.asks = {}, {}, {}
         self.unjudged, self.present, self.anew = {}, set(), []
         self.names, self.versions, self.nonces, self.order = {}, {}, [], []
@@ -52,7 +54,7 @@ class Outcome:
             self.respond(line, row.answer, first)
         elif row.op == 'accept' and row.answer != 'inUse':
             members = line.members
-            ask = members['address'], members['port'], members['host'], members['path'], members['pick']
+            ask = members['address'], members['port'], members['host'], members['path'], members['pick'], more_asked(members)
             self.asks.setdefault(ask, []).append(self.result(row.answer))
 
     def respond(self, line, answer, number):
@@ -72,17 +74,20 @@ class Outcome:
                 self.versions[key] = item.version
                 self.settle(key, verdict, item.content, resource)
             elif verdict == 'unasked':
-                self.unjudged.setdefault(key, Sent()).add(resource)
+                self.unjudged.setdefault(key, self.none_sent()).add(resource)
             if verdict == 'new':
                 self.names[number] = item.name
                 number += 1
         if number != self.machine.next:
             raise NotTheJournal('its generations aren\'t those of the script')
 
+    def none_sent(self):
+        return Sent(profile=self.reading.profile)
+
     def settle(self, key, verdict, content, resource):
         found = self.generations.setdefault(key, [])
         if not found or not (verdict == 'same' or (verdict == 'kept' and found[-1].content == content)):
-            found.append(Generation(content))
+            found.append(Generation(content, self.reading.profile))
         found[-1].sent.add(resource)
 
     def ignore(self, line):
@@ -90,10 +95,10 @@ class Outcome:
         response = line.response
         of = response.kind or response.url or ''
         for resource in resources_of(line):
-            self.unjudged.setdefault((of, name_of(resource)), Sent()).add(resource)
+            self.unjudged.setdefault((of, name_of(resource)), self.none_sent()).add(resource)
         removed = Reader().any(line.members['message'], 'removed_resources', '')
         for name in removed if isinstance(removed, list) else []:
-            self.unjudged.setdefault((of, name if isinstance(name, str) else ''), Sent()).add({'removed': True})
+            self.unjudged.setdefault((of, name if isinstance(name, str) else ''), self.none_sent()).add({'removed': True})
 
     def result(self, answer):
         """What a connection got: (result, name of the cluster or status, host)."""
@@ -101,6 +106,8 @@ class Outcome:
             return answer, None, None
         if answer['result'] == 'served':
             return 'served', self.names.get(answer['cluster']), (answer['address'], answer['port'])
+        if answer['result'] == 'elsewhere':
+            return 'elsewhere', self.names.get(answer.get('cluster')), None
         return answer['result'], answer.get('status'), None
 
     def live(self, key):

@@ -3,10 +3,10 @@ import json
 from collections import Counter
 
 from shared import rules
-from shared.machine import Machine
-from shared.resources import WORD, WORDS
+from shared.pictures import follower
 from shared.shown import quoted, shown
 from shared.teller import refusal_words
+from shared.urls import WORD, WORDS
 from shared.words import counted
 
 MOST_WORDS = 400
@@ -28,7 +28,7 @@ class Facts:
 
     def __init__(self, pair, report, errors):
         self.report, self.errors = report, list(errors)
-        self.machine = Machine(pair.reading.workers, pair.format)
+        self.machine = follower(pair.reading, pair.format)
         self.verdicts, self.by_nonce, self.refusals, self.answers = {}, {}, Counter(), Counter()
         for entry in pair.entries():
             self.take(entry)
@@ -54,7 +54,7 @@ class Facts:
 
     def refusal(self, line, place, verdict):
         tag, complaints = refusal_words(line, place, verdict)
-        path, words = complaints[0] if complaints else ('', rules.WORDS.get(int(verdict[1:]), 'a rule that this tool does not know'))
+        path, words = complaints[0] if complaints else ('', rules.words(int(verdict[1:]), line.response.items[place].profile, 'a rule that this tool does not know'))
         return f'refused by {verdict} ({tag}): {shown(path, 120)} {shown(words, 200)}'.replace(':  ', ': ')
 
     # Sections
@@ -104,9 +104,10 @@ class Facts:
 
     def connections(self):
         words = {'served': 'served', 'local': 'answered directly', 'redirect': 'redirected', 'noRoute': 'no route', 'noCluster': 'no cluster',
-                 'noEndpoint': 'no host', 'noListener': 'no listener', 'inUse': 'number in use'}
+                 'noEndpoint': 'no host', 'noListener': 'no listener', 'noChain': 'no filter chain', 'inUse': 'number in use',
+                 'undecided': 'undecided', 'elsewhere': 'gone elsewhere, to a host that no script tells'}
         lines = [f'{count} {words[result]}' for result, count in self.answers.most_common()]
-        bad = any(self.answers[result] for result in ('noRoute', 'noCluster', 'noEndpoint', 'noListener'))
+        bad = any(self.answers[result] for result in ('noRoute', 'noCluster', 'noEndpoint', 'noListener', 'noChain'))
         return Section('Connections tried', lines, alarms=bad, count=sum(self.answers.values()))
 
 

@@ -3,8 +3,8 @@ import glob
 import os
 
 from adapting.capture import Unreadable, documents, get, text_in, text_of
-from shared.resources import KINDS
 from shared.shown import quoted, read_file
+from shared.urls import KINDS
 
 
 def inputs_of(paths):

@@ -9,8 +9,8 @@ from . import TOP, said
 from .archive import owner
 
 TAKEN = ('README.md', 'CONTRIBUTING.md', 'warmgate', 'docs/', 'examples/', 'tools/')
-FOR_CONTRIBUTORS = ('tools/check', 'tools/fail', 'tools/gate_minutes', 'tools/package', 'tools/packing/', 'tools/pages', 'tools/refuse', 'tools/threads',
-                    'tools/trials/')
+FOR_CONTRIBUTORS = ('tools/check', 'tools/fail', 'tools/gate_minutes', 'tools/over_sources', 'tools/package', 'tools/packing/', 'tools/pages',
+                    'tools/refuse', 'tools/threads', 'tools/trials/')
 PASSED = re.compile(r'\d+ passed, 0 failed')
 
 

@@ -2,9 +2,9 @@
 from collections import Counter, deque
 
 from shared.json_text import NotJson, read_tree
-from shared.resources import KINDS, WORDS
 from shared.shown import quoted, value_shown
 from shared.statuses import WrongInput
+from shared.urls import KINDS, WORDS
 
 from .protocols import DELTA, STATE_OF_THE_WORLD
 

@@ -10,7 +10,7 @@ from shared import script
 from shared.shown import escaped, quoted
 
 from .decoding import NotDecoded, Printer, decoded, outline
-from .protocols import REQUESTS, RESPONSES, STATE_OF_THE_WORLD
+from .protocols import PROFILE, REQUESTS, RESPONSES, STATE_OF_THE_WORLD
 from .replies import Lines
 from .sotw import Incremental
 
@@ -157,10 +157,10 @@ class Recording:
         """Writes the header, once, with the node's id where it can stand there."""
         if self.begun:
             return
-        header = {'workers': 1, **({'node': node} if node else {})}
+        header = {'workers': 1, **({'node': node} if node else {}), **({'profile': PROFILE} if PROFILE else {})}
         if script.read_script(text_of(header)).faults:
             self.notes.add(f'the node\'s id has {len(node.encode())} bytes: it is left out of the header')
-            header = {'workers': 1}
+            del header['node']
         self.begun, self.node = True, header.get('node')
         if self.replies:
             self.replies.begin(self.node or 'warmgate')

@@ -10,11 +10,11 @@ from shared import script
 from shared.answers import NACK, Answering
 from shared.json_text import compact
 from shared.replayed import WholeRequests
-from shared.resources import KINDS
+from shared.urls import KINDS
 from shared.whole import Whole
 
 from .program import answers_of
-from .protocols import COMMANDS, STATE_OF_THE_WORLD
+from .protocols import COMMANDS, PROFILE, STATE_OF_THE_WORLD
 
 
 class Lines:
@@ -23,6 +23,7 @@ class Lines:
     def __init__(self, whole=False):
         self.reading = script.Reading()
         self.reading.workers, self.reading.whole = 1, Whole() if whole else None
+        self.reading.takes(PROFILE)
         self.count = 0
 
     def read(self, text):
@@ -48,7 +49,7 @@ class Replies:
         self.waiting, self.sums, self.lost_nonces = [], {}, {}
 
     def begin(self, node):
-        self.machine = Answering(1, 2, node)
+        self.machine = Answering(1, 2, node, PROFILE)
         self.whole = WholeRequests(self.machine) if self.protocol == STATE_OF_THE_WORLD else None
 
     def take(self, line, at):

@@ -1,5 +1,5 @@
 """State-of-the-world responses made incremental, so that `replay` takes them."""
-from shared.resources import KINDS
+from shared.urls import KINDS
 
 WRAPPED = 'type.googleapis.com/envoy.service.discovery.v3.Resource'
 WHOLE = ('cds', 'lds')

@@ -6,20 +6,19 @@ chooses for a connection. Not proved: the definitions in docs/DEFINITIONS.md and
 import bisect
 import collections
 
-from .machine import Machine
-from .resources import URLS
+from .pictures import Pictured
+from .urls import URLS
 
 NACK = 13
 
 
-class Answering(Machine):
+class Answering(Pictured):
     """A machine that answers: `advance` applies one operation and gives its answer, as a journal writes it."""
 
-    def __init__(self, workers, format, node):
-        super().__init__(workers, format)
+    def __init__(self, workers, format, node, profile):
+        super().__init__(workers, format, profile)
         self.node, self.versions, self.lives = node, {kind: {} for kind in URLS}, set()
-        self.at_address, self.by_name, self.histories, self.expired = {}, {}, {}, set()
-        self.open_of, self.destroyed = collections.Counter(), {}
+        self.expired, self.open_of, self.destroyed = set(), collections.Counter(), {}
 
     def advance(self, line, op, worker, at):
         phase, is_open, self.destroyed = self.phase, self.open, {}
@@ -67,8 +66,9 @@ class Answering(Machine):
         if 'name' not in members:
             return 'ignored' if kind in self.first or (kind == 'lds' and self.phase == 'clusters') else {'requests': []}
         key = kind, members['name']
-        waits = any(row.limited() for row in self.dependents.get(key, {}).values())
-        return {'requests': []} if waits and key not in self.told and key not in self.timed else 'ignored'
+        waits = any(row.has_limit(key) and not self.is_told(key, row) and not self.is_timed(key, row)
+                    for row in self.dependents.get(key, {}).values())
+        return {'requests': []} if waits else 'ignored'
 
     def decide_drain_timeout(self, members, worker, line):
         return 'done' if self.drains.get(members['listener']) else 'ignored'
@@ -83,7 +83,7 @@ class Answering(Machine):
         return {'reaped': self.dead()}
 
     def decide_accept(self, members, worker, line):
-        return 'inUse' if (worker, members['conn']) in self.connections else self.choose(members, self.held[worker])
+        return 'inUse' if (worker, members['conn']) in self.connections else self.choice(members, worker).answer
 
     def decide_close(self, members, worker, line):
         return 'done' if (worker, members['conn']) in self.connections else 'notOpen'
@@ -118,7 +118,7 @@ class Answering(Machine):
         if kind == 'lds' and self.is_taken(item, gone, made, places):
             return 'V15'
         row = self.newest(kind, item.name)
-        return 'same' if row and item.name not in made and row.content == item.content else 'new'
+        return 'same' if row and item.name not in made and row.alike == item.alike else 'new'
 
     def is_taken(self, item, gone, made, places):
         """Whether a live listener of another name has the address, after removals and what was made earlier in the response."""
@@ -145,20 +145,11 @@ class Answering(Machine):
 
     # What changes beside the machine's own
 
-    def make(self, kind, item):
-        super().make(kind, item)
-        row = self.rows[self.next - 1]
-        place = self.at_address.setdefault(row.content['address'], {}) if kind == 'lds' else self.by_name.setdefault(row.name, {})
-        place[row.number] = row
-        self.histories[row.number] = ([], [])
-
     def destroy(self, number):
         row = self.rows.get(number)
         super().destroy(number)
         if row:
             self.destroyed[number] = row
-            (self.at_address[row.content['address']] if row.kind == 'lds' else self.by_name[row.name]).pop(number)
-            self.histories.pop(number)
             self.expired.discard(number)
 
     def use(self, worker, conn, numbers):
@@ -203,50 +194,6 @@ class Answering(Machine):
         self.versions[key[0]].pop(key[1], None)
         self.lives.discard(key)
 
-    def publish(self, at):
-        changed = [self.rows[number] for number in self.unpublished if number in self.rows]
-        super().publish(at)
-        for row in changed:
-            if row.is_shown():
-                versions, values = self.histories[row.number]
-                versions.append(self.last)
-                values.append(pictured(row))
-
-    # What a picture chooses
-
-    def choose(self, ask, version):
-        found = self.shown_in(self.at_address.get((ask['address'], ask['port']), {}), version)
-        if found is None:
-            return 'noListener'
-        listener, serves = found
-        target, answer = serves.get('target'), {'listener': listener.number}
-        if target is None:
-            actions, action = route_of(serves.get('routes', ()), ask['host'].encode(), ask['path'].encode()) or ((), None)
-            if actions == ('direct_response',):
-                return {**answer, 'result': 'local', 'status': action}
-            if actions != ('route',):
-                return {**answer, 'result': 'redirect' if actions else 'noRoute'}
-            target = action
-        name, weight = target_of(target, ask['pick'])
-        found = self.shown_in(self.by_name.get(name, {}), version)
-        if found is None:
-            return {**answer, 'result': 'noCluster'}
-        cluster, hosts = found
-        least = min((priority for _, _, priority, _ in hosts), default=None)
-        hosts = [(host, share) for host, share, priority, _ in hosts if priority == least]
-        if not hosts:
-            return {**answer, 'result': 'noEndpoint'}
-        address, port = by_weight(hosts, ask['pick'] // weight)
-        return {**answer, 'address': address, 'cluster': cluster.number, 'port': port, 'result': 'served'}
-
-    def shown_in(self, rows, version):
-        """The generation of these that the picture of a version shows, with what it shows of it, or None."""
-        for row in rows.values():
-            if row.in_picture(version, self.last):
-                versions, values = self.histories[row.number]
-                return row, values[bisect.bisect_right(versions, version) - 1]
-        return None
-
 
 DECIDE = {'connect': Answering.decide_connect, 'disconnect': Answering.decide_disconnect, 'response': Answering.decide_response,
           'health': Answering.decide_health, 'fetchTimeout': Answering.decide_fetch_timeout,
@@ -263,68 +210,3 @@ def connections_of(users, worker):
 def request(kind, **members):
     """A request of a kind, without the members that are empty."""
     return {**{name: value for name, value in members.items() if value}, 'typeUrl': URLS[kind]}
-
-
-def pictured(row):
-    """What a picture shows of a generation: the hosts that may be chosen, or what the listener serves."""
-    if row.kind == 'cds':
-        return [host for host in row.assigned if host[3] and (not row.checked or row.results.get(host[0]) is True)]
-    return {'routes': row.assigned} if row.depends() else row.content['serves']
-
-
-def folded(name):
-    """Bytes with ASCII letters as lower case."""
-    return name.lower()
-
-
-def route_of(hosts, host, path):
-    """(actions, action) of the first route that takes the path in the virtual host of a host, or None."""
-    routes = virtual_host(hosts, folded(host))
-    cut = path.partition(b'?')[0]
-    for match, actions, action in routes or ():
-        (way, text), = match
-        text = text.encode()
-        if (way == 'prefix' and path.startswith(text)) or (way == 'path' and cut == text) or (
-                way == 'path_separated_prefix' and (cut == text or cut.startswith(text + b'/'))):
-            return actions, action
-    return None
-
-
-def virtual_host(hosts, host):
-    """The routes of the virtual host that a host falls to: an equal domain, the longest *suffix, the longest prefix*, then *."""
-    best, found = (0, 0), None
-    for _, domains, routes in hosts:
-        for domain in domains:
-            fit = fit_of(folded(domain.encode()), host)
-            if fit and fit > best:
-                best, found = fit, routes
-    return found
-
-
-def fit_of(domain, host):
-    if domain == host:
-        return 4, 0
-    if domain == b'*':
-        return 1, 0
-    if domain[:1] == b'*':
-        return (3, len(domain)) if host.endswith(domain[1:]) and len(host) >= len(domain) else None
-    if domain[-1:] == b'*':
-        return (2, len(domain)) if host.startswith(domain[:-1]) and len(host) >= len(domain) else None
-    return None
-
-
-def target_of(target, pick):
-    """(name of the cluster that a pick falls on, sum of the weights)."""
-    if isinstance(target, str):
-        return target, 1
-    return by_weight(target, pick), sum(weight for _, weight in target)
-
-
-def by_weight(entries, pick):
-    """The first entry whose running sum of weights is above the pick, modulo their sum."""
-    rest = pick % sum(weight for _, weight in entries)
-    for entry, weight in entries:
-        if rest < weight:
-            return entry
-        rest -= weight
-    return None

@@ -4,7 +4,8 @@ from collections import Counter
 
 from .came import MEMBER, came
 from .fields import DISCOVERY, camel, enumeration
-from .members import BODIES, CONFIGS, FILTER, GROUP, ROUTE
+from .members import BODIES, of
+from .profiles import ENVOY, OWN
 from .spelling import snake
 
 # Members of which only a part is read: that they are there, their sign, or their form.
@@ -68,26 +69,30 @@ def original(resource):
     return body_of(resource) if found is None else found
 
 
-def differences(kind, old, new, alike):
+def differences(kind, old, new, alike, profile=OWN):
     """What nothing here judges of two resources: of a type that is read its `kind`, else None. `alike` is whether all that is read of
     their bodies is equal, or nothing of them is read; otherwise what is read is told elsewhere."""
-    stand_ins = list(between(kind, canonical(body_of(old)), canonical(body_of(new))))
+    stand_ins = list(between(kind, canonical(body_of(old)), canonical(body_of(new)), profile))
     yield from (found for found in stand_ins if alike or not found.read)
     told = {found.path for found in stand_ins}
     if came(old) is not None or came(new) is not None:
-        yield from (found for found in between(kind, canonical(original(old)), canonical(original(new))) if found.path not in told)
+        yield from (found for found in between(kind, canonical(original(old)), canonical(original(new)), profile) if found.path not in told)
     yield from walk(outer(old), outer(new), None, '')
 
 
-def between(kind, old, new):
+def between(kind, old, new, profile):
     """Differences of two canonical bodies."""
-    yield from walk(old, new, table_of(kind, old, new), '')
+    yield from walk(old, new, table_of(kind, profile, old, new), '')
 
 
-def table_of(kind, *bodies):
-    """The members that are read. Hosts that stand in a cluster are read of type STATIC alone."""
-    table = BODIES.get(kind)
-    if kind == 'cds' and not all(isinstance(body, dict) and enumeration(body.get('type', 0), DISCOVERY) == 0 for body in bodies):
+# The types of clusters that have their hosts in them.
+WITH_HOSTS = {OWN: ('STATIC',), ENVOY: ('STATIC', 'STRICT_DNS', 'LOGICAL_DNS')}
+
+
+def table_of(kind, profile, *bodies):
+    """The members that are read. Hosts that stand in a cluster are read of its type."""
+    table, kinds = BODIES[profile].get(kind), [DISCOVERY[word] for word in WITH_HOSTS[profile]]
+    if kind == 'cds' and not all(isinstance(body, dict) and enumeration(body.get('type', 0), DISCOVERY) in kinds for body in bodies):
         table = {name: part for name, part in table.items() if name != 'load_assignment'}
     return table
 
@@ -104,12 +109,12 @@ def walk(old, new, table, path):
 
 
 def objects(old, new, table, path):
-    if table is CONFIGS:
+    if of(table) == 'config':
         urls = [tree.get('@type') for tree in (old, new)]
         if urls[0] != urls[1]:
-            yield Difference(f'{path}.@type', 'differs', any(isinstance(url, str) and url in CONFIGS for url in urls))
+            yield Difference(f'{path}.@type', 'differs', any(isinstance(url, str) and url in table for url in urls))
             return
-        table = CONFIGS.get(urls[0]) if isinstance(urls[0], str) else None
+        table = table.get(urls[0]) if isinstance(urls[0], str) else None
     for name in dict.fromkeys([*old, *new]):
         below, where = below_of(table, name), f'{path}.{name}' if path else name
         if name in old and name in new:
@@ -120,7 +125,7 @@ def objects(old, new, table, path):
 
 def below_of(table, name):
     known = snake(name)
-    if table is None or known in PARTLY or (table is ROUTE and known == 'name') or (table is GROUP and known == 'load_balancing_weight'):
+    if table is None or known in PARTLY or (of(table) == 'route' and known == 'name') or (of(table) == 'group' and known == 'load_balancing_weight'):
         return None
     return table.get(known)
 
@@ -140,7 +145,7 @@ def lists(old, new, table, path):
             else:
                 yield Difference(where, 'is new' if after else 'is gone', is_read(part, table))
     if order_differs(old, new):
-        yield Difference(path, 'has another order', table is not None and table is not FILTER)
+        yield Difference(path, 'has another order', table is not None and of(table) != 'filter')
 
 
 def matched(olds, news):
@@ -160,9 +165,9 @@ def matched(olds, news):
 
 
 def is_read(part, table):
-    if table is FILTER:
+    if of(table) == 'filter':
         url = part['typedConfig'].get('@type') if isinstance(part, dict) and isinstance(part.get('typedConfig'), dict) else None
-        return isinstance(url, str) and url in CONFIGS
+        return isinstance(url, str) and url in table['typed_config']
     return table is not None
 
 

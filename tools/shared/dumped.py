@@ -2,9 +2,9 @@
 from .finding import Walk
 from .journal import generation, has, list_of, name, u32, u64
 from .json_text import NotJson, compact, read_tree
-from .resources import WORD
 from .shown import named
 from .statuses import WrongInput
+from .urls import WORD
 from .words import counted
 
 PHASES = {'clusters': 'it waits for the first clusters', 'listeners': 'it waits for the first listeners', 'serving': 'it serves'}

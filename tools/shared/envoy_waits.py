@@ -7,8 +7,9 @@ A script of the profile `envoy` has neither.
 import collections
 
 from .bodies import canonical, differences, original, resources_of, text_of
-from .resources import WORD
+from .profiles import ENVOY
 from .shown import quoted
+from .urls import WORD
 from .words import few
 
 MOST = 3
@@ -47,7 +48,7 @@ class EnvoyWaits:
     `waits` are those that go on, by the cluster's name."""
 
     def __init__(self, reading):
-        self.is_other, self.whole = getattr(reading, 'profile', None) != 'envoy', reading.whole is not None
+        self.is_other, self.whole = reading.profile != ENVOY, reading.whole is not None
         self.bodies, self.waits, self.begun, self.over = {}, {}, [], []
         self.of_endpoints = collections.defaultdict(dict)  # the waits by the name of endpoints, and then by the cluster's
 
@@ -85,9 +86,9 @@ class EnvoyWaits:
         if row is None or (verdict == 'same' and not changed):
             return
         self.forget(kind, item.name, at)
-        name = row.depends() if kind == 'cds' and machine.is_answered(row) else None
+        name = row.names()[0] if kind == 'cds' and row.dependencies and machine.is_answered(row) else None
         if name or changed:
-            found = Wait(kind, item.name, row.number, at, name, row.limited(), changed)
+            found = Wait(kind, item.name, row.number, at, name, row.has_limit(name), changed)
             self.begun.append(found)
             if name:
                 self.waits[item.name] = self.of_endpoints[name[1]][item.name] = found

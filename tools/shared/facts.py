@@ -5,7 +5,7 @@ docs/TIMELINE.md lists the members. They are those that Teller tells in words, w
 from collections import Counter
 
 from .envoy_waits import EnvoyWaits
-from .teller import refusal_words
+from .teller import choice_of, refusal_words
 
 
 def facts_of(pair, machine):
@@ -29,6 +29,9 @@ class Facts:
         found = {'line': row.at, 'step': row.step, 'actor': row.actor, 'op': row.op, 'answer': row.answer}
         if row.op == 'response':
             found.update(self.response(line, row.answer, first))
+        if row.op == 'accept':
+            choice = choice_of(machine, line.members, entry.worker, row.answer)
+            found.update(chain=choice.chain or None, why=choice.why or None)
         found['became'] = self.became()
         found['waits'] = self.waits(sorted(machine.touched))
         found['envoy'] = [self.envoy_wait(wait) for wait in self.envoy.begun]

@@ -5,17 +5,20 @@ A Reader collects what is broken: (rule, path, words). A form gives the value, N
 import functools
 import re
 
+from .profiles import ENVOY, OWN
 from .shown import value_shown
 
 WRONG = object()
 MAX_NAME = 512
 MAX_U32 = 2 ** 32 - 1
+U32 = 'a whole number from 0 to 4294967295'
 DURATION = re.compile(r'(-?)([0-9]{1,12})(?:\.([0-9]{1,9}))?s')
 MOST_SECONDS = 315576000000
 
 DISCOVERY = {'STATIC': 0, 'STRICT_DNS': 1, 'LOGICAL_DNS': 2, 'EDS': 3, 'ORIGINAL_DST': 4}
 HEALTH = {'UNKNOWN': 0, 'HEALTHY': 1, 'UNHEALTHY': 2, 'DRAINING': 3, 'TIMEOUT': 4, 'DEGRADED': 5}
 PROTOCOL = {'TCP': 0, 'UDP': 1}
+SOURCE = {'ANY': 0, 'SAME_IP_OR_LOOPBACK': 1, 'EXTERNAL': 2}
 
 
 @functools.lru_cache(1024)
@@ -27,11 +30,16 @@ def size(text):
     return len(text.encode('utf-8'))
 
 
-class Reader:
-    """Reads fields by either spelling, and notes each broken rule with its path."""
+def lower(text):
+    """A text with ASCII letters as lower case."""
+    return text.lower() if text.isascii() else ''.join(letter.lower() if letter.isascii() else letter for letter in text)
 
-    def __init__(self, form_rule=6):
-        self.form_rule, self.broken = form_rule, []
+
+class Reader:
+    """Reads fields by either spelling, and notes each broken rule with its path. `as_envoy` is whether resources are read by the profile envoy."""
+
+    def __init__(self, profile=OWN, form_rule=6):
+        self.form_rule, self.broken, self.as_envoy = form_rule, [], profile == ENVOY
 
     def breaks(self, rule, path, words):
         self.broken.append((rule, path, words))
@@ -78,7 +86,7 @@ class Reader:
         return self.form(holder, name, path, 'true or false', lambda v: v if isinstance(v, bool) else WRONG)
 
     def number(self, holder, name, path):
-        return self.form(holder, name, path, 'a whole number from 0 to 4294967295', number32)
+        return self.form(holder, name, path, U32, number32)
 
     def duration(self, holder, name, path):
         """The sign of a duration: -1, 0 or 1."""
@@ -98,11 +106,21 @@ class Reader:
                 return self.wrong(where, f'is {value_shown(element)} and not {wanted}')
         return found
 
+    def members(self, holder, path, forms):
+        """The members that are there, each read by its form: {name: value or WRONG}, in the order of `forms`."""
+        found = {name: form(self, holder, name, path) for name, form in forms.items()}
+        return {name: value for name, value in found.items() if value is not None}
+
     def objects(self, holder, name, path):
         return self.elements(holder, name, path, 'an object', dict)
 
     def texts(self, holder, name, path):
         return self.elements(holder, name, path, 'a text', str)
+
+    def numbers(self, holder, name, path):
+        found = self.elements(holder, name, path, 'anything', object)
+        wrong = [place for place, element in enumerate(found) if number32(element) is WRONG] if found is not WRONG else []
+        return self.wrong(f'{self.path_of(holder, name, path)}[{wrong[0]}]', f'is {value_shown(found[wrong[0]])} and not {U32}') if wrong else found
 
 
 def number32(value):

@@ -15,7 +15,7 @@ class Walk:
 
     def __init__(self, reading):
         self.reading, self.rows = reading, reading.rows
-        self.machine = Answering(reading.workers, reading.format, reading.node)
+        self.machine = Answering(reading.workers, reading.format, reading.node, reading.profile)
         self.operations, self.done = operations_of(reading), {}
         self.rests = {}
         self.finding, self.entry, self.due, self.answer, self.batch, self.left = LEGAL, 0, None, None, None, []

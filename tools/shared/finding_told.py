@@ -184,5 +184,5 @@ class Told:
             return
         for place, (said, right) in enumerate(zip(found, wanted)):
             if said != right:
-                words = f': {rules.WORDS.get(int(right[1:]), "")}' if right[0] == 'V' else ''
+                words = f': {rules.words(int(right[1:]), self.reading.profile)}' if right[0] == 'V' else ''
                 yield f'resource {place + 1}, {quoted(items[place].name, 40)}: {said}, and the machine says {right}{words}'

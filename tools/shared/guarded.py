@@ -1,8 +1,8 @@
 """Clusters that wait for secrets: what the private names of a script that `warmgate tls` wrote stand for, given its input. Not proved."""
 from .fields import MAX_NAME, WRONG, Reader, size
-from .resources import TYPE, WORDS
 from .shown import quoted
 from .statuses import WrongInput
+from .urls import TYPE, WORDS
 from .words import few
 
 SECRET = TYPE + 'envoy.extensions.transport_sockets.tls.v3.Secret'

@@ -3,12 +3,12 @@ import re
 
 from .fields import MAX_NAME, MAX_U32, size
 from .json_text import NotJson, compact, read_tree
-from .resources import KINDS
+from .urls import KINDS
 
 MAX_U64 = 2 ** 64 - 1
 ACTOR = re.compile(r'stream|health|timer|main|w(0|[1-9][0-9]{0,9})')
 VERDICT = re.compile(r'new|same|kept|unasked|renewed|V(0|[1-9][0-9]{0,2})')
-RESULTS = ('noRoute', 'redirect', 'noCluster', 'noEndpoint')
+RESULTS = ('noRoute', 'redirect', 'noCluster', 'noEndpoint', 'undecided')
 
 
 class Row:
@@ -135,7 +135,7 @@ def ignored_or_done(value):
 
 
 def accepted(value):
-    if value in ('inUse', 'noListener'):
+    if value in ('inUse', 'noListener', 'noChain'):
         return True
     if not isinstance(value, dict) or not isinstance(value.get('result'), str):
         return False
@@ -143,6 +143,8 @@ def accepted(value):
     known = lambda text: True
     if result in RESULTS:
         return has(value, listener=generation, result=known)
+    if result == 'elsewhere':
+        return has(value, listener=generation, result=known, **({'cluster': generation} if 'cluster' in value else {}))
     if result == 'local':
         return has(value, listener=generation, result=known, status=lambda v: whole(v, 0, 65535))
     return result == 'served' and has(value, address=name, cluster=generation, listener=generation,

@@ -155,3 +155,17 @@ def likely_causes(text):
 def compact(tree):
     """The text that the program writes for a tree: keys sorted, no blanks, only what must be escaped is."""
     return json.dumps(tree, ensure_ascii=False, sort_keys=True, separators=(',', ':')).encode('utf-8')
+
+
+def without_fractions(tree):
+    """The tree with -1 for each number that isn't a whole one of 64 bits."""
+    if isinstance(tree, float):
+        return -1
+    if isinstance(tree, dict):
+        return {name: without_fractions(value) for name, value in tree.items()}
+    return [without_fractions(value) for value in tree] if isinstance(tree, list) else tree
+
+
+def plain(tree):
+    """The text by which two trees are told apart: without fractions, and compact."""
+    return compact(without_fractions(tree))

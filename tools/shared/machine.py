@@ -9,8 +9,9 @@ import bisect
 import heapq
 
 from . import rules
-from .resources import WORD, WORDS
+from .profiles import ENVOY, OWN
 from .shown import named, quoted
+from .urls import WORD, WORDS
 
 EMPTY = ()
 MOST_HOSTS = 8
@@ -18,13 +19,15 @@ PICTURE = 'the last picture'
 
 
 class Row:
-    """A generation, with what a picture shows of it and who uses it."""
+    """A generation, with what a picture shows of it and who uses it. `tables` are the routes of each name that a listener asks for."""
 
-    def __init__(self, kind, number, name, version, content):
-        self.kind, self.number, self.name, self.version, self.content = kind, number, name, version, content
+    def __init__(self, kind, number, item):
+        self.kind, self.number, self.name, self.version, self.content = kind, number, item.name, item.version, item.content or {}
+        self.alike = item.alike
         self.status, self.expired = 'warming', False
-        self.checked = kind == 'cds' and bool(content.get('checked'))
-        self.assigned, self.usable, self.eligible = EMPTY, {}, 0
+        self.checked = kind == 'cds' and bool(self.content.get('checked'))
+        self.dependencies = dependencies_of(kind, self.content)
+        self.assigned, self.tables, self.usable, self.eligible = EMPTY, {}, {}, 0
         self.results, self.missing = {}, []
         self.first_shown, self.last_shown = None, None
         self.before, self.toggled = None, set()
@@ -33,16 +36,13 @@ class Row:
     def live(self):
         return self.status in ('warming', 'active')
 
-    def depends(self):
-        """(kind, name) of what it waits for, or None."""
-        if self.kind == 'cds' and self.content.get('eds'):
-            return 'eds', self.content['eds']
-        if self.kind == 'lds' and self.content.get('rds'):
-            return 'rds', self.content['rds']
-        return None
+    def names(self):
+        """(kind, name) of each that it depends on, in order."""
+        return list(dict.fromkeys(key for key, _ in self.dependencies))
 
-    def limited(self):
-        return self.content.get('limited', True)
+    def has_limit(self, name):
+        """Whether a wait for a name is limited."""
+        return (name, True) in self.dependencies
 
     def words(self):
         return f'{WORD[self.kind]} {quoted(self.name)} (generation {self.number})'
@@ -57,26 +57,28 @@ class Row:
             return False
         return self.first_shown <= version and (self.last_shown is None or version <= self.last_shown)
 
-    def empty(self):
-        """Whether it has no host that may be chosen, or no virtual host of the routes that it asks for."""
-        return not self.eligible if self.kind == 'cds' else self.depends() is not None and not self.assigned
+    def lacking(self):
+        """The names by which it lacks something: None where none of its hosts may be chosen, a name of routes without a virtual host."""
+        if self.kind == 'cds':
+            return [] if self.eligible or 'elsewhere' in self.content else (self.names() or [None])
+        return [name for name in self.names() if not self.tables.get(name)]
 
     def shows(self):
-        """What a picture shows of it: its eligible hosts, or its routes. Of a checked cluster with the results that the last picture
-        had where `toggled` says which changed since."""
+        """What a picture shows of it: its eligible hosts, or its routes by their names. Of a checked cluster with the results that the last
+        picture had where `toggled` says which changed since."""
         if self.kind != 'cds':
-            return self.assigned
+            return dict(self.tables)
         if not self.checked:
             return tuple(host for host in self.assigned if host[3])
         return tuple(host for host in self.assigned
                      if host[3] and (self.results.get(host[0]) is True) != (host[0] in self.toggled))
 
-    def assign(self, value):
-        """Takes the hosts of an assignment, or routes."""
-        self.assigned = value
+    def assign(self, name, value):
+        """Takes the hosts of an assignment, or the routes of a name."""
         if self.kind != 'cds':
+            self.tables[name] = value
             return
-        self.usable = {}
+        self.assigned, self.usable = value, {}
         for host, _, _, usable in value:
             self.usable[host] = self.usable.get(host, 0) + usable
         if self.checked:
@@ -100,13 +102,25 @@ class Row:
         return True
 
 
-class Machine:
-    """The managers and what workers hold. `step` applies an entry; `changes`, `touched` and `watch_changes` say what it changed."""
+def dependencies_of(kind, content):
+    """What a generation waits for: ((kind, name), whether the wait is limited) for each, once."""
+    if kind == 'cds':
+        return ((('eds', content['eds']), content['limited']),) if content.get('eds') else ()
+    chains = [*content.get('chains', ()), *([content['default']] if content.get('default') else [])]
+    return tuple(dict.fromkeys((('rds', chain['serves']['rds']), chain['serves']['limited']) for chain in chains if 'rds' in chain['serves']))
 
-    def __init__(self, workers, format):
+
+class Machine:
+    """The managers and what workers hold. `step` applies an entry; `changes`, `touched` and `watch_changes` say what it changed.
+
+    `told` and `timed` have for each name the greatest number that was drawn when the control plane spoke of it last, and when its fetch
+    timeout came last; `how` says how it spoke. By the profile envoy endpoints answer the generations that stand by then, and no later one."""
+
+    def __init__(self, workers, format, profile=OWN):
         self.format, self.rows, self.next, self.phase, self.open = format, {}, 1, 'clusters', False
+        self.needs_fresh = profile == ENVOY
         self.named, self.dependents, self.drains = {}, {}, {}
-        self.values, self.told, self.timed = {}, {}, set()
+        self.values, self.how, self.told, self.timed = {}, {}, {}, {}
         self.first, self.awaited = {}, {}
         self.last, self.held, self.connections = 0, {w: 0 for w in range(workers)}, {}
         self.picture_lines = [0]
@@ -134,15 +148,31 @@ class Machine:
         return ({key for key, was in self.watched_before.items() if now[key] and not was},
                 {key for key, was in self.watched_before.items() if was and not now[key]})
 
+    def is_since(self, numbers, name, row):
+        """Whether what came of a name, noted in `numbers`, counts for a generation."""
+        return name in numbers and (not self.needs_fresh or name[0] != 'eds' or numbers[name] >= row.number)
+
+    def is_told(self, name, row):
+        """Whether the control plane has spoken of a name, as far as that counts for a generation."""
+        return self.is_since(self.told, name, row)
+
+    def is_timed(self, name, row):
+        """Whether the fetch timeout of a name has come, as far as that counts for a generation."""
+        return self.is_since(self.timed, name, row)
+
+    def awaited_of(self, row):
+        """The names that a generation still waits for."""
+        return list(dict.fromkeys(name for name, limited in row.dependencies
+                                  if not self.is_told(name, row) and not (limited and self.is_timed(name, row))))
+
     def is_answered(self, row):
-        name = row.depends()
-        return not name or name in self.told or (name in self.timed and row.limited())
+        return not self.awaited_of(row)
 
     def waits(self, row, all_hosts=False):
         """What a warming generation still waits for, in words; empty where it is ready. Of many hosts the first are told, or all."""
-        found, name = [], row.depends()
-        if not self.is_answered(row):
-            found += self.guards.waits(name) if self.guards and name in self.guards.of else [f'{WORDS[name[0]]} {quoted(name[1])}']
+        found = []
+        for name in self.awaited_of(row):
+            found += self.guards.waits(name) if self.guards and name in self.guards.of else [self.wait_words(name)]
         if row.missing:
             most = len(row.missing) if all_hosts else MOST_HOSTS
             found += [f'a health result of {named(address)}:{port}' for _, (address, port) in row.missing[:most]]
@@ -150,24 +180,29 @@ class Machine:
                 found.append(f'and of {len(row.missing) - most} hosts more')
         return found
 
+    def wait_words(self, name):
+        again = ' (these endpoints were known, and have to be sent again)' if name[0] == 'eds' and name in self.values else ''
+        return f'{WORDS[name[0]]} {quoted(name[1])}{again}'
+
     def without(self, row):
         """What a serving generation lacks and why, in words; None where it lacks nothing."""
-        if not row.empty():
-            return None
-        name, what = row.depends(), 'HOSTS' if row.kind == 'cds' else 'ROUTES'
+        what, lacking = 'HOSTS' if row.kind == 'cds' else 'ROUTES', row.lacking()
+        return f'WITHOUT {what}: {"; ".join(self.lack_words(row.kind, name) for name in lacking)}' if lacking else None
+
+    def lack_words(self, kind, name):
         if name is None:
-            return f'WITHOUT {what}: none that may be chosen'
-        refusal = self.told.get(name)
+            return 'none that may be chosen'
+        refusal = self.how.get(name)
         if name in self.values:
-            why = 'none that may be chosen' if row.kind == 'cds' else f'{quoted(name[1])} has no virtual host'
+            why = 'none that may be chosen' if kind == 'cds' else f'{quoted(name[1])} has no virtual host'
         elif isinstance(refusal, tuple):
             whose = {rules.PROFILE: 'which Envoy takes', rules.ENVOY: 'which Envoy refuses too',
                      rules.UNKNOWN: 'and whether Envoy takes them is not known'}
             why = f'refused by {refusal[0]}, {whose[refusal[1]]}'
         else:
             removed = self.guards.endpoints_of(name) if self.guards and name in self.guards.of else f'{WORDS[name[0]]} {quoted(name[1])} were removed'
-            why = removed if name in self.told else 'their fetch timeout came'
-        return f'WITHOUT {what}: {why}'
+            why = removed if name in self.how else 'their fetch timeout came'
+        return why
 
     def would_show(self, row):
         return row.status == 'active' and (row.kind == 'cds' or self.phase == 'serving')
@@ -185,6 +220,10 @@ class Machine:
         if self.would_show(row) != row.is_shown():
             return True
         return row.is_shown() and (bool(row.toggled) or (row.before is not None and row.before != row.shows()))
+
+    def choice(self, members, worker):
+        """What a worker's picture chooses for an accept; None where what pictures show isn't kept."""
+        return None
 
     def published_before(self, line):
         """The version of the last picture that a line before this one published."""
@@ -270,7 +309,7 @@ class Machine:
             self.take_result(members['cluster'], (members['address'], members['port']), members['healthy'])
         elif op == 'fetchTimeout':
             if 'name' in members:
-                self.timed.add((members['type'], members['name']))
+                self.timed[members['type'], members['name']] = self.next - 1
                 self.touch((members['type'], members['name']))
             else:
                 self.note_first(members['type'], [])
@@ -355,34 +394,40 @@ class Machine:
                 made.append(item.name)
             elif verdict == 'kept':
                 self.give(key, EMPTY if item.content is None else item.content)
+                self.tell(key, 'told')
             elif verdict[0] == 'V' and kind in ('eds', 'rds') and self.is_watched(key):
-                self.told[key] = (verdict, item.whose(kind, verdict))
-                self.touch(key)
+                self.tell(key, (verdict, item.whose(kind, verdict)))
         if kind in ('cds', 'lds') and kind not in self.first:
             self.note_first(kind, made)
 
     def make(self, kind, item):
-        row = Row(kind, self.next, item.name, item.version, item.content or {})
+        row = Row(kind, self.next, item)
         self.rows[row.number] = row
         self.next += 1
         self.changes[row.number] = None
         self.named.setdefault((kind, item.name), {})['warming'] = row
-        name = row.depends()
-        if name:
+        for name in row.names():
             self.note_watch(name)
             self.dependents.setdefault(name, {})[row.number] = row
-        row.assign(self.values.get(name, EMPTY) if name or kind != 'cds' else row.content.get('rows', EMPTY))
+            row.assign(name, self.values.get(name, EMPTY))
+        if kind == 'cds' and not row.dependencies:
+            row.assign(None, row.content.get('rows', EMPTY))
         self.touched.add(row.number)
         self.note_awaited(row)
 
     def give(self, key, value):
-        """A value comes for a name of endpoints or routes."""
-        self.values[key], self.told[key] = value, 'told'
+        """A name of endpoints or routes has a value."""
+        self.values[key] = value
         for row in self.dependents.get(key, {}).values():
             if row.is_shown() and row.before is None:
                 row.before, row.toggled = row.shows(), set()
                 self.unpublished.add(row.number)
-            row.assign(value)
+            row.assign(key, value)
+        self.touch(key)
+
+    def tell(self, key, how):
+        """The control plane speaks of a name of endpoints or routes."""
+        self.told[key], self.how[key] = self.next - 1, how
         self.touch(key)
 
     def touch(self, key):
@@ -394,8 +439,7 @@ class Machine:
         if kind in ('cds', 'lds'):
             self.retire(kind, name)
         elif self.is_watched((kind, name)):
-            self.told[kind, name] = 'removed'
-            self.touch((kind, name))
+            self.tell((kind, name), 'removed')
 
     def retire(self, kind, name, drop_alone=False):
         found = dict(self.named.get((kind, name), {}))
@@ -409,6 +453,8 @@ class Machine:
             self.retire(kind, name)
         else:
             self.give((kind, name), EMPTY)
+            if kind == 'rds' or not self.needs_fresh:
+                self.tell((kind, name), 'told')
 
     # Changes of a generation
 
@@ -419,8 +465,8 @@ class Machine:
         if row.live():
             self.named.setdefault((row.kind, row.name), {})[status] = row
             bisect.insort(self.active[row.kind], row.number)
-            if row.depends():
-                self.dependents.setdefault(row.depends(), {})[row.number] = row
+            for name in row.names():
+                self.dependents.setdefault(name, {})[row.number] = row
         else:
             bisect.insort(self.ended, row.number)
             if row.kind == 'lds' and status == 'draining':
@@ -438,8 +484,7 @@ class Machine:
             self.named.pop((row.kind, row.name), None)
         if row.status == 'active':
             del self.active[row.kind][bisect.bisect_left(self.active[row.kind], row.number)]
-        name = row.depends()
-        if name:
+        for name in row.names():
             self.note_watch(name)
             self.dependents[name].pop(row.number, None)
             self.loose.add(name)
@@ -459,9 +504,8 @@ class Machine:
                 self.move(row, 'active')
         for key in self.loose:
             if key not in self.dependents:
-                self.values.pop(key, None)
-                self.told.pop(key, None)
-                self.timed.discard(key)
+                for noted in (self.values, self.how, self.told, self.timed):
+                    noted.pop(key, None)
         if self.phase == 'clusters' and self.phase_ends('cds'):
             self.phase = 'listeners'
         if self.phase == 'listeners' and self.phase_ends('lds'):

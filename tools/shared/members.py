@@ -6,14 +6,29 @@ capitals and underscores alone, is likely not meant so. Not proved: docs/FORMATS
 import functools
 
 from .fields import camel
-from .resources import MANAGER, TCP_PROXY
+from .profiles import ENVOY, OWN
 from .spelling import snake
+from .urls import MANAGER, TCP_PROXY
+
+class Table(dict):
+    """The members of an object, each with the table of what stands there. `of` says which object it is, where that matters."""
+
+    def __init__(self, of, members):
+        super().__init__(members)
+        self.of = of
+
+
+def of(table):
+    return getattr(table, 'of', None)
+
 
 NONE = {}
+# A member of which is read that it is there, and nothing below it.
+THERE = None
 SOURCE = dict.fromkeys(('ads', 'self', 'path', 'path_config_source', 'api_config_source', 'initial_fetch_timeout'), NONE)
 ADDRESS = {'address': {'socket_address': dict.fromkeys(('address', 'port_value', 'named_port', 'protocol'), NONE), 'pipe': NONE}}
 HOST = {'endpoint': ADDRESS, 'health_status': NONE, 'load_balancing_weight': NONE, 'endpoint_name': NONE}
-GROUP = {'priority': NONE, 'lb_endpoints': HOST, 'load_balancing_weight': NONE}
+GROUP = Table('group', {'priority': NONE, 'lb_endpoints': HOST, 'load_balancing_weight': NONE})
 ASSIGNMENT = {'cluster_name': NONE, 'endpoints': GROUP}
 TARGET = {'cluster': NONE, 'weighted_clusters': {'clusters': dict.fromkeys(('name', 'weight', 'cluster_header'), NONE)}, 'cluster_header': NONE,
           'cluster_specifier_plugin': NONE, 'inline_cluster_specifier_plugin': NONE}
@@ -21,10 +36,25 @@ MATCH = dict.fromkeys(('prefix', 'path', 'path_separated_prefix', 'safe_regex', 
                        'tls_context', 'headers', 'query_parameters', 'dynamic_metadata', 'filter_state', 'case_sensitive'), NONE)
 ROUTE = {'match': MATCH, 'route': TARGET, 'redirect': NONE, 'direct_response': {'status': NONE}, 'filter_action': NONE, 'non_forwarding_action': NONE,
          'name': NONE}
-ROUTES = {'name': NONE, 'virtual_hosts': {'name': NONE, 'domains': NONE, 'routes': ROUTE}}
-CONFIGS = {MANAGER: {'rds': {'config_source': SOURCE, 'route_config_name': NONE}, 'route_config': ROUTES, 'scoped_routes': NONE}, TCP_PROXY: TARGET}
-FILTER = {'name': NONE, 'typed_config': CONFIGS}
-BODIES = {
+
+
+def routes_of(route):
+    return {'name': NONE, 'virtual_hosts': {'name': NONE, 'domains': NONE, 'routes': Table('route', route)}}
+
+
+def configs_of(source, routes, of_tcp, scoped):
+    """The filters that are read, by their types."""
+    manager = {'rds': {'config_source': source, 'route_config_name': NONE}, 'route_config': routes, 'scoped_routes': scoped}
+    return Table('config', {MANAGER: manager, TCP_PROXY: of_tcp})
+
+
+def filter_of(configs):
+    return Table('filter', {'name': NONE, 'typed_config': configs})
+
+
+ROUTES = routes_of(ROUTE)
+FILTER = filter_of(configs_of(SOURCE, ROUTES, TARGET, NONE))
+OF_OWN = {
     'cds': {'name': NONE, 'type': NONE, 'cluster_type': NONE, 'connect_timeout': NONE, 'load_assignment': ASSIGNMENT, 'health_checks': NONE,
             'eds_cluster_config': {'eds_config': SOURCE, 'service_name': NONE}},
     'eds': ASSIGNMENT,
@@ -32,18 +62,48 @@ BODIES = {
             'filter_chains': {'name': NONE, 'filter_chain_match': NONE, 'filters': FILTER}},
     'rds': ROUTES,
 }
+
+# The same by the profile envoy
+
+SOURCE_OF_ENVOY = {**SOURCE, **dict.fromkeys(('path', 'path_config_source', 'api_config_source'), THERE)}
+ADDRESS_OF_ENVOY = {'address': {**ADDRESS['address'], 'pipe': {'path': NONE},
+                                'envoy_internal_address': dict.fromkeys(('server_listener_name', 'endpoint_id'), NONE)}}
+GROUP_OF_ENVOY = Table('group', {**GROUP, 'lb_endpoints': {**HOST, 'endpoint': ADDRESS_OF_ENVOY}})
+ASSIGNMENT_OF_ENVOY = {**ASSIGNMENT, 'endpoints': GROUP_OF_ENVOY}
+STRING_MATCH = {**dict.fromkeys(('exact', 'prefix', 'suffix', 'contains', 'ignore_case'), NONE), 'safe_regex': THERE, 'custom': THERE}
+HEADER = {**dict.fromkeys(('name', 'invert_match', 'treat_missing_header_as_empty', 'exact_match', 'prefix_match', 'suffix_match', 'contains_match',
+                           'present_match'), NONE), 'string_match': STRING_MATCH, 'safe_regex_match': THERE, 'range_match': THERE}
+MATCH_OF_ENVOY = {**dict.fromkeys(MATCH, THERE), **dict.fromkeys(('prefix', 'path', 'path_separated_prefix', 'case_sensitive'), NONE), 'headers': HEADER}
+TARGET_OF_ENVOY = {**TARGET, **dict.fromkeys(('cluster_header', 'cluster_specifier_plugin', 'inline_cluster_specifier_plugin'), THERE)}
+TCP_OF_ENVOY = {'cluster': NONE, 'weighted_clusters': {'clusters': {'name': NONE, 'weight': NONE}}}
+ROUTES_OF_ENVOY = routes_of({**ROUTE, 'match': MATCH_OF_ENVOY, 'route': TARGET_OF_ENVOY, 'filter_action': THERE, 'non_forwarding_action': THERE})
+CONFIGS_OF_ENVOY = configs_of(SOURCE_OF_ENVOY, ROUTES_OF_ENVOY, TCP_OF_ENVOY, THERE)
+CHAIN_MATCH = {**dict.fromkeys(('destination_port', 'server_names', 'transport_protocol', 'application_protocols'), NONE),
+               'prefix_ranges': {'address_prefix': NONE, 'prefix_len': NONE},
+               **dict.fromkeys(('direct_source_prefix_ranges', 'source_prefix_ranges', 'source_ports', 'source_type'), THERE)}
+CHAIN = {'name': NONE, 'filter_chain_match': CHAIN_MATCH, 'filters': filter_of(CONFIGS_OF_ENVOY)}
+OF_ENVOY = {
+    'cds': {**OF_OWN['cds'], 'cluster_type': {'name': NONE}, 'load_assignment': ASSIGNMENT_OF_ENVOY,
+            'eds_cluster_config': {'eds_config': SOURCE_OF_ENVOY, 'service_name': NONE}},
+    'eds': ASSIGNMENT_OF_ENVOY,
+    'lds': {'name': NONE, **ADDRESS_OF_ENVOY, 'filter_chains': CHAIN, 'default_filter_chain': {**CHAIN, 'filter_chain_match': THERE},
+            'api_listener': {'api_listener': CONFIGS_OF_ENVOY}, 'internal_listener': THERE},
+    'rds': ROUTES_OF_ENVOY,
+}
+BODIES = {OWN: OF_OWN, ENVOY: OF_ENVOY}
+
 WRAPPER = dict.fromkeys(('name', 'version', 'resource', 'ttl', 'aliases', 'resource_name', 'cache_control', 'metadata'), NONE)
 MESSAGE = dict.fromkeys(('type_url', 'nonce', 'resources', 'removed_resources', 'removed_resource_names', 'system_version_info', 'control_plane'), NONE)
 
 
-def near_misses(kind, message):
+def near_misses(kind, message, profile=OWN):
     """(path, member that is meant) of members of a message that look like one that is read."""
     yield from misses(message, MESSAGE, 'message')
     resources = message.get('resources') or message.get('Resources') or []
     for place, resource in enumerate(resources if isinstance(resources, list) else []):
         if isinstance(resource, dict):
             yield from misses(resource, WRAPPER, f'resources[{place}]')
-            yield from misses(resource.get('resource'), BODIES[kind], f'resources[{place}].resource')
+            yield from misses(resource.get('resource'), BODIES[profile][kind], f'resources[{place}].resource')
 
 
 def misses(holder, table, path):
@@ -52,9 +112,9 @@ def misses(holder, table, path):
             yield from misses(element, table, f'{path}[{place}]')
     if not isinstance(holder, dict):
         return
-    if table is CONFIGS:
+    if of(table) == 'config':
         url = holder.get('@type')
-        table = CONFIGS.get(url, NONE) if isinstance(url, str) else NONE
+        table = table.get(url, NONE) if isinstance(url, str) else NONE
     names = tuple(table)
     for name, value in holder.items():
         known = snake(name)

@@ -3,9 +3,9 @@ import sys
 
 from . import journal, script
 from .progress import Progress
-from .resources import WORDS
 from .shown import read_file
 from .statuses import DONE, INPUT, WrongInput
+from .urls import WORDS
 
 
 # Verdicts that a resource of a kind never has.

@@ -3,14 +3,14 @@ from . import script
 from .answers import Answering
 from .json_text import compact
 from .operations import ACTORS, BATCH
-from .resources import KINDS
+from .urls import KINDS
 
 
 class Replay:
     """The entries of a script in the order of a replay, as objects."""
 
     def __init__(self, reading):
-        self.reading, self.machine = reading, Answering(reading.workers, 2, reading.node)
+        self.reading, self.machine = reading, Answering(reading.workers, 2, reading.node, reading.profile)
         self.rows, self.batches = [], {worker: [] for worker in range(reading.workers)}
         for line in reading.lines:
             if 'worker' in line.members:

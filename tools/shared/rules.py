@@ -1,6 +1,8 @@
 """The rules in words, what to do, and whose they are: short forms of docs/RULES.md, for the tools."""
 import re
 
+from . import profiles
+
 WORDS = {
     1: 'the body is missing, is no object, or its @type isn\'t that of the response',
     2: 'a name is empty or has more than 512 bytes',
@@ -27,6 +29,21 @@ WORDS = {
     23: 'the name of a cluster is empty',
     24: 'the weights of weightedClusters sum to 0 or to more than 4294967295',
     25: 'ttl is given and isn\'t positive',
+}
+
+# What the rules say by the profile envoy, where that is something else.
+WORDS_OF_ENVOY = {
+    10: 'a config source isn\'t exactly one of the five kinds, or its timeout is negative',
+    12: 'a host has no usable address',
+    14: 'the listener has no usable address, or is on UDP',
+    15: 'a live listener of another name has this address and port',
+    16: 'the listener has no filter chain, or a range of addresses in a chain\'s match isn\'t one',
+    17: 'a filter chain has several connection managers or TCP proxies, or an API listener has no connection manager',
+    18: 'a connection manager hasn\'t exactly one of rds, routeConfig and scopedRoutes',
+    21: 'a match hasn\'t exactly one kind of path, or has a condition on a header that isn\'t one',
+    22: 'a route hasn\'t exactly one action, or its target exactly one cluster specifier; or its status is out of range',
+    26: 'two filter chains could take the same connection',
+    27: 'a server name of a chain\'s match is empty, or has a * but for a leading *.',
 }
 
 ADVICE = {
@@ -60,8 +77,23 @@ WHOSE = [
     (23, r'', ENVOY), (24, r'', ENVOY), (25, r'', UNKNOWN),
 ]
 
+# The same of the profile envoy, which takes what Envoy takes. Rules that aren't here are as above.
+WHOSE_OF_ENVOY = [
+    (10, r'negative', UNKNOWN), (10, r'', ENVOY),
+    (12, r'portValue is missing', PROFILE), (12, r'makes an address', UNKNOWN), (12, r'', ENVOY),
+    (14, r'UDP|portValue is missing', PROFILE), (14, r'makes an address', UNKNOWN), (14, r'', ENVOY),
+    (16, r'', ENVOY), (17, r'', ENVOY), (18, r'', ENVOY), (21, r'', ENVOY), (22, r'', ENVOY),
+    (26, r'', ENVOY), (27, r'empty', UNKNOWN), (27, r'', ENVOY),
+]
+WHOSE_OF_ENVOY += [case for case in WHOSE if case[0] not in {rule for rule, _, _ in WHOSE_OF_ENVOY}]
+
 # Complaints that something is missing, which are no complaints where another member in its place is given.
 MISSING = r'has 0 (of|chains)|has neither'
+
+
+def words(rule, profile, unknown=''):
+    """A rule in words; those of `unknown` where there is no such rule."""
+    return (WORDS_OF_ENVOY.get(rule) if profile == profiles.ENVOY else None) or WORDS.get(rule, unknown)
 
 
 def telling(complaints):
@@ -70,12 +102,12 @@ def telling(complaints):
     return [(path, words) for path, words in complaints if not (given and re.search(MISSING, words))]
 
 
-def whose(rule, kind, complaints):
+def whose(rule, kind, complaints, profile=profiles.OWN):
     """Whether Envoy refuses a resource of this kind too that this rule refuses: `Envoy too`, `profile` (this profile alone does) or
     `not known`. The complaints are those of this rule, each a path and words."""
     if rule == 4:
         return ENVOY if kind in ('cds', 'lds') else UNKNOWN
-    found = set()
+    found, cases = set(), WHOSE_OF_ENVOY if profile == profiles.ENVOY else WHOSE
     for path, words in telling(complaints) or [('', '')]:
-        found.add(next((of for number, pattern, of in WHOSE if number == rule and re.search(pattern, f'{kind} {path} {words}')), UNKNOWN))
+        found.add(next((of for number, pattern, of in cases if number == rule and re.search(pattern, f'{kind} {path} {words}')), UNKNOWN))
     return next((of for of in (ENVOY, UNKNOWN, PROFILE) if of in found), UNKNOWN)

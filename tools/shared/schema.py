@@ -43,7 +43,8 @@ WORDS = {
     'if': conditional,
     'required': of_object(lambda w, v, root, s: all(name in v for name in w)),
     'properties': of_object(lambda w, v, root, s: all(accepts(w[name], v[name], root) for name in w if name in v)),
-    'additionalProperties': of_object(lambda w, v, root, s: w or set(v) <= set(s['properties'])),
+    'additionalProperties': of_object(lambda w, v, root, s: all(accepts(w, v[name], root) if isinstance(w, dict) else w
+                                                                for name in v if name not in s.get('properties', ()))),
     'items': lambda w, v, root, s: not isinstance(v, list) or all(accepts(w, one, root) for one in v),
     'minLength': within(lambda w, v: len(v) >= w, 'string'),
     'maxLength': within(lambda w, v: len(v) <= w, 'string'),

@@ -7,9 +7,11 @@ import difflib
 from . import journal
 from .fields import MAX_NAME, MAX_U32, size
 from .json_text import NotJson, read_tree
+from .profiles import ENVOY, OWN
 from .progress import Progress
-from .resources import KINDS, read_message
+from .resources import read_message
 from .shown import quoted, value_shown
+from .urls import KINDS
 from .whole import Whole
 
 MAX_INPUT = 67108864
@@ -35,10 +37,16 @@ class Reading:
     """What was read: the header, the lines, for an audit the journal, and the faults in their order."""
 
     def __init__(self):
-        self.workers, self.node, self.auto = None, 'warmgate', False
+        self.workers, self.node, self.auto, self.profile = None, 'warmgate', False, OWN
         self.lines, self.rows, self.format, self.faults, self.count = [], [], None, [], 0
         self.whole = None  # reads the responses of the state of the world
         self.operations = OPERATIONS
+
+    def takes(self, profile):
+        """Lines after the header are those of this profile."""
+        self.profile = profile
+        if profile == ENVOY:
+            self.operations = {**self.operations, 'accept': (ACCEPT, {**ASK, **ASK_OF_ENVOY})}
 
     def line_at(self, at):
         return self.lines[at - 2] if 2 <= at <= len(self.lines) + 1 else None
@@ -128,14 +136,16 @@ def read_line(reading, number, text, audit):
 
 # The header
 
+HEADER = ('workers', 'auto', 'node', 'profile')
+
+
 def read_header(reading, tree):
     if reading.operations is CHAINS:
         good = isinstance(tree, dict) and set(tree) == {'chains'} and tree['chains'] is True
         return None if good else Fault(1, 5, [(None, 'isn\'t {"chains":true}, the only first line of such an input')])
     if not isinstance(tree, dict):
         return Fault(1, 5, [(None, f'the header is {value_shown(tree)} and not an object')], header_hints(tree))
-    complaints = [(name, unexpected(name, ('workers', 'auto', 'node'))) for name in tree
-                  if name not in ('workers', 'auto', 'node')]
+    complaints = [(name, unexpected(name, HEADER)) for name in tree if name not in HEADER]
     if 'workers' not in tree:
         complaints.append(('workers', 'is missing'))
     elif not is_whole(tree['workers'], 1, 16):
@@ -144,10 +154,13 @@ def read_header(reading, tree):
         complaints.append(('auto', f'is {value_shown(tree["auto"])} and not true or false'))
     if 'node' in tree:
         complaints += [('node', words) for words in name_words(tree['node'])]
+    if 'profile' in tree and tree['profile'] != ENVOY:
+        complaints.append(('profile', f'is {value_shown(tree["profile"])} and not "envoy"; this project\'s own profile has no name: leave the member out'))
     if complaints:
         return Fault(1, 5, complaints, header_hints(tree))
     reading.workers, reading.node = tree['workers'], tree.get('node', 'warmgate')
     reading.auto = tree.get('auto', False)
+    reading.takes(tree.get('profile', OWN))
     return None
 
 
@@ -233,10 +246,27 @@ def addresses_words(value):
     return [f'has an element that {found[0]}'] if found else []
 
 
+def texts_words(value):
+    if not isinstance(value, list):
+        return [f'is {value_shown(value)} and not an array of texts']
+    wrong = [(place, element) for place, element in enumerate(value) if not isinstance(element, str)]
+    return [f'has {value_shown(element)} as element {place}, and not a text' for place, element in wrong[:1]]
+
+
+def headers_words(value):
+    if not isinstance(value, dict):
+        return [f'is {value_shown(value)} and not an object from names of headers to texts']
+    return [f'has {value_shown(text)} at {quoted(name, 40)}, and not a text' for name, text in value.items() if not isinstance(text, str)]
+
+
 WORKER = {'worker': whole_words(MAX_U32)}
 CONNECTION = {'worker': whole_words(MAX_U32), 'conn': whole_words(MAX_U64)}
 ADDRESS = {'address': name_words, 'port': whole_words(65535)}
 TYPED = {'type': type_words}
+ACCEPT = {**CONNECTION, **ADDRESS}
+ASK = {'host': text_words(MAX_NAME), 'path': text_words(MAX_PATH), 'pick': whole_words(MAX_U64)}
+# What an accept may have besides, in a script of the profile envoy.
+ASK_OF_ENVOY = {'serverName': text_words(MAX_NAME), 'tls': bool_words, 'alpn': texts_words, 'headers': headers_words}
 
 # The operations: members that must be there, and members with a default. `message` is read apart.
 OPERATIONS = {
@@ -249,8 +279,7 @@ OPERATIONS = {
     'fetchTimeout': (TYPED, {'name': name_words}),
     'drainTimeout': ({'listener': name_words}, {}),
     'ttlExpired': ({**TYPED, 'name': name_words}, {}),
-    'accept': ({**CONNECTION, **ADDRESS},
-               {'host': text_words(MAX_NAME), 'path': text_words(MAX_PATH), 'pick': whole_words(MAX_U64)}),
+    'accept': (ACCEPT, ASK),
     'close': (CONNECTION, {}),
     'settle': (WORKER, {}),
 }
@@ -287,7 +316,7 @@ def read_operation(reading, number, tree):
         complaints.append(('name', f'is too much: a timeout of {tree["type"]} is that of the whole type'))
     response = None
     if op == 'response' and 'message' in tree:
-        response, found = (reading.whole.read if reading.whole else read_message)(tree['message'])
+        response, found = (reading.whole.read if reading.whole else read_message)(tree['message'], profile=reading.profile)
         complaints += found
     if complaints:
         return Fault(number, 6, complaints, line_hints(tree))
@@ -312,6 +341,8 @@ def op_words(tree, op, operations):
 
 
 def unexpected(name, known, op=None):
+    if op == 'accept' and name in ASK_OF_ENVOY and 'worker' in known:
+        return 'is a member of accept in a script whose header has "profile":"envoy" alone'
     words = f'isn\'t a member of {op}' if op else 'isn\'t a member of the header'
     return words + close_match(name, known)
 

@@ -7,26 +7,44 @@ import collections
 import itertools
 
 from . import rules
+from .choices import Choice
 from .envoy_waits import EnvoyWaits
 from .guarded import SECRET, told_secrets
-from .resources import KINDS, WORD, WORDS
 from .shown import named, quoted, shown
 from .spelling import spelled
-from .words import cluster_words, content_words, counted, few, listener_words
+from .urls import KINDS, WORD, WORDS
+from .words import cluster_words, content_words, counted, few, listener_words, more_asked
 
 MOST_RESOURCES = 200
 MOST_CHANGES = 100
 MOST_NAMES = 20
+DOUBT = 'this tool expected'
 ACTIVE = {'listeners': 'the wait for the first clusters is over: listeners are asked for from here on',
           'serving': 'the wait for the first listeners is over: pictures show listeners from here on'}
+# Answers that open nothing, and answers that leave the host open.
+LOST = {'noListener': 'no listener', 'noChain': 'no filter chain takes it'}
+OPEN_ENDS = {'undecided': 'undecided', 'elsewhere': 'goes elsewhere'}
 ENDS = {'noRoute': 'no route', 'redirect': 'a redirect', 'noCluster': 'its cluster isn\'t there',
         'noEndpoint': 'its cluster has no host that may be chosen'}
+
+
+def choice_of(machine, members, worker, answer):
+    """The choice behind the answer to an accept, with what the answer leaves unsaid, where the machine keeps its pictures and answers so too."""
+    choice = machine.choice(members, worker)
+    return choice if choice and choice.answer == answer else Choice(answer)
 
 
 def place_of(reading, row):
     if row.op == 'settle' and row.step == 0 and reading.line_at(row.at) is None:
         return 'end'
     return f'line {row.at}' + (f'+{row.step}' if row.step else '')
+
+
+def hosts_of(row):
+    """How many hosts a generation has, in words."""
+    if 'elsewhere' in row.content:
+        return ', whose hosts no script tells'
+    return f' with {row.eligible or "no"} host{"s" * (row.eligible != 1)}' if row.kind == 'cds' else ''
 
 
 def refusal_words(line, index, verdict):
@@ -80,7 +98,7 @@ class Teller:
         if row.op == 'settle':
             return bool(row.answer['closed']) or row.answer['version'] != held
         if row.op == 'accept':
-            return not isinstance(row.answer, dict) or row.answer['result'] in ('noRoute', 'noCluster', 'noEndpoint')
+            return not isinstance(row.answer, dict) or row.answer['result'] in ('noRoute', 'noCluster', 'noEndpoint', 'undecided')
         return row.answer != 'unchanged' and row.op != 'close' and not (row.op == 'reap' and not row.answer['reaped'])
 
     # What happened
@@ -137,14 +155,19 @@ class Teller:
         if row.op == 'close':
             return f'connection {members["conn"]} ' + ('closes' if answer == 'done' else 'isn\'t open')
         where = f'{named(members["address"])}:{members["port"]}'
-        asked = f'connection {members["conn"]} to {where}, host {quoted(members["host"])}, path {quoted(members["path"])}'
+        asked = f'connection {members["conn"]} to {where}, host {quoted(members["host"])}, path {quoted(members["path"])}{more_asked(members)}'
         if answer == 'inUse':
             return f'{asked}: the number is in use, ignored'
-        if answer == 'noListener':
+        if isinstance(answer, str):
             held, last = self.machine.held[int(row.actor[1:])], self.machine.published_before(row.at)
             behind = f'{last} is published' if held < last else 'the last that was published'
-            return f'{asked}: no listener: {row.actor} holds picture {held}; {behind}'
-        listener = f'listener generation {answer["listener"]}'
+            return f'{asked}: {LOST[answer]}: {row.actor} holds picture {held}; {behind}'
+        choice = choice_of(self.machine, members, int(row.actor[1:]), answer)
+        why = f', since {choice.why}' if choice.why else ''
+        listener = f'listener generation {answer["listener"]}' + (f', {choice.chain}' if choice.chain else '')
+        if answer['result'] in OPEN_ENDS:
+            cluster = f'cluster generation {answer["cluster"]}, ' if 'cluster' in answer else ''
+            return f'{asked}: {OPEN_ENDS[answer["result"]]}, {cluster}{listener}{why}'
         if answer['result'] == 'served':
             return (f'{asked}: {self.page.paint("good", "served")} by {named(answer["address"])}:{answer["port"]} of cluster '
                     f'generation {answer["cluster"]}, {listener}')
@@ -196,7 +219,7 @@ class Teller:
         if not is_told:
             return
         rule = int(verdict[1:])
-        self.page.line(f'{text}refused by {verdict} ({tag}): {rules.WORDS.get(rule, "a rule this tool does not know")}', 'bad', news=True)
+        self.page.line(f'{text}refused by {verdict} ({tag}): {rules.words(rule, self.reading.profile, "a rule this tool does not know")}', 'bad', news=True)
         for path, words in complaints[:MOST_NAMES]:
             self.page.line(f'    {shown(path, 120)} {shown(words, 200)}', news=True)
         self.more(len(complaints) - MOST_NAMES, 'members more')
@@ -262,8 +285,7 @@ class Teller:
         numbers, count = self.machine.showing()
         for number in itertools.islice(numbers, MOST_NAMES):
             row = self.machine.rows[number]
-            hosts = f' with {row.eligible or "no"} host{"s" * (row.eligible != 1)}' if row.kind == 'cds' else ''
-            self.page.line(f'shows {row.words()}{hosts}')
+            self.page.line(f'shows {row.words()}{hosts_of(row)}')
         self.more(count - MOST_NAMES, 'generations more')
 
     def changes(self):
@@ -330,7 +352,7 @@ class Teller:
             self.doubt(f'a request for {WORDS[kind]} of {names}' if changed else f'no request for {WORDS[kind]}')
 
     def doubt(self, words):
-        self.page.line(f'(this tool expected {shown(words, 300)}; the journal says otherwise)', 'bad', news=True)
+        self.page.line(f'({DOUBT} {shown(words, 300)}; the journal says otherwise)', 'bad', news=True)
 
     def ending(self, entries):
         self.page.end(f'The end: {entries} entries.')

@@ -1,6 +1,8 @@
 """Responses of the state of the world, read as the incremental ones that they stand for. Not proved."""
 from .fields import WRONG, Reader
-from .resources import KINDS, read_message
+from .profiles import OWN
+from .resources import read_message
+from .urls import KINDS
 
 
 class Whole:
@@ -16,7 +18,7 @@ class Whole:
     def note(self, op):
         self.is_open = {'connect': True, 'disconnect': False}.get(op, self.is_open)
 
-    def read(self, value, path='message'):
+    def read(self, value, path='message', profile=OWN):
         """(Response or None, complaints): complaints are (path, words), and there is no response exactly where there is one."""
         if not isinstance(value, dict):
             return None, [(path, 'isn\'t an object')]
@@ -30,7 +32,7 @@ class Whole:
             reader.breaks(6, f'{path}.nonce', 'is missing: a response has a nonce' if nonce is None else 'is empty: a response\'s nonce has at least one byte')
         if reader.broken:
             return None, [(where, words) for _, where, words in reader.broken]
-        response, complaints = read_message(self.incremental(kind, url or '', nonce, bodies, version or ''), path)
+        response, complaints = read_message(self.incremental(kind, url or '', nonce, bodies, version or ''), path, profile)
         response.version = version or ''
         return response, complaints
 

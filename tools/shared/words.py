@@ -1,4 +1,5 @@
 """What resources contain, in words: addresses, routes and where they lead."""
+from .routes import ELSEWHERE
 from .shown import named, quoted
 
 MOST = 8
@@ -15,8 +16,10 @@ def counted(count, word):
 
 
 def clusters_of(target):
-    """The names of the clusters of a target: one, or those that have weights."""
-    return [target] if isinstance(target, str) else [name for name, _ in target or ()]
+    """The names of the clusters of a target: one, those that have weights, or none where no script tells them."""
+    if isinstance(target, str):
+        return [target]
+    return [name for name, _ in target or ()] if target[:1] != (ELSEWHERE,) else []
 
 
 def targets(routes):
@@ -29,6 +32,16 @@ def targets(routes):
     return list(found)
 
 
+def listener_targets(content, tables):
+    """The names of the clusters that a listener leads to, each once, in order; `tables` are the routes by their names."""
+    found = {}
+    for chain in chains_of(content):
+        serves = chain['serves']
+        names = clusters_of(serves['target']) if 'target' in serves else targets(tables.get(('rds', serves.get('rds'))) or serves.get('routes'))
+        found.update(dict.fromkeys(names))
+    return list(found)
+
+
 def routes_words(routes):
     names = targets(routes)
     return counted(len(routes), 'virtual host') + (f', to {few(quoted(name, 40) for name in names)}' if names else '')
@@ -37,14 +50,28 @@ def routes_words(routes):
 def listener_words(content):
     """Address of a listener, and where its connections go."""
     address, port = content['address']
-    serves = content.get('serves') or {}
-    if serves.get('rds'):
-        to = f'by routes {quoted(serves["rds"], 40)}'
-    elif 'target' in serves:
-        to = f'to {few(quoted(name, 40) for name in clusters_of(serves["target"]))}'
+    chains = chains_of(content)
+    if len(chains) == 1:
+        to = serves_words(chains[0]['serves'])
     else:
-        to = f'by routes of its own: {routes_words(serves.get("routes") or ())}'
+        to = f'{counted(len(chains), "filter chain")}: ' + few(dict.fromkeys(serves_words(chain['serves']) for chain in chains))
     return f'{named(address, 60)}:{port}, {to}'
+
+
+def chains_of(content):
+    """The filter chains of a listener, the default chain last."""
+    return [*content['chains'], *([content['default']] if content['default'] else [])]
+
+
+def serves_words(serves):
+    """Where a filter chain's connections go."""
+    if 'rds' in serves:
+        return f'by routes {quoted(serves["rds"], 40)}'
+    if 'other' in serves:
+        return f'elsewhere: {serves["other"]}'
+    if 'target' in serves:
+        return f'to {few(quoted(name, 40) for name in clusters_of(serves["target"])) or "a cluster that no script tells"}'
+    return f'by routes of its own: {routes_words(serves["routes"])}'
 
 
 def hosts_words(rows):
@@ -52,8 +79,26 @@ def hosts_words(rows):
     return 'no hosts' if not hosts else 'hosts ' + few(hosts)
 
 
+def more_asked(members):
+    """What an accept asks for beside host and path, in words."""
+    parts = [f'server name {quoted(members["serverName"], 60)}'] if members.get('serverName') else []
+    parts += ['over TLS'] if members.get('tls') else []
+    parts += [f'alpn {few(quoted(protocol, 40) for protocol in members["alpn"])}'] if members.get('alpn') else []
+    parts += [f'header {quoted(name, 40)} {quoted(value, 60)}' for name, value in sorted(members.get('headers', {}).items())[:MOST]]
+    return ''.join(f', {part}' for part in parts)
+
+
+def type_words(content):
+    """The type of a cluster whose hosts no script tells."""
+    kind = str(content['elsewhere'])
+    return kind if kind.startswith('clusterType') else f'type {kind}'
+
+
 def cluster_words(content):
-    asked = f'endpoints {quoted(content["eds"], 40)}' if content.get('eds') else hosts_words(content.get('rows') or ())
+    if content.get('elsewhere'):
+        asked = f'{type_words(content)}, whose hosts no script tells'
+    else:
+        asked = f'endpoints {quoted(content["eds"], 40)}' if content.get('eds') else hosts_words(content.get('rows') or ())
     return asked + (', health checked' if content.get('checked') else '')
 
 

@@ -11,6 +11,7 @@ from shared import rules, script
 from shared.pair import Pair
 from shared.replayed import replayed
 from shared.shown import json_shown
+from shared.teller import DOUBT
 from trials import TOP, content
 
 CAPTURES = f'{TOP}/examples/captures'
@@ -95,7 +96,7 @@ def stored(check, name, data):
         if os.environ.get('WARMGATE_WRITE'):
             write(f'{base}.{ending}', text)
         check(content(f'{base}.{ending}') == text, f'{base}.{ending} isn\'t what the tools make with --project all {" ".join(FLAGS)}')
-    check(b'reckoned' not in texts['txt'], f'{base}.txt has a doubt')
+    check(DOUBT.encode() not in texts['txt'], f'{base}.txt has a doubt')
     if trials.program():
         check(trials.ran(trials.program(), 'replay', data=data)[:2] == (0, pages), f'the program writes another journal of {base}.jsonl')
     for entry in Pair('adapt', reading, pages).entries():

@@ -7,7 +7,7 @@ import tempfile
 import trials
 from shared import script
 from shared.replayed import replayed
-from shared.resources import URLS
+from shared.urls import URLS
 from trials.adapt import adapted, messages
 
 ADMIN = 'type.googleapis.com/envoy.admin.v3.'

@@ -12,7 +12,7 @@ from adapting import capture
 from shared import script
 from shared.came import came
 from shared.replayed import replayed, replayed_whole
-from shared.resources import URLS
+from shared.urls import URLS
 from trials import TOP, content
 from trials.adapt import CAPTURES, LEVELS, adapted, messages
 from trials.adapt_dumps import cluster, clusters, dump, lines_of, part

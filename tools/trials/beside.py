@@ -5,6 +5,7 @@ import random
 import tempfile
 
 from shared import script
+from shared.teller import DOUBT
 from trials import called, chosen, content, ran, scripts_in, tool
 from trials.broken import broken
 from trials.worked import row_agrees
@@ -82,6 +83,6 @@ def beside_program(check, count, program, folder):
                 with open(name, 'wb') as file:
                     file.write(part)
             told = called(tool('explain'), f'{folder}/script', f'{folder}/journal')
-            check(told[0] == 0 and 'reckoned' not in told[1], f'explain of the program\'s journal: {told[0]} {told[2]}')
+            check(told[0] == 0 and DOUBT not in told[1], f'explain of the program\'s journal: {told[0]} {told[2]}')
             row_agrees(check, f'changed {number}', reading, out)
     print(f'{count} changed scripts on the program, which took {taken}')

@@ -5,9 +5,10 @@ import random
 
 import trials
 from shared import script
+from shared.addresses import read_address
 from shared.fields import WRONG, Reader
 from shared.json_text import compact
-from shared.resources import read_address, read_chain
+from shared.listeners import read_chain
 from trials import TOP, content, ran
 
 CHANGES = 300

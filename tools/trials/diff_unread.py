@@ -5,7 +5,7 @@ import json
 import tempfile
 
 from shared.replayed import replayed
-from shared.resources import URLS
+from shared.urls import URLS
 from trials import TOP, called, content, loaded, written
 from trials.data.made import cluster, endpoints, listener, routes
 

@@ -5,7 +5,7 @@ import tempfile
 from shared import script as scripts
 from shared.envoy_waits import EnvoyWaits
 from shared.replayed import replayed, replayed_whole
-from shared.resources import URLS
+from shared.urls import URLS
 from trials import called, loaded
 from trials.data.made import cluster, endpoints, listener
 from trials.diff_unread import script

@@ -1,5 +1,6 @@
 """The examples of `replay`, and the broken ones: why takes them or says their faults, explain prints the page that stands beside each, and
 the program of --program writes the journal."""
+from shared.teller import DOUBT
 from trials import called, chosen, content, ran, scripts_in, text_is, tool
 
 
@@ -9,7 +10,7 @@ def run(check):
         check(status == 0 and not errors, f'why {path}: status {status}: {out}{errors}')
         pages = path[:-len('.jsonl')]
         status, out, errors = called(tool('explain'), path, f'{pages}.journal.jsonl')
-        check(status == 0 and not errors and 'reckoned' not in out, f'explain {path}: status {status}: {errors}')
+        check(status == 0 and not errors and DOUBT not in out, f'explain {path}: status {status}: {errors}')
         text_is(check, f'{pages}.txt', out)
         if chosen.program:
             status, out, errors = ran(chosen.program, 'replay', data=content(path))

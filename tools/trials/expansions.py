@@ -6,10 +6,13 @@ import random
 
 import trials
 from shared import private, script
+from shared.fields import DISCOVERY
 from shared.guarded import member, references, told_secrets
-from shared.json_text import compact, read_tree
+from shared.json_text import compact, plain, read_tree
+from shared.profiles import ENVOY
 from shared.replayed import replayed_whole
-from shared.resources import URLS, read_item
+from shared.resources import read_item
+from shared.urls import URLS
 from trials import TOP, content, ran
 
 CHANGES = 150
@@ -23,11 +26,13 @@ class Expansion:
         self.command, self.is_open, self.of, self.numbers, self.lines = command, False, [], {}, []
         texts = data.removesuffix(b'\n').split(b'\n')
         self.lines.append(read_tree(texts[0]))
-        for line, text in zip(script.read_script(data, command=command).lines, texts[1:]):
+        reading = script.read_script(data, command=command)
+        self.profile = reading.profile
+        for line, text in zip(reading.lines, texts[1:]):
             self.line(line, read_tree(text))
 
     def text(self):
-        return b''.join(compact(without_fractions(line)) + b'\n' for line in self.lines)
+        return b''.join(plain(line) + b'\n' for line in self.lines)
 
     def line(self, line, tree):
         opens = line.op == 'connect' and not self.is_open
@@ -77,8 +82,13 @@ class Tls(Expansion):
         super().__init__(data, 'tls')
 
     def kept(self, resource, item, body):
-        names = references(body) if item.content is not None else []
+        names = references(body) if item.content is not None and self.finds_hosts(body) else []
         return (item.content, names) if names else None
+
+    def finds_hosts(self, body):
+        """Whether a cluster is one whose endpoints can be held back: by the profile envoy others are good too."""
+        kinds = (None, *(form for word in ('STATIC', 'EDS') for form in (word, DISCOVERY[word])))
+        return self.profile != ENVOY or member(body, 'type') in kinds and member(body, 'cluster_type') is None
 
     def note(self, kept, body):
         return kept[1], kept[0].get('eds'), member(member(body, 'load_assignment'), 'endpoints') or []
@@ -118,8 +128,17 @@ class Dns(Expansion):
     def kept(self, resource, item, body):
         if not isinstance(body, dict) or body.get('type') not in ('STRICT_DNS', 1) or body.get('type') is True or item.beat:
             return None
-        static = read_item('cds', URLS['cds'], {**resource, 'resource': {**body, 'type': 'STATIC'}}, item.name, item.version, '')
+        if self.profile == ENVOY and not self.has_sockets_alone(body):
+            return None
+        static = read_item('cds', URLS['cds'], {**resource, 'resource': {**body, 'type': 'STATIC'}}, item.name, item.version, '', self.profile)
         return (static.content,) if static.content is not None else None
+
+    def has_sockets_alone(self, body):
+        """Whether a cluster that is good has no type of its own, and no host at another address than a socket's."""
+        groups = member(member(body, 'load_assignment'), 'endpoints') or []
+        hosts = [host for group in groups if isinstance(group, dict) for host in member(group, 'lb_endpoints') or []]
+        addresses = [member(member(host, 'endpoint'), 'address') for host in hosts]
+        return member(body, 'cluster_type') is None and all(member(address, 'socket_address') is not None for address in addresses)
 
     def note(self, kept, body):
         return kept[0]['rows']
@@ -142,15 +161,6 @@ class Dns(Expansion):
         name, addresses = line.members['name'], line.members.get('addresses')
         self.answers[name] = self.answers.get(name, []) if addresses is None else list(dict.fromkeys(addresses))
         return {name}
-
-
-def without_fractions(tree):
-    """The tree with -1 for each number that isn't a whole one of 64 bits."""
-    if isinstance(tree, float):
-        return -1
-    if isinstance(tree, dict):
-        return {name: without_fractions(value) for name, value in tree.items()}
-    return [without_fractions(value) for value in tree] if isinstance(tree, list) else tree
 
 
 PREFIXES = {'tls': 'tls/', 'dns': 'dns/'}

@@ -15,7 +15,10 @@ from trials.data.made import cluster, endpoints, listener, routes
 from trials.escapes import HOSTILE
 
 VALUES = [None, True, 0, -1, 1.5, 10 ** 30, '', 'x', [], [[]], {}, {'@type': []}, [{}], ['x']]
-SCRIPTS = ['realistic', 'refused_here', 'listener_with_routes', 'draining_with_connections']
+SCRIPTS = [f'{TOP}/examples/{name}' for name in ('realistic', 'refused_here', 'listener_with_routes', 'draining_with_connections')]
+# Those of the profile envoy.
+SCRIPTS += [f'{TOP}/tools/trials/data/profile/{name}' for name in ('api_listener', 'chain_by_each_criterion_in_its_order', 'clusters_of_each_type',
+                                                                   'first_route_that_does_not_say_no', 'update_waits_for_endpoints')]
 TOOLS = {name: loaded(f'tools/{name}').main for name in ('explain', 'timeline', 'diff', 'why', 'tally')}
 STATUSES = {'explain': {0, 3}, 'timeline': {0, 3}, 'diff': {0, 1, 3, 4}, 'why': {0, 1}, 'tally': {0, 3}}
 
@@ -24,7 +27,7 @@ def run(check):
     draw = random.Random(7)
     with tempfile.TemporaryDirectory() as folder:
         for name in SCRIPTS:
-            changed_scripts(check, draw, folder, f'{TOP}/examples/{name}')
+            changed_scripts(check, draw, folder, name)
         single_lines(check, draw, folder)
         hostile_names(check, folder)
 

@@ -9,7 +9,7 @@ import tempfile
 
 import trials
 from shared import script
-from shared.resources import URLS
+from shared.urls import URLS
 from trials import TOP, content
 from trials.adapt import CAPTURES
 from trials.adapt_dumps import cluster, clusters, dump, eds, endpoints, listener, part

@@ -18,8 +18,8 @@ def with_changes(tree, draw):
             for changed in with_changes(tree[name], draw):
                 yield {**tree, name: changed}
     yield {**tree, 'extra': 1}
-    for name in ('worker', 'name', 'type_url', 'removed_resources', 'host', 'path', 'pick', 'auto', 'node'):
-        yield {**tree, name: draw.choice([None, 'x', 0, ['a'], [None], True])}
+    for name in ('worker', 'name', 'type_url', 'removed_resources', 'host', 'path', 'pick', 'auto', 'node', 'profile', 'serverName', 'tls', 'alpn', 'headers'):
+        yield {**tree, name: draw.choice([None, 'x', 0, ['a'], [None], True, 'envoy', {'a': 'b'}, {'a': None}])}
 
 
 def lines_of_examples():
@@ -27,7 +27,8 @@ def lines_of_examples():
         for text in content(path).splitlines():
             yield json.loads(text)
     for text in ('{"op":"disconnect"}', '{"op":"fetchTimeout","type":"eds","name":"a"}', '{"op":"fetchTimeout","type":"lds"}',
-                 '{"workers":2,"auto":true,"node":"n"}', '{"op":"close","worker":0,"conn":1}'):
+                 '{"workers":2,"auto":true,"node":"n"}', '{"op":"close","worker":0,"conn":1}', '{"workers":1,"profile":"envoy"}',
+                 '{"op":"accept","worker":0,"conn":1,"address":"a","port":1,"serverName":"s","tls":true,"alpn":["h2"],"headers":{"a":"b"}}'):
         yield json.loads(text)
 
 
@@ -38,7 +39,7 @@ def run(check):
         for tree in [line, *with_changes(line, draw)]:
             is_header = 'op' not in tree
             data = json.dumps(tree).encode()
-            reading = script.read_script(data if is_header else b'{"workers":16}\n' + data)
+            reading = script.read_script(data if is_header else b'{"workers":16,"profile":"envoy"}\n' + data)
             good = not reading.faults or reading.faults[0].kind == 7
             tried += 1
             if schema.accepts(root, tree, root) != good:

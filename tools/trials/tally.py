@@ -6,7 +6,7 @@ import subprocess
 import tempfile
 
 from shared.replayed import replayed
-from shared.resources import URLS
+from shared.urls import URLS
 from trials import TOP, called, content, loaded, ran, written
 
 TALLY = f'{TOP}/tools/tally'

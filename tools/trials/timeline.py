@@ -10,6 +10,7 @@ from shared import rules
 from shared.members import near_misses
 from shared.pair import open_pair
 from shared.spelling import spelled
+from shared.teller import DOUBT
 from shared.timeline.cards import cards
 from shared.timeline.history import History
 from shared.timeline.page import all_rows, html_page, svg_picture, text_page
@@ -118,7 +119,7 @@ def counts_agree(check, title, history, view):
 def examples(check):
     for name in sorted(name[:-len('.journal.jsonl')] for name in os.listdir(f'{TOP}/examples') if name.endswith('.journal.jsonl')):
         page = page_is_good(check, name, example(name))
-        check('reckoned' not in page, f'{name}: the page doubts the journal')
+        check(DOUBT not in page, f'{name}: the page doubts the journal')
 
 
 # Facts
@@ -215,7 +216,7 @@ def large(check, folder):
     check(all(life.born <= 1201 for life in part.all_lives()), 'a part has what lives in it alone')
     told = told_by('explain', *paths)
     brief = told_by('explain', '--brief', *paths)
-    check('reckoned' not in told and brief and len(brief) < len(told) / 2, 'explain --brief is shorter')
+    check(DOUBT not in told and brief and len(brief) < len(told) / 2, 'explain --brief is shorter')
     check(set(brief.splitlines()) <= set(told.splitlines()), 'explain --brief tells what explain tells')
 
 

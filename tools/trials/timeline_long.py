@@ -4,6 +4,7 @@ import time
 
 from shared.timeline.page import html_page
 from shared.timeline.view import View
+from shared.teller import DOUBT
 from trials.data import made
 from trials.data.calling import browser, called, opened
 from trials.timeline import example, history_of, written
@@ -38,6 +39,6 @@ def is_linear(check, folder, words, pairs):
             start = time.process_time()
             status, out, errors = called(name, script, *([] if name == 'why' else [journal]))
             spent.append(time.process_time() - start)
-            check(status == 0 and 'reckoned' not in out, f'{name} of {words}: status {status}')
+            check(status == 0 and DOUBT not in out, f'{name} of {words}: status {status}')
         print(f'{name} of {words}: {spent[0]:.1f} and {spent[1]:.1f} seconds of processor')
         check(spent[1] < 20 * max(spent[0], 0.5), f'{name} of {words} takes {spent}')

@@ -3,6 +3,7 @@ import os
 import tempfile
 
 from shared.replayed import replayed, replayed_whole
+from shared.teller import DOUBT
 from trials import TOP, called, content, loaded, written
 
 PLACE = f'{TOP}/examples/sotw/session'
@@ -31,7 +32,7 @@ def run(check):
         for old, new, status in CHANGES:
             path = written(f'{folder}/journal', journal.replace(old, new, 3))
             told = called(explain, '--sotw', f'{PLACE}.jsonl', path)
-            check(told[0] == status and ('reckoned' in told[1]) == (status == 0), f'explain --sotw of {new}: {told}')
+            check(told[0] == status and (DOUBT in told[1]) == (status == 0), f'explain --sotw of {new}: {told}')
         check(called(explain, '--sotw', '--dump')[0] == 2 and called(explain, '--sotw', '--secrets', 'x', 'y')[0] == 2, 'explain --sotw without a script')
         check(called(explain, f'{PLACE}.jsonl', f'{PLACE}.out')[0] == 3, 'explain of a journal of the state of the world, unasked')
     check(replayed_whole(content(f'{PLACE}.jsonl')) == content(f'{PLACE}.out'), f'{PLACE}.out is reckoned otherwise')

@@ -1,5 +1,6 @@
 """Whose rule a refusal is, by the rule and by what breaks it."""
 from shared import rules
+from shared.profiles import ENVOY
 
 CASES = [
     (1, 'cds', [('resource.@type', 'is that of a listener')], rules.ENVOY),
@@ -23,11 +24,29 @@ CASES = [
     (22, 'rds', [('directResponse.status', 'is 99: 200 to 599 are read')], rules.ENVOY),
     (25, 'eds', [('ttl', 'is given and not positive')], rules.UNKNOWN),
 ]
+# The same by the profile envoy.
+CASES_OF_ENVOY = [
+    (2, 'lds', [('name', 'is empty')], rules.PROFILE),
+    (10, 'cds', [('edsConfig', 'has 2 of ads, self, path, pathConfigSource and apiConfigSource: exactly one is wanted')], rules.ENVOY),
+    (10, 'cds', [('edsConfig.initialFetchTimeout', 'is negative')], rules.UNKNOWN),
+    (12, 'eds', [('address.socketAddress.portValue', 'is missing')], rules.PROFILE),
+    (14, 'lds', [('address.socketAddress.protocol', 'is UDP')], rules.PROFILE),
+    (14, 'lds', [('address', 'is missing')], rules.ENVOY),
+    (16, 'lds', [('filterChains', 'has 0 chains, and there is no defaultFilterChain')], rules.ENVOY),
+    (21, 'rds', [('match.headers[0]', 'has 2 tests: one is the most')], rules.ENVOY),
+    (26, 'lds', [('filterChains[1].filterChainMatch', 'fits what that of filterChains[0] fits as well')], rules.ENVOY),
+    (27, 'lds', [('filterChainMatch.serverNames', 'has an empty name')], rules.UNKNOWN),
+]
 
 
 def run(check):
     for rule, kind, complaints, wanted in CASES:
         found = rules.whose(rule, kind, complaints)
         check(found == wanted, f'V{rule} of {kind} by {complaints} is told as {found}, not {wanted}')
+    for rule, kind, complaints, wanted in CASES_OF_ENVOY:
+        found = rules.whose(rule, kind, complaints, ENVOY)
+        check(found == wanted, f'by the profile envoy V{rule} of {kind} by {complaints} is told as {found}, not {wanted}')
+    for rule in {**rules.WORDS, **rules.WORDS_OF_ENVOY}:
+        check(rule == 4 or any(number == rule and not pattern for number, pattern, _ in rules.WHOSE_OF_ENVOY), f'V{rule} has no last case by the profile envoy')
     for rule in rules.WORDS:
         check(rule == 4 or any(number == rule and not pattern for number, pattern, _ in rules.WHOSE), f'V{rule} has no last case')

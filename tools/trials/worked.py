@@ -8,6 +8,9 @@ from shared import journal, script
 from shared.dumped import dumped, refusal
 from shared.finding import walked
 from shared.machine import Machine
+from shared.profiles import ENVOY
+from shared.replayed import replayed
+from shared.teller import DOUBT
 from trials import called, chained, chosen, content, ran, tool
 from trials.expansions import expected
 from trials.faults import padded
@@ -63,7 +66,7 @@ def row_of_a_command(check, title, command, row, data, scratch):
         with open(f'{scratch}/row', 'wb') as file:
             file.write(data)
         status, out, errors = called(tool('explain'), '--sotw', f'{scratch}/row', f'{row}/stdout')
-        check(status == 0 and 'reckoned' not in out, f'row {title}: explain --sotw: status {status} {errors}')
+        check(status == 0 and DOUBT not in out, f'row {title}: explain --sotw: status {status} {errors}')
 
 
 def row_is_dumped(check, title, reading, count, wanted, line):
@@ -79,7 +82,12 @@ def row_is_explained(check, title, data, reading, pages, scratch):
     with open(f'{scratch}/row', 'wb') as file:
         file.write(data)
     status, out, errors = called(tool('explain'), f'{scratch}/row', pages)
-    check(status == 0 and 'reckoned' not in out, f'row {title}: explain: status {status} {errors}')
+    check(status == 0 and DOUBT not in out, f'row {title}: explain: status {status} {errors}')
+    check(replayed(data) == content(pages), f'row {title}: the tools make another journal')
+    if reading.profile == ENVOY:
+        for form in ('--text', '--svg', '--json'):
+            status, out, errors = called(tool('timeline'), form, f'{scratch}/row', pages)
+            check(status == 0 and not errors, f'row {title}: timeline {form}: status {status} {errors}')
     row_agrees(check, title, reading, content(pages))
 
 
@@ -137,7 +145,7 @@ def made_of_part(part):
 
 def row_agrees(check, title, reading, pages):
     """The tools' reading of each resource is the verdict, and their pictures are new where the journal's are."""
-    machine = Machine(reading.workers, 2)
+    machine = Machine(reading.workers, 2, reading.profile)
     for text in pages.split(b'\n')[1:-2]:
         row, words = journal.read_row(text)
         check(row is not None, f'row {title}: {words}')

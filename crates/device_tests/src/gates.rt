@@ -44,7 +44,7 @@ impl Numbers {
     }
 }
 
-// One turn, which adds the number or not, and whether it did. Without memory for the number it is quit.
+// One turn, which adds the number or not, and whether it did. Where there is no memory for the number it is quit.
 fn take_turn<R: Threads + Wait + Sync>(
     rt: &R,
     gate: &Gate<Numbers>,

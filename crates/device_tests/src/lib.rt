@@ -1,4 +1,4 @@
-//! Tests of devices and lines, and of gates whose seats stand in threads. It has no code but tests.
+//! Tests of devices and lines, and of gates whose seats run in threads. It has no code but tests.
 #![tactic(auto)]
 
 #[cfg(test)]

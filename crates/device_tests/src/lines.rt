@@ -5,7 +5,7 @@ use std::alloc::{AllocError, Global};
 use std::process::Abort;
 use std::test::Fail;
 
-// Reads lines up to another answer, which it gives twice, and puts the front of each after `all`,
+// Reads lines up to another answer, which it gives twice, and puts the prefix of each after `all`,
 // with a bar.
 fn read_all<S: Source>(
     lines: &mut Lines,

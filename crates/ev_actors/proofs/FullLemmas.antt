@@ -1,4 +1,4 @@
--- How many accepts and closes since a worker's last settle line stand before a line, and when its batch is full.
+-- How many accepts and closes since a worker's last settle line come before a line, and when its batch is full.
 use Rattle.std.proofs.Common.{◌≡◌, ◌<◌, ◌≤◌, ℕ, suc, nat_lt, nat_le, inl, inr, ◌⊎◌, Bool, true, false, not, ◌&&◌, List, [], ◌∷◌, ◌++◌, map, filter, refl, ap, sym, ◌∙◌, subst, append_assoc, append-nil, arith}
 use Rattle.std.specs.List.{AllPairs, AllByRecursion as ByRecursion, list_any}
 use Rattle.std.specs.List.Sorted.{IsStrictlyIncreasing}
@@ -20,7 +20,7 @@ line_joins actor line = is_batched line.event && actor_same line.actor actor
 abbrev pub line_ends : Actor → Line → Bool
 line_ends actor line = is_settle line.event && actor_same line.actor actor
 
--- the accepts and closes of the actor with no settle line of the actor's behind
+-- the accepts and closes of the actor with no settle line of the actor's after them
 abbrev pub lines_since : Actor → List Line → List Line
 lines_since actor lines = last_run (line_joins actor) (line_ends actor) lines
 

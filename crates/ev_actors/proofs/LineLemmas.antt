@@ -101,7 +101,7 @@ worker_below workers worker (Accept ask) may = may
 worker_below workers worker (Close connection) may = may
 worker_below workers worker Settle may = may
 
--- what goes out at a line, and what waits behind it, by what the line is
+-- what goes out at a line, and what waits after it, by what the line is
 pub put_batched : (auto : Bool) (waiting : List Operation) (line : Line) (full : Bool) → is_batched line.event ≡ true → is_filled_by line waiting ≡ full
     → put_out auto waiting line ≡ (if full then waiting_of line.actor (joined_by line waiting) ++ step_behind line 1 Settle ∷ [] else [])
 put_batched auto waiting line full batched is =
@@ -234,7 +234,7 @@ module _ (line : Line) (before after : JournalParts) (old new : WorkerParts)
 
 -- a line of the main side
 
--- workers work on behind an event of the main side
+-- workers work on after an event of the main side
 pub main_works : (o : Operation) (before after : JournalParts) → IsMainSide o.actor → HasEntered o before after
     → (worker : WorkerParts) → WorksIn worker (world_now before) → WorksIn worker (world_now after)
 main_works o before after side entered worker works = record {
@@ -247,7 +247,7 @@ main_works o before after side entered worker works = record {
       works.has);
 }
 
--- a publication and a reaping behind a line
+-- a publication and a reaping after a line
 pub follows : (line : Line) (before next after : JournalParts) → IsMainSide line.actor
     → HasEntered (step_behind line 1 Publish) before next → HasEntered (step_behind line 2 Reap) next after → HasFollowed line before after
 follows line before next after side one other = record {

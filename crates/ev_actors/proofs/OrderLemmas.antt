@@ -1,5 +1,5 @@
 -- A replay takes each operation that is no accept or close with those of its actor that wait: the accepts and closes before it
--- with no settle of the actor's behind.
+-- with no settle of the actor's after them.
 use Rattle.std.proofs.Common.{◌≡◌, inl, inr, Bool, true, false, not, ◌&&◌, if◌then◌else◌, List, [], ◌∷◌, ◌++◌, filter, refl, ap, sym, ◌∙◌, subst, append_assoc, append-nil}
 use Rattle.std.specs.List.{list_any, flat_map}
 use Rattle.std.proofs.lemmas.List.Elements.{filter-append}
@@ -20,7 +20,7 @@ joins_of actor o = is_batched o.event && actor_same o.actor actor
 abbrev pub ends_of : Actor → Operation → Bool
 ends_of actor o = is_settle o.event && actor_same o.actor actor
 
--- the accepts and closes of the actor with no settle of the actor's behind
+-- the accepts and closes of the actor with no settle of the actor's after them
 abbrev pub since : Actor → List Operation → List Operation
 since actor os = last_run (joins_of actor) (ends_of actor) os
 
@@ -28,7 +28,7 @@ since actor os = last_run (joins_of actor) (ends_of actor) os
 abbrev pub RiseEach : List Operation → Type 0
 RiseEach os = (actor : Actor) → IsRising (made_by actor os)
 
--- of one actor's operations the one in front is the earlier one
+-- of one actor's operations the one that comes first is the earlier one
 earlier_in : (os front back : List Operation) (x y : Operation) → RiseEach os → front ++ back ≡ os → IsIn x front → IsIn y back
     → x.actor ≡ y.actor → is_earlier x y ≡ true
 earlier_in os front back x y rise is in_one in_other same =
@@ -39,7 +39,7 @@ earlier_in os front back x y rise is in_one in_other same =
     (in_kept (λ (o : Operation). actor_same o.actor y.actor) y back in_other ((actor_decides y.actor y.actor).1 refl))
 
 module _ (os before rest : List Operation) (o : Operation) (rise : RiseEach os) (all : before ++ o ∷ rest ≡ os) where
-  -- behind the operation stands none of its actor's that is earlier
+  -- after the operation comes none of its actor's that is earlier
   not_earlier : (x : Operation) → IsIn x (o ∷ rest) → x.actor ≡ o.actor → is_earlier x o ≡ false
   not_earlier x (inl e) same = subst (λ (y : Operation). is_earlier y o ≡ false) e (not_itself o)
   not_earlier x (inr is) same =
@@ -112,7 +112,7 @@ module _ (os before rest : List Operation) (o : Operation) (rise : RiseEach os) 
       ∙ append-nil (filter (is_in_batch os o) before)
       ∙ run_is (joins_of o.actor) (ends_of o.actor) (is_in_batch os o) before waits)
 
--- each operation that is no accept or close, with what waits of its actor behind these operations and those before it
+-- each operation that is no accept or close, with what waits of its actor after these operations and those before it
 abbrev pub stream : List Operation → List Operation → List Operation
 stream before [] = []
 stream before (o ∷ os) = (if is_batched o.event then [] else since o.actor before ++ o ∷ []) ++ stream (before ++ o ∷ []) os

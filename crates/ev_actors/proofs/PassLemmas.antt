@@ -149,13 +149,13 @@ waiting_stays one actor waiting apart =
     ∙ filter_alike (λ (o : Operation). not (actor_same o.actor one) && actor_same o.actor actor) (λ (o : Operation). actor_same o.actor actor) waiting
     (λ o is. others_by o.actor one actor apart (actor_same o.actor actor) refl)
 
--- what waits behind these lines, before which these operations stand
+-- what waits after these lines, before which these operations come
 record Keeps (front : List Line) (before waiting : List Operation) : Type 0 where
   waits : (actor : Actor) → waiting_of actor waiting ≡ since actor before
   counts : (worker : ℕ) → length (waiting_of (Worker worker) waiting) ≡ length (lines_since (Worker worker) front) % 256
   main : (actor : Actor) → IsMainSide actor → waiting_of actor waiting ≡ []
 
--- one more line: what goes out at it, and what waits behind it
+-- one more line: what goes out at it, and what waits after it
 record Goes (script : ScriptParts) (front : List Line) (before waiting : List Operation) (line : Line) (rest : List Operation) : Type 0 where
   after : List Operation
   out : stream before (line_operations script line ++ rest) ≡ put_out script.auto waiting line ++ stream after rest
@@ -543,7 +543,7 @@ module _ (script : ScriptParts) (front : List Line) (before waiting : List Opera
       keeps = kept_behind (before ++ line_operation line ∷ []) (λ actor. since_same actor before (line_operation line) alone goes_on);
     }
 
-  -- so it is at each line
+  -- this holds at each line
   module _ (behind : List Line) (rise : LinesRise script.lines) (all : front ++ line ∷ behind ≡ script.lines) where
     not_batched : (ends : Bool) → is_batched line.event ≡ false → is_settle line.event ≡ ends → Goes script front before waiting line rest
     not_batched true alone is = settle_goes alone is
@@ -556,7 +556,7 @@ module _ (script : ScriptParts) (front : List Line) (before waiting : List Opera
     goes : Goes script front before waiting line rest
     goes = goes_by (is_batched line.event) refl
 
--- behind the last line each worker settles
+-- after the last line each worker settles
 last_are : (script : ScriptParts) (waiting before : List Operation) (start n : ℕ)
     → ((worker : ℕ) → start ≤ worker → waiting_of (Worker worker) waiting ≡ since (Worker worker) before)
     → stream before (map (last_settle script) (range_with_len start n)) ≡ flat_map (put_out_last script waiting) (range_with_len start n)

@@ -79,13 +79,13 @@ goes_on script before after old new line left way taken = record {
       ∙ way.order;
 }
 
--- what a replay keeps behind its first lines
+-- what a replay keeps after its first lines
 pub record IsOnTheWay (script : ScriptParts) (now : JournalParts) (workers : List WorkerParts) (items : List Line) (place : ℕ) : Type 0 where
   pub goes : GoesOn (nothing_done script) now
   pub drawn : (world_now now).made ≤ items_of (take place items)
   pub way : IsUnderWay script now workers (drop place items)
 
--- and behind one line more
+-- and after one line more
 pub line_more : (script : ScriptParts) (before after : JournalParts) (old new : List WorkerParts) (items : List Line) (place : ℕ) (line : Line) → place < length items
     → line ≡ get_or items place line → IsOnTheWay script before old items place → IsTaken script.auto line before after old new
     → IsOnTheWay script after new items (place + 1)

@@ -31,7 +31,7 @@ goes_on_by before after entries is =
 pub goes_on_twice : (before next after : JournalParts) → GoesOn before next → GoesOn next after → GoesOn before after
 goes_on_twice before next after one other = other ∙ ap (λ (p : JournalParts). record p { journal = after.journal }) one
 
--- leads to the world behind these entries
+-- leads to the world after these entries
 pub world_with : (before after : JournalParts) (entries : List Entry) → after ≡ with_entries entries before
     → world_now after ≡ world_after before.format (world_now before) entries
 world_with before after entries is =
@@ -61,7 +61,7 @@ held_now parts entries =
     ∙ held_count parts.format (opening parts.workers parts.node) parts.journal
     ∙ replicated parts.workers
 
--- the world behind a settle
+-- the world after a settle
 pub world_settled : (before after : JournalParts) (worker : WorkerParts) (at n : ℕ) → after ≡ with_settled worker at n before
     → world_now after ≡ (settle worker.number (world_behind worker before)).0
 world_settled before after worker at n is =

@@ -1,4 +1,4 @@
--- Those elements of a list that pass a test and have none behind them that ends them.
+-- Those elements of a list that pass a test and have none after them that ends them.
 use Rattle.std.proofs.Common.{◌≡◌, Bool, true, false, not, ◌&&◌, ◌||◌, if◌then◌else◌, List, [], ◌∷◌, ◌++◌, filter, refl, ap, sym, ◌∙◌, subst, append_assoc}
 use Rattle.std.proofs.Math.Bool.{or-false, or-true}
 use Rattle.std.specs.List.{list_any}
@@ -6,7 +6,7 @@ use Rattle.std.proofs.lemmas.List.Folds.{list_any-append}
 use Rattle.ev_model_laws.proofs.OperationLists.{IsIn}
 use Rattle.std.proofs.Common.{inl, inr}
 
--- those that join, with none behind that ends
+-- those that join, with none after them that ends
 abbrev pub last_run : {X : Type 0} → (X → Bool) → (X → Bool) → List X → List X
 last_run joins ends [] = []
 last_run joins ends (x ∷ xs) = if joins x && not (list_any ends xs) then x ∷ last_run joins ends xs else last_run joins ends xs
@@ -62,7 +62,7 @@ run_by joins ends keeps all front (x ∷ xs) is so =
     ∙ ap (λ r. if joins x && not (list_any ends xs) then x ∷ r else r)
     (run_by joins ends keeps all (front ++ x ∷ []) xs (append_assoc front (x ∷ []) xs ∙ is) so)
 
--- a filter keeps them, where it keeps what joins and has none behind that ends
+-- a filter keeps them, where it keeps what joins and has none after it that ends
 pub run_is : {X : Type 0} (joins ends keeps : X → Bool) (all : List X)
     → ((before behind : List X) (x : X) → before ++ x ∷ behind ≡ all → keeps x ≡ (joins x && not (list_any ends behind)))
     → filter keeps all ≡ last_run joins ends all
@@ -91,7 +91,7 @@ kept_by : {X : Type 0} (p : X → Bool) (x y : X) (ys : List X) (b : Bool) → I
 kept_by p x y ys true is = inr is
 kept_by p x y ys false is = is
 
--- what stands in the list and passes is kept
+-- what is in the list and passes is kept
 pub in_kept : {X : Type 0} (p : X → Bool) (x : X) (xs : List X) → IsIn x xs → p x ≡ true → IsIn x (filter p xs)
 in_kept p x [] is h = absurd is
 in_kept p x (y ∷ ys) (inl e) h = subst (λ b. IsIn x (if b then y ∷ filter p ys else filter p ys)) (sym (ap p e ∙ h)) (inl e)

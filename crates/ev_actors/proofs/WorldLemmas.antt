@@ -32,7 +32,7 @@ use Rattle.ev_model_laws.proofs.SeenLemmas.{IsSameSeen, same_seen}
 use Rattle.ev_model_laws.proofs.HeldLemmas.{step-held}
 use Rattle.ev_worker.specs.Workers.{HasWorker, SameOpen}
 
--- the world after entries and others behind
+-- the world after entries and others after them
 pub after_append : (format : Format) (world : World) (entries others : List Entry)
     → world_after format world (entries ++ others) ≡ world_after format (world_after format world entries) others
 after_append format world [] others = refl

@@ -53,11 +53,11 @@ pub record WorksIn (worker : WorkerParts) (world : World) : Type 0 where
 abbrev pub entries_made : WorkerParts → List Entry
 entries_made worker = entries_of worker.number worker.picture worker.lines
 
--- the world behind them
+-- the world after them
 abbrev pub world_behind : WorkerParts → JournalParts → World
 world_behind worker parts = world_after parts.format (world_now parts) (entries_made worker)
 
--- the worker's settle behind them, answered as the machine answers it
+-- the worker's settle after them, answered as the machine answers it
 abbrev pub settle_made : WorkerParts → ℕ → ℕ → JournalParts → Entry
 settle_made worker at step parts = record {
   actor = Worker worker.number;
@@ -75,7 +75,7 @@ with_entries entries parts = record parts { journal = parts.journal ++ entries }
 abbrev pub with_entry : Entry → JournalParts → JournalParts
 with_entry entry parts = with_entries (entry ∷ []) parts
 
--- the worker takes over that its settle behind its batch closed these connections, and this picture
+-- the worker takes over that its settle after its batch closed these connections, and this picture
 abbrev pub IsToldBehind : WorkerParts → List ℕ → Picture → JournalParts → Type 0
 IsToldBehind worker closed picture parts = IsToldBy worker.number closed picture (world_behind worker parts)
 

@@ -22,7 +22,7 @@ waiting_without actor waiting = filter (λ (o : Operation). not (actor_same o.ac
 abbrev pub joined_by : Line → List Operation → List Operation
 joined_by line waiting = waiting ++ line_operation line ∷ []
 
--- with this accept or close so many of its worker wait as a batch may have
+-- with this accept or close as many of its worker wait as a batch may have
 abbrev pub is_filled_by : Line → List Operation → Bool
 is_filled_by line waiting = length (waiting_of line.actor (joined_by line waiting)) == batch_limit
 
@@ -32,19 +32,19 @@ automatic_behind auto line =
     if auto && is_automatic line.actor then step_behind line 1 Publish ∷ step_behind line 2 Reap ∷ [] else []
 
 -- What goes out at a line. At an accept or close nothing, but where the batch of its worker is full: then the batch, with a
--- settle behind. At a settle its worker's batch, and the settle. At any other line the line, and what follows it.
+-- settle after it. At a settle its worker's batch, and the settle. At any other line the line, and what follows it.
 abbrev pub put_out : Bool → List Operation → Line → List Operation
 put_out auto waiting line =
     if is_batched line.event then (if is_filled_by line waiting then waiting_of line.actor (joined_by line waiting) ++ step_behind line 1 Settle ∷ [] else [])
     else (if is_settle line.event then waiting_of line.actor waiting ++ line_operation line ∷ [] else line_operation line ∷ automatic_behind auto line)
 
--- what waits behind a line
+-- what waits after a line
 abbrev pub waiting_behind : List Operation → Line → List Operation
 waiting_behind waiting line =
     if is_batched line.event then (if is_filled_by line waiting then waiting_without line.actor waiting else joined_by line waiting)
     else (if is_settle line.event then waiting_without line.actor waiting else waiting)
 
--- what goes out for a worker behind the last line: its batch, and its last settle
+-- what goes out for a worker after the last line: its batch, and its last settle
 abbrev pub put_out_last : ScriptParts → List Operation → ℕ → List Operation
 put_out_last script waiting worker = waiting_of (Worker worker) waiting ++ last_settle script worker ∷ []
 

@@ -13,7 +13,7 @@ use Rattle.ev_model.specs.Operations.{actor_same, is_settle, operation_of, rests
 abbrev pub is_settle_by : ℕ → Entry → Bool
 is_settle_by worker entry = is_settle entry.event && actor_same entry.actor (Worker worker)
 
--- whether the worker rests behind an entry that led to this world: by its own it has settled and has nothing open, and by another's it rests as before
+-- whether the worker rests after an entry that led to this world: after its own if it settled with nothing open, after another's as before
 abbrev pub rests_after : ℕ → Bool → World → Entry → Bool
 rests_after worker rests after entry = if actor_same entry.actor (Worker worker) then rests_behind after (operation_of entry) else rests
 
@@ -29,7 +29,7 @@ SettlesForNews format worker rests world (entry ∷ entries) =
     (IsTrue (rests && is_settle_by worker entry) → IsBehind worker world)
     × SettlesForNews format worker (rests_after worker rests after entry) after entries
 
--- so it is with each of a journal's workers, all of which rest at first
+-- this holds for each of a journal's workers, all of which rest at first
 abbrev pub IdleSettlesBringNews : Format → ℕ → List ℕ → List Entry → Type 0
 IdleSettlesBringNews format workers node journal =
     (worker : ℕ) → worker < workers → SettlesForNews format worker true (opening workers node) journal

@@ -101,7 +101,7 @@ pub record HasBegun (place : ℕ) (shown : Picture) (worker : WorkerParts) : Typ
   pub lines : worker.lines ≡ []
   pub made : IsMadeFrom [] worker
 
--- so it is with each of so many workers, which stand by number
+-- this holds for each of this many workers, which are listed by number
 pub record HaveBegun (number : ℕ) (shown : Picture) (workers : List WorkerParts) : Type 0 where
   pub count : length workers ≡ number
   pub each : (k : ℕ) (d : WorkerParts) → k < length workers → HasBegun k shown (get_or workers k d)

@@ -22,7 +22,7 @@ pub record IsAtWork (place : ℕ) (world : World) (worker : WorkerParts) : Type 
   pub works : WorksIn worker world
   pub room : length worker.lines < batch_limit
 
--- so it is with each of these workers, which stand by number
+-- this holds for each of these workers, which are listed by number
 abbrev pub AreAtWork : World → List WorkerParts → Type 0
 AreAtWork world workers = (k : ℕ) (d : WorkerParts) → k < length workers → IsAtWork k world (get_or workers k d)
 

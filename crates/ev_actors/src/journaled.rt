@@ -35,7 +35,7 @@ pub trait Journaled {
         ensures err { OnErr result (shows self.new ≡ shows self.old) }
         ensures kept { OnErr result (deferred self.new ≡ deferred self.old) };
 
-    /// Enters what a worker did since it settled, and its settle behind, and answers what the worker takes over. Out of memory,
+    /// Enters what a worker did since it settled, and its settle after that, and answers what the worker takes over. Out of memory,
     /// all stays as it was. The rows that wait to be taken go on waiting.
     fn apply_batch(&mut self, worker: &Worker, at: u32, step: u32) -> Result<Settled, AllocError>
         requires within { worker.now.number < (shows self.old).workers }

@@ -12,7 +12,7 @@ use std::alloc::{AllocError, Global};
 
 /// Takes the whole script on one thread, in one pass over its lines: what comes back shows the script's replay, by the rules of
 /// format 2. What is passed has done nothing yet. Each worker keeps its accepts and closes until it settles, by a line of its
-/// own, where its batch is full, or behind the last line. The rows of what is reaped are let go at once.
+/// own, where its batch is full, or after the last line. The rows of what is reaped are let go at once.
 pub fn replay<R: Journaled + Drop>(
     alloc: Global,
     script: &Script,

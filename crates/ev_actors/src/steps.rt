@@ -112,7 +112,7 @@ fn enter<R: Journaled>(
     Ok(())
 }
 
-// The publication and the reaping behind a line.
+// The publication and the reaping after a line.
 fn follow<R: Journaled>(journaled: &mut R, line: &Line) -> Result<(), AllocError>
     requires main { IsMainSide line.now.actor }
     ensures followed { OnOk result (HasFollowed line.now (R.shows journaled.old) (R.shows journaled.new)) }

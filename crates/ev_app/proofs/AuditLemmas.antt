@@ -19,7 +19,7 @@ use Rattle.ev_app.specs.Texts.{IsMadeBy}
 pub taken : {before after : Option (List ℕ)} {result : Result Audited ScriptFault} (read : ReadsAuditInput before after result) → TakesInput true before after read.input
 taken read = record { asked = read.asked; taken = read.taken; at_most = read.at_most; ended = read.ended }
 
--- the first fault of the bytes, for a command that reads a script with a journal behind it
+-- the first fault of the bytes, for a command that reads a script followed by a journal
 pub audit_fault : (input : Input) (line number : ℕ) → IsFaultWithJournal input line number → IsFirstEarly Audit input line number
 audit_fault input line number fault = record { place = fault.place; kind = fault.kind; stands = fault.stands; first = fault.first; told = fault.told; numbered = fault.numbered }
 

@@ -52,7 +52,7 @@ every_run_is_same bytes text is format journal run = is.answers.worlds format jo
 pub every_run_is_sealed : (bytes text : List ℕ) (is : IsTls bytes text) (format : Format) (journal : List Entry) → IsRunOf format (sealed_script is.trees) journal → IsSealed format is.trees journal
 every_run_is_sealed bytes text is format journal run = is.answers.sealed format journal run
 
--- `dns`: in every run of the script that is written endpoints are told of by the last answers
+-- `dns`: in every run of the script that is written endpoints are reported by the last answers
 pub every_run_has_last : (bytes text : List ℕ) (is : IsDns bytes text) (format : Format) (journal : List Entry) → IsRunOf format (answered_script is.trees) journal → AreLastAnswers format is.trees journal
 every_run_has_last bytes text is format journal run = is.answers.last format journal run
 
@@ -78,7 +78,7 @@ illegal_is_no_run bytes text is run = not_illegal (finding_of is.format is.scrip
 
 -- ---- the only journal of a text
 
--- of two calls of `run` with one script and one text both journals are one
+-- of two calls of `run` with one script and one text both journals are the same
 pub one_journal : (script : ScriptParts) (text : List ℕ) (one two : IsRunText script text) → two.journal ≡ one.journal
 one_journal script text one two = (one.only Two two.journal two.run two.bounded (sym two.rendered)).1
 
@@ -121,7 +121,7 @@ dump_told : (format : Format) (script : ScriptParts) (rows : List Row) (entries 
 dump_told format script rows entries text (inl dumped) = dumped.1
 dump_told format script rows entries text (inr wrong) = absurd (cc (wrong.0))
 
--- two legal journals of one format that agree in their first so many entries give one line
+-- two legal journals of one format that agree in their first n entries give one line
 pub one_dump : (entries : ℕ) (bytes others text another : List ℕ) (one : IsDumped entries bytes Done text) (two : IsDumped entries others Done another)
     → two.format ≡ one.format → take entries (journal_told two.script two.rows) ≡ take entries (journal_told one.script one.rows) → another ≡ text
 one_dump entries bytes others text another one two same agree =

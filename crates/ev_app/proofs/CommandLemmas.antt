@@ -26,7 +26,7 @@ two_words (x ∷ []) a b some few first second = absurd (omega arith)
 two_words (x ∷ y ∷ []) a b some few first second = λ i. sym first i ∷ sym second i ∷ []
 two_words (x ∷ y ∷ z ∷ ws) a b some few first second = absurd (omega arith)
 
--- a dump of so many entries is asked for by the words
+-- a dump of this many entries is asked for by the words
 pub dump_asked : (words : List (List ℕ)) (a b : List ℕ) (entries : ℕ) (found : Option Command) → words ≡ a ∷ b ∷ [] → a ≡ codes "dump" → b ≡ decimal entries
     → IfSome found (λ command. (command ≡ Dump entries) × IsWithin command) → IfSome found (Asks words)
 dump_asked words a b entries None are first second told = tt

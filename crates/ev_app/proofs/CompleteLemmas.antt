@@ -1,4 +1,4 @@
--- An input without fault that the source tells is answered.
+-- An input without fault that the source is known to have is answered.
 use Rattle.std.proofs.Common.{◌≡◌, ℕ, Bool, true, false, List, [], ◌++◌, IsTrue, Option, None, Some, ◌⊎◌, inl, inr, refl, sym, ap, subst, ◌∙◌, append-nil}
 use Rattle.std.specs.Io.KnownBytes.{IsAtEnd, prepend_known}
 use Rattle.ev_script.specs.declared.fault_kinds.FaultKind.{FaultKind}
@@ -31,12 +31,12 @@ early_more Chains xs ys place kind early = stands_more chain_lines xs ys true fa
 early_more Sotw xs ys place kind early = stands_more sotw_lines xs ys true false place kind early
 early_more (Dump entries) xs ys place kind early = stands_more_with xs ys true true place kind early
 
--- the bytes taken are a front of those told, and all of them at the end
+-- the bytes taken are a prefix of those known to be left, and all of them at the end
 pub front_of : (bytes taken : List ℕ) (after : Option (List ℕ)) → Some bytes ≡ prepend_known taken after → (rest : List ℕ) × (bytes ≡ taken ++ rest) × (IsAtEnd after → rest ≡ [])
 front_of bytes taken None e = cc
 front_of bytes taken (Some rest) e = let same : bytes ≡ taken ++ rest = cc in (rest, same, λ h. h)
 
--- so a fault of the bytes taken is one of those told
+-- so a fault of the bytes taken is one of those known to be left
 none_of_front : (command : Command) (bytes : List ℕ) (input : Input) (after : Option (List ℕ)) (line number : ℕ) → HasNoneFor command (told command bytes true) → TakesInput (has_journal command) (Some bytes) after input → IsFaultFor command input line number → ⊥
 none_of_front command bytes input after line number sound takes fault = by_end input.ended refl
   where
@@ -67,7 +67,7 @@ no_fault_without_input : (seed count : ℕ) (input : Input) (line number : ℕ) 
 no_fault_without_input seed count input line number (inl first) = first.stands
 no_fault_without_input seed count input line number (inr late) = late.2
 
--- bytes that the source tells are not refused
+-- bytes that the source is known to have are not refused
 not_refused_by : (command : Command) (outside : Outside) (line number : ℕ) (input : Input) → TakesInput (has_journal command) outside.left_before outside.left_after input → IsFaultFor command input line number → TellsInput command outside → ⊥
 not_refused_by command outside line number input taken fault tells =
     none_of_front command tells.bytes input outside.left_after line number tells.sound

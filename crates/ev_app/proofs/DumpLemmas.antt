@@ -22,7 +22,7 @@ not_both : (b : Bool) → IsTrue b → IsTrue (not b) → ⊥
 not_both true holds fails = let f : false ≡ true = fails in cc
 not_both false holds fails = let f : false ≡ true = holds in cc
 
--- where a text answers so many entries, a commit ends with them, or the rows aren't legal
+-- where a text answers this many entries, a commit ends with them, or the rows aren't legal
 is_no_late : (format : Format) (script : ScriptParts) (rows : List Row) (entries line : ℕ) (status : Status) (text : List ℕ) → IsDumpText format script rows entries status text
     → IsNoCommit format script rows entries line → ⊥
 is_no_late format script rows entries line status text (inl dumped) none = not_both (ends_commit rows entries) dumped.1.ends none.goes_on

@@ -36,7 +36,7 @@ text_made rules trees text same told sound script kept is = record {
   kept = kept;
 }
 
--- what the first lines give is a front of what all give
+-- what the first lines give is a prefix of what all give
 fronts_before : (lines more : List Data) → (rest : List Front) × (fronts (lines ++ more) ≡ fronts lines ++ rest)
 fronts_before [] more = (fronts more, refl)
 fronts_before (first ∷ lines) more =

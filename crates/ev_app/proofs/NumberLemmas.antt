@@ -10,7 +10,7 @@ use Rattle.ev_app.specs.Numbers.{IsPlain}
 own : IsNumeralModel (AllDigits 10) (digits_value 10)
 own = numerals_by_value (AllDigits 10) tells_digits
 
--- what a number that was read tells
+-- what follows from a number that was read
 number_read : {E : Type 0} (result : Result ℕ E) (number value : ℕ) (P : Type 0) → result ≡ Ok number → OkIff result P value → P × (number ≡ value)
 number_read (Ok found) number value P e told = let same : found ≡ number = cc in (told.0, sym same ∙ told.1)
 number_read (Err error) number value P e told = cc

@@ -1,4 +1,4 @@
--- Bytes are one script with one journal behind it.
+-- Bytes are one script followed by one journal.
 use Rattle.std.proofs.Common.{◌≡◌, ℕ, ◌^◌, ◌<◌, List, [], ◌∷◌, length, map, Option, Some, None, true, refl, sym, ap, ap₂, ◌∙◌, subst, arith, drop}
 use Rattle.ev_io.specs.Lines.{lines_of}
 use Rattle.ev_types.specs.Scripts.{ScriptParts, IsScript}

@@ -1,4 +1,4 @@
--- The text that answers an audit: what is found of the journal behind a script, as a line.
+-- The text that answers an audit: what is found of the journal that follows a script, as a line.
 use Rattle.std.specs.Prelude.{◌≡◌, ◌↔◌, ℕ, List}
 use Rattle.ev_types.specs.Scripts.{IsScript, ScriptParts}
 use Rattle.ev_types.specs.declared.journals.Finding.{Finding}
@@ -19,7 +19,7 @@ status_found Legal = Done
 status_found (IllegalAt entry) = Illegal
 status_found (NotTheScript entry) = Illegal
 
--- the text tells what is found of the rows, with its status; where they are legal, they are those of a run that has all laws
+-- the text says what is found of the rows, with its status; where they are legal, they are those of a run that has all laws
 pub record IsAuditText (format : Format) (script : ScriptParts) (rows : List Row) (status : Status) (text : List ℕ) : Type 0 where
   pub told : text ≡ finding_text (finding_of format script rows)
   pub goes : status ≡ status_found (finding_of format script rows)
@@ -29,7 +29,7 @@ pub record IsAuditText (format : Format) (script : ScriptParts) (rows : List Row
 abbrev pub IsFoundExactly : Format → ScriptParts → List Row → Type 0
 IsFoundExactly format script rows = (finding_of format script rows ≡ Legal) ↔ IsLegalJournal format script rows
 
--- the bytes are a script, within the bounds of scripts, with a journal behind it, and the text tells what is found of that
+-- the bytes are a script, within the bounds of scripts, followed by a journal, and the text says what is found of that
 pub record IsAudited (bytes : List ℕ) (status : Status) (text : List ℕ) : Type 0 where
   pub format : Format
   pub script : ScriptParts

@@ -16,7 +16,7 @@ words_of Chains = codes "chains" ∷ []
 words_of Sotw = codes "sotw" ∷ []
 words_of (Dump entries) = codes "dump" ∷ decimal entries ∷ []
 
--- a seed has 64 bits, and a script of a seed 1 to so many lines behind its header
+-- a seed has 64 bits, and a script of a seed 1 to this many lines after its header
 pub record IsSoak (seed count : ℕ) : Type 0 where
   pub bits : seed < 2 ^ 64
   pub some : 1 ≤ count

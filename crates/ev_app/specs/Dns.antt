@@ -14,12 +14,12 @@ use Rattle.ev_app.specs.declared.made.Made.{Made}
 use Rattle.ev_app.specs.Trees.{AreTreesOf}
 use Rattle.ev_app.specs.Expansions.{HasText, IsTextBy, IsUnmade}
 
--- what is told of endpoints in the runs of the script that is written is by the last answers
+-- what is reported of endpoints in the runs of the script that is written is by the last answers
 abbrev pub TellsLastAnswers : ScriptTrees → Type 0
 TellsLastAnswers trees =
     (format : Format) (journal : List Entry) → IsRunOf format (answered_script trees) journal → AreLastAnswers format trees journal
 
--- the text is that of a script of these trees, and its runs tell the last answers
+-- the text is that of a script of these trees, and its runs report the last answers
 pub record IsDnsText (trees : ScriptTrees) (text : List ℕ) : Type 0 where
   pub made : IsTextBy dns_rules trees text
   pub last : TellsLastAnswers trees

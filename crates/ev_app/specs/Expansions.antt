@@ -28,7 +28,7 @@ pub record HasText (rules : Rules) (trees : ScriptTrees) : Type 0 where
   pub unused : first_use rules.prefix (lines_in trees) ≡ None
   pub limits : AreWithinLimits (written_by rules (view trees.head) (lines_in trees))
 
--- why there is no text: some line uses a private name, which is told of the first one, or no line does, and the text is too large
+-- why there is no text: some line uses a private name, and the first such line is reported, or no line does, and the text is too large
 -- from this line on
 abbrev pub IsUnmade : Rules → ScriptTrees → ℕ → ℕ → Type 0
 IsUnmade rules trees line number =
@@ -41,7 +41,7 @@ pub record MakesNoText (rules : Rules) (forms : LineForms) (bytes : List ℕ) (l
   pub reads : AreTreesOf forms bytes trees
   pub unmade : IsUnmade rules trees line number
 
--- the fault that tells why there is no text
+-- the fault that says why there is no text
 abbrev pub fault_of : ExpandError → ScriptFault
 fault_of (Private line) = Bad line 11
 fault_of (Large line) = Bad line 10

@@ -16,7 +16,7 @@ use Rattle.ev_app.specs.Dumps.{EndsNoCommit}
 
 -- ---- early faults: of kinds 1 to 9, at a place
 
--- a fault that stands at a place of the bytes taken
+-- a fault at a place of the bytes taken
 abbrev pub IsEarly : Command → Input → ℕ → FaultKind → Type 0
 IsEarly Replay input place kind = Stands plain_lines input place kind
 IsEarly Run input place kind = Stands plain_lines input place kind
@@ -28,7 +28,7 @@ IsEarly Chains input place kind = Stands chain_lines input place kind
 IsEarly Sotw input place kind = Stands sotw_lines input place kind
 IsEarly (Dump entries) input place kind = StandsWithJournal input place kind
 
--- the line with which it is told
+-- the line with which it is reported
 abbrev pub IsToldOn : Command → Input → ℕ → FaultKind → ℕ → Type 0
 IsToldOn Replay input place kind line = line ≡ fault_line input place kind
 IsToldOn Run input place kind line = line ≡ fault_line input place kind
@@ -43,7 +43,7 @@ IsToldOn (Dump entries) input place kind line = IsToldWithJournal input place ki
 abbrev pub NoneEarly : Command → Input → Type 0
 NoneEarly command input = (place : ℕ) (kind : FaultKind) → ¬ (IsEarly command input place kind)
 
--- the first early fault, which has this line and this number: no other stands at an earlier place, or at its place with a
+-- the first early fault, which has this line and this number: no other is at an earlier place, or at its place with a
 -- kind that is looked at before
 pub record IsFirstEarly (command : Command) (input : Input) (line number : ℕ) : Type 0 where
   pub place : ℕ
@@ -67,7 +67,7 @@ IsLate Chains bytes line number = ⊥
 IsLate Sotw bytes line number = GrowsTooLarge bytes line number
 IsLate (Dump entries) bytes line number = EndsNoCommit entries bytes line number
 
--- ---- the fault that is told
+-- ---- the fault that is reported
 
 -- the first early fault of the bytes taken, or a late one, where they are the whole input and have no early one
 abbrev pub IsFaultFor : Command → Input → ℕ → ℕ → Type 0

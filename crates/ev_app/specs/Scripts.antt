@@ -20,7 +20,7 @@ IsInputAnswer input (Err (Bad line kind)) = IsFaultOf plain_lines input line kin
 IsInputAnswer input (Err Read) = HasNoFault plain_lines input × (¬ (IsTrue input.ended))
 IsInputAnswer input (Err OutOfMemory) = ⊤
 
--- what a source told before and after, and what the bytes taken in between are
+-- what is known of a source's bytes before and after, and what the bytes taken in between are
 pub record ReadsScript (before after : Option (List ℕ)) (result : Result ScriptParts ScriptFault) : Type 0 where
   pub input : Input
   pub takes : TakesInput false before after input

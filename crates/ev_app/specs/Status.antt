@@ -11,7 +11,7 @@ use Rattle.ev_app.specs.Input.{has_journal, IsTakenFor}
 use Rattle.ev_app.specs.Faults.{IsFaultFor, HasNoneFor, IsCutOff}
 use Rattle.ev_app.specs.Texts.{IsAnswerTo}
 
--- what a source and a sink told and counted before a call and after it, and whether the source had given its end
+-- what is known of a source and a sink, and what they counted, before a call and after it, and whether the source had given its end
 pub record Outside : Type 0 where
   pub left_before : Option (List ℕ)
   pub left_after : Option (List ℕ)
@@ -24,7 +24,7 @@ pub record Outside : Type 0 where
   pub writes_before : ℕ
   pub writes_after : ℕ
 
--- the same of a source of type S and a sink of type K, by what they tell and count
+-- the same of a source of type S and a sink of type K, by what is known of them and what they count
 abbrev pub outside_of : {S K : Type 0} → (S → Option (List ℕ)) → (S → Bool) → (S → ℕ) → (K → Option (List ℕ)) → (K → ℕ) → S → S → K → K → Outside
 outside_of left ended reads written writes source source' sink sink' = record {
   left_before = left source;
@@ -106,14 +106,14 @@ pub record LacksMemory (command : Command) (outside : Outside) : Type 0 where
   pub reads : ReadsWell outside
   pub written : WritesNothing outside
 
--- the source tells an input of the command without fault, and its count of faults didn't rise
+-- the source is known to have an input of the command without fault, and its count of faults didn't rise
 pub record TellsInput (command : Command) (outside : Outside) : Type 0 where
   pub bytes : List ℕ
   pub told : outside.left_before ≡ Some bytes
   pub sound : HasNoneFor command record { bytes = bytes; ended = true; audit = has_journal command }
   pub no_read_fault : ¬ Rose outside.reads_before outside.reads_after
 
--- so it is for a command that reads an input; the others ask for nothing
+-- this holds for a command that reads an input; the others ask for nothing
 abbrev pub IsToldFor : Command → Outside → Type 0
 IsToldFor Replay outside = TellsInput Replay outside
 IsToldFor Run outside = TellsInput Run outside
@@ -125,7 +125,7 @@ IsToldFor Chains outside = TellsInput Chains outside
 IsToldFor Sotw outside = TellsInput Sotw outside
 IsToldFor (Dump entries) outside = TellsInput (Dump entries) outside
 
--- the source tells what the command reads, and no write failed
+-- it is known what the command reads, and no write failed
 pub record IsHonest (command : Command) (outside : Outside) : Type 0 where
   pub told : IsToldFor command outside
   pub no_write_fault : ¬ Rose outside.writes_before outside.writes_after

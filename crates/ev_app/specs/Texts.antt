@@ -57,7 +57,7 @@ IsMade command input (Err (Bad line number)) = IsFaultFor command input line num
 IsMade command input (Err Read) = IsCutOff command input
 IsMade command input (Err lacks_memory) = ⊤
 
--- what a source told before and after, and what is made of the bytes taken in between
+-- what is known of a source's bytes before and after, and what is made of the bytes taken in between
 pub record IsMadeBy (command : Command) (before after : Option (List ℕ)) (result : Result Made ScriptFault) : Type 0 where
   pub input : Input
   pub takes : IsTakenFor command before after input

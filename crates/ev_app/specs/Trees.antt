@@ -11,7 +11,7 @@ use Rattle.ev_app.specs.Input.{TakesInput}
 abbrev pub AreTreesOf : LineForms → List ℕ → ScriptTrees → Type 0
 AreTreesOf forms bytes trees = IsTreesAnswer forms (input_of_text bytes) (Ok trees)
 
--- what a source told before and after, and which trees the bytes taken in between are
+-- what is known of a source's bytes before and after, and which trees the bytes taken in between are
 pub record ReadsTrees (forms : LineForms) (before after : Option (List ℕ)) (result : Result ScriptTrees ScriptFault) : Type 0 where
   pub input : Input
   pub takes : TakesInput false before after input

@@ -14,7 +14,7 @@ use ev_model_laws::legal_exactly;
 use ev_types::Finding;
 use std::alloc::{AllocError, Global};
 
-// Makes the line that tells what is found of the journal behind the script that the source's bytes are.
+// Makes the line that says what is found of the journal that follows the script in the source's bytes.
 #[tactic(auto, using(crate::proofs::AuditLemmas::audited, crate::proofs::AuditLemmas::audit_lacks, crate::proofs::AuditLemmas::not_audited))]
 pub(crate) fn make_audit<S: Source>(alloc: Global, source: &mut S) -> Result<Made, ScriptFault>
     ensures made { IsMadeBy Audit (S.left source.old) (S.left source.new) result }

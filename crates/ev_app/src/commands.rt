@@ -14,9 +14,9 @@ pub enum Command {
     Replay,
     /// `run`: the journal of a script, as a thread for each actor makes it.
     Run,
-    /// `audit`: a line that tells what is found of the journal behind a script.
+    /// `audit`: a line that says what is found of the journal that follows a script.
     Audit,
-    /// `soak SEED COUNT`: a line that tells what the replay of a seed's script came to. The script has so many lines behind
+    /// `soak SEED COUNT`: a line that says what the replay of a seed's script came to. The script has COUNT lines after
     /// its header, 1 to `MAX_SOAK`; nothing is read.
     Soak { seed: u64, count: u32 },
     /// `tls`: the script in which each cluster that names secrets waits for them.
@@ -27,7 +27,7 @@ pub enum Command {
     Chains,
     /// `sotw`: the journal of a script whose responses are those of the state of the world, as one thread makes it.
     Sotw,
-    /// `dump K`: the configuration behind the first K entries of the journal behind a script, as a line.
+    /// `dump K`: the configuration after the first K entries of the journal that follows a script, as a line.
     Dump { entries: u32 },
 }
 
@@ -120,7 +120,7 @@ fn dump_of(arguments: &[Text]) -> Option<Command>
     }
 }
 
-// The dump of so many entries, where they are within their limit.
+// The dump of this many entries, where they are within their limit.
 fn dump_with(entries: u64) -> Option<Command>
     ensures some { IfSome result (λ command. (command ≡ Dump entries) × IsWithin command) }
     ensures none { result ≡ None → ¬ (entries < 2 ^ 32) }

@@ -38,7 +38,7 @@ fn dns_made(alloc: Global, trees: &ScriptTrees) -> Result<Made, ScriptFault>
     ensures answer { IsDnsAnswer trees.now result }
     ensures read { result ≢ Err ScriptFault.Read }
 {
-    // what is told of endpoints in each run of a script that is written
+    // what is reported of endpoints in each run of a script that is written
     answers_are_last();
     match resolve(alloc, trees) {
         Ok(text) => Ok(Made {

@@ -20,10 +20,10 @@ use ev_types::Finding;
 use std::alloc::{AllocError, Global};
 use std::mem::drop;
 
-/// The kind of the fault that no commit ends with so many entries.
+/// The kind of the fault that no commit ends with this many entries.
 const NO_COMMIT: u8 = 12;
 
-// Makes the line of what is known behind the first so many entries of the journal behind the script that the source's bytes are, or
+// Makes the line of what is known after the first n entries of the journal that follows the script in the source's bytes, or
 // of what is found of it where it isn't legal.
 #[tactic(auto, using(crate::proofs::DumpLemmas::dumped, crate::proofs::DumpLemmas::not_dumped))]
 pub(crate) fn make_dump<S: Source>(
@@ -45,7 +45,7 @@ pub(crate) fn make_dump<S: Source>(
     dump_made(alloc, &audited, entries)
 }
 
-// The dump of so many entries of a journal, or what is found of it.
+// The dump of this many entries of a journal, or what is found of it.
 fn dump_made(alloc: Global, audited: &Audited, entries: u32) -> Result<Made, ScriptFault>
     requires few { length audited.now.rows.items < MAX_LINES }
     ensures answer { IsDumpAnswer audited.now.format audited.now.script audited.now.rows.items entries result }
@@ -91,7 +91,7 @@ fn line_of_end(audited: &Audited) -> Option<u32>
     audited.script.count.checked_add(rows + 2)
 }
 
-// The line of what is known behind the first so many entries of a legal journal.
+// The line of what is known after the first n entries of a legal journal.
 fn dump_text(alloc: Global, audited: &Audited, entries: u32) -> Result<Vec<u8>, AllocError>
     requires legal { finding_of audited.now.format audited.now.script audited.now.rows.items ≡ Legal }
     requires ends { IsTrue (ends_commit audited.now.rows.items entries) }

@@ -10,7 +10,7 @@ const GROWS_TOO_LARGE: u8 = 10;
 /// The kind of the fault that a line uses a name which the command keeps to itself.
 const USES_A_PRIVATE_NAME: u8 = 11;
 
-// The fault that tells why there is no text.
+// The fault that says why there is no text.
 pub(crate) fn fault_of(error: ExpandError) -> ScriptFault
     ensures { result ≡ fault_of error }
 {

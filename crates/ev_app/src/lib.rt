@@ -6,7 +6,7 @@
 //! - A number on the command line is its decimal, as `decimal` writes it: no sign, and no zero before another digit. So no two
 //!   words are one number, and a command line asks for one command at most. What `parse` takes beside the decimal is ruled out by
 //!   the first byte.
-//! - `completes` asks that the bytes told have no fault. That a front of them then has none is proved: more bytes
+//! - `completes` asks that the bytes known to be left have no fault. That a prefix of them then has none is proved: more bytes
 //!   take no fault away.
 #![tactic(auto)]
 

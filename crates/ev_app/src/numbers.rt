@@ -16,7 +16,7 @@ pub fn number_of(text: &str) -> Option<u64>
     }
 }
 
-// Whether a text has no plus in front, and no zero before another byte.
+// Whether a text has no leading plus, and no zero before another byte.
 fn is_plain(bytes: &[u8]) -> bool
     ensures { IsTrue result ↔ IsPlain bytes.now }
 {

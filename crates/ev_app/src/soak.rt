@@ -10,7 +10,7 @@ use ev_soak::{script, write_soak};
 use std::alloc::{AllocError, Global};
 use std::mem::drop;
 
-// The line that tells what the replay of a seed's script came to.
+// The line that says what the replay of a seed's script came to.
 #[tactic(auto, using(crate::proofs::SoakLemmas::soak_told))]
 pub(crate) fn soak_text(alloc: Global, seed: u64, count: u32) -> Result<Vec<u8>, AllocError>
     requires within { IsSoak seed count }

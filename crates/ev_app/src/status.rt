@@ -22,7 +22,7 @@ pub enum Status {
 impl Status {
     ghost use Rattle.ev_app.specs.Exit.{exit_of};
 
-    /// The exit status of the process: 0 to 6 in the order in which the statuses stand.
+    /// The exit status of the process: 0 to 6 in the order in which the statuses are listed.
     pub fn exit_status(self) -> u8
         ensures { result ≡ exit_of self }
     {

@@ -1,4 +1,4 @@
--- A row of the walk: what is found of it, and where the walk stands behind it.
+-- A row of the walk: what is found of it, and where the walk is after it.
 use Rattle.std.proofs.Common.{◌≡◌, ◌<◌, ◌+◌, ◌==◌, ℕ, Bool, true, false, not, ◌&&◌, ◌||◌, if◌then◌else◌, List, [], ◌∷◌, ◌++◌, length, take, Option, Some, None, slice_get, refl, ap, sym, ◌∙◌, subst, arith, below_more}
 use Rattle.std.specs.Prelude.{option_and_then}
 use Rattle.std.specs.List.{last_or, list_any}
@@ -124,7 +124,7 @@ none_before script rows = ap (journal_told script) (take_none rows)
 nothing_first : (format : Format) (script : ScriptParts) (rows : List Row) → NothingFound format script rows 0
 nothing_first format script rows = λ earlier below. absurd (omega arith)
 
--- the walk stands before the first row
+-- the walk is before the first row
 pub first_before : (script : ScriptParts) (rows : List Row) (walk : Walk) → IsAt walk.proxy (opening script.workers script.node) → HaveCome script [] walk.courses
     → walk.batch ≡ None → IsBefore script rows 0 walk
 first_before script rows walk at come batch = record {
@@ -134,7 +134,7 @@ first_before script rows walk at come batch = record {
   batch = batch ∙ ap open_batch (sym (none_before script rows));
 }
 
--- what is found behind the last row, where so much is known of what is left to do
+-- what is found after the last row, where so much is known of what is left to do
 pub end_is : (format : Format) (script : ScriptParts) (rows : List Row) (unfinished : Bool)
     → unfinished ≡ list_any (λ (o : Operation). is_unfinished format script (journal_before script rows (length rows)) o.actor) (all_operations script)
     → (if unfinished then NotTheScript (length rows + 1) else Legal) ≡ end_finding format script rows
@@ -223,7 +223,7 @@ module _ (script : ScriptParts) (kept : IsScript script) (rows : List Row) (plac
         subst (λ (p : Operation). NumbersSuffice world p.event) (same_operation other e)
         (numbers_suffice format script kept rows place row o (omega arith) before.none is.next)
 
-    -- behind the row
+    -- after the row
     more : journal_before script rows (place + 1) ≡ journal ++ entry ∷ []
     more = journal_more script rows place row entry there taken.entry
 

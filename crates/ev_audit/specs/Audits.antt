@@ -69,7 +69,7 @@ breaks_open (Some of) actor = not (actor_same actor of)
 abbrev pub world_before : Format → ScriptParts → List Row → ℕ → World
 world_before format script rows place = world_behind format script (journal_before script rows place)
 
--- the walk stands before this place of the rows: nothing is found so far, and it knows the machine, each actor's course and the
+-- the walk is before this place of the rows: nothing is found so far, and it knows the machine, each actor's course and the
 -- open batch after the journal of the rows before
 pub record IsBefore (script : ScriptParts) (rows : List Row) (place : ℕ) (walk : Walk) : Type 0 where
   pub none : NothingFound walk.courses.format script rows place

@@ -1,4 +1,4 @@
--- The line that tells what is found of a journal. This project's own.
+-- The line that says what is found of a journal. This project's own.
 use Rattle.std.specs.Prelude.{ℕ, List, [], ◌∷◌, ◌++◌, codes}
 use Rattle.serde_json.specs.Data.{Data, number, unsigned, string, object, member, no_members}
 use Rattle.serde_json.specs.Written.{compact_text}

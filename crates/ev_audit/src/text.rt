@@ -6,7 +6,7 @@ use ev_types::Finding;
 use serde_json::{Value, json};
 use std::alloc::{AllocError, Global};
 
-/// Writes the line that tells what is found of a journal, with the line feed that closes it.
+/// Writes the line that says what is found of a journal, with the line feed that closes it.
 #[tactic(auto, using(crate::proofs::TextLemmas::no_float), unfolding(crate::specs::Texts::finding_text))]
 pub fn write_finding(alloc: Global, finding: Finding) -> Result<Vec<u8>, AllocError>
     ensures line { IfOk result (λ text. text.items ≡ finding_text finding) }

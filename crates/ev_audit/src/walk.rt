@@ -38,7 +38,7 @@ impl Walk {
         })
     }
 
-    /// Goes on by a row, and tells what is found of it. Where anything is, or memory is wanting, the walk has come to its end.
+    /// Goes on by a row, and says what is found of it. Where anything is, or memory runs out, the walk has come to its end.
     pub(crate) fn pass(
         &mut self,
         alloc: Global,
@@ -103,7 +103,7 @@ fn breaks(batch: Option<Actor>, actor: Actor) -> bool
     }
 }
 
-// Whether the two are one actor.
+// Whether the two are the same actor.
 fn is_same_actor(one: Actor, other: Actor) -> bool
     ensures { result ≡ actor_same one other }
 {

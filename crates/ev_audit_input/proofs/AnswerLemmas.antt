@@ -102,7 +102,7 @@ kind_of limit.TooLarge number is = (TooLarge, refl, is, λ input place line e. e
 kind_of limit.Failed number is = absurd is
 kind_of limit.OutOfMemory number is = absurd is
 
--- behind some bytes, of which the last line given begins the journal, more were taken
+-- after some bytes, of which the last line given begins the journal, more were taken
 module _ (bytes more : List ℕ) (old new : LinesState) (script : ScriptParts) (text : List ℕ) (taken : HasTaken old bytes) (given : old.given ≡ script.count + 1)
     (up : IsUpToJournal plain_lines (input_of true old bytes) script.count text) (reads : script_of true bytes ≡ Some script) (goes : GoesOn old new bytes more) where
   abbrev all : List ℕ
@@ -111,11 +111,11 @@ module _ (bytes more : List ℕ) (old new : LinesState) (script : ScriptParts) (
   abbrev input : Input
   input = input_of true new all
 
-  -- what was read behind it
+  -- what was read after it
   read_lines : (texts : List (List ℕ)) → given_between old new all ≡ texts → drop (script.count + 1) (take new.given (lines_of all)) ≡ texts
   read_lines texts lines = ap (λ (n : ℕ). drop n (take new.given (lines_of all))) (sym given) ∙ lines
 
-  -- where it is the last line and isn't closed, no line was given behind it, nor a limit passed
+  -- where it is the last line and isn't closed, no line was given after it, nor a limit passed
   no_lines : IsOpenEnd bytes old script.count → more ≡ [] → length (given_between old new all) ≡ 0
   no_lines end none =
       let same : length (lines_of all) ≡ length (lines_of bytes) = ap (λ (bs : List ℕ). length (lines_of (bytes ++ bs))) none ∙ ap (λ (bs : List ℕ). length (lines_of bs)) (append-nil bytes) in
@@ -150,7 +150,7 @@ module _ (bytes more : List ℕ) (old new : LinesState) (script : ScriptParts) (
       (wrong_next (lines_of all) script.workers script.count new.given w.format w.rows w.ended (w.text ∷ []) (join.up.here ∙ w.journal.head) w.journal.meant lines w.text refl w.misplaced)
       goes.taken refl w.here)
 
-  -- the lines of a journal, with nothing behind them
+  -- the lines of a journal, with nothing after them
   journal_lines : (format : Format) (rows : List Row) (ended : Bool) → IsJournalTo script.workers text (given_between old new all) format rows ended
       → drop (script.count + 1) (take new.given (lines_of all)) ≡ texts_of rows ended ++ []
   journal_lines format rows ended journal = read_lines (texts_of rows ended ++ []) (journal.lines ∙ sym (append-nil (texts_of rows ended)))
@@ -207,7 +207,7 @@ few_rows workers text old new all format rows r taken =
     let few : new.given ≤ 200000 = few_lines new all taken in
     omega (arith, ap length r.journal.lines, count_ended rows, length-drop old.given (take new.given (lines_of all)), length-take new.given (lines_of all), r.all)
 
--- what the reader of the script ensures of a script with a journal behind it
+-- what the reader of the script ensures of a script followed by a journal
 pub record IsBehind (before now : Option (List ℕ)) (old : LinesState) (script : ScriptParts) (text : List ℕ) : Type 0 where
   pub bytes : List ℕ
   pub takes : Takes before now bytes
@@ -221,7 +221,7 @@ abbrev pub RowsRead : Option (List ℕ) → Option (List ℕ) → LinesState →
 RowsRead now after old new workers text answer =
     (more : List ℕ) × Takes now after more × ((bytes : List ℕ) → HasTaken old bytes → GoesOn old new bytes more × IsRowsAnswer workers text old new (bytes ++ more) answer)
 
--- a source whose end was told is at it
+-- a source that gave its end is at it
 pub still_at_end : (now after : Option (List ℕ)) (old new : LinesState) (workers : ℕ) (text : List ℕ) (answer : Result (Format × Vec Row Global) ScriptFault)
     → RowsRead now after old new workers text answer → (IsTrue old.ended → IsAtEnd now) → (IsTrue new.ended → IsTrue old.ended ⊎ IsAtEnd after) → IsTrue new.ended → IsAtEnd after
 still_at_end now after old new workers text answer read was is ended = by_end (is ended)

@@ -13,7 +13,7 @@ use Rattle.ev_script.proofs.LimitLemmas.{feeds_with}
 use Rattle.ev_script.proofs.PrefixLemmas.{stands_more}
 use Rattle.ev_audit_input.specs.Faults.{StartsJournal, IsNoText, HasEndBefore, IsMisplacedAt, StandsWithJournal}
 
--- some bytes, and more behind them; whether the source gave its end behind the ones and the others
+-- some bytes, and more after them; whether the source gave its end after the ones and the others
 module _ (xs ys : List ℕ) (near_end far_end audit : Bool) where
   abbrev near : Input
   near = record { bytes = xs; ended = near_end; audit = audit }
@@ -92,7 +92,7 @@ module _ (xs ys : List ℕ) (near_end far_end audit : Bool) where
       ap (λ (i : ℕ). option_and_then (plain_lines.lines (i + 1)) (tree_at far place)) (index_same place (omega arith))
       ∙ ap (option_and_then (plain_lines.lines (feeds_in (take place xs) + 1))) (tree_same place h feed)
 
-  -- a fault of the script that stands there in the whole stands there in the part
+  -- a fault of the script that is there in the whole is there in the part
   pub stands_near : (place : ℕ) (kind : FaultKind) → place < length xs → Stands plain_lines far place kind → Stands plain_lines near place kind
   stands_near place TooLong h s = (h, (s.1.0, λ k low high f. s.1.1 k low high (byte_same k (omega arith) ∙ f)))
   stands_near place TooMany h s =
@@ -167,7 +167,7 @@ within_part : (xs : List ℕ) (audit : Bool) (place : ℕ) → EndsLine (part xs
 within_part xs audit place (inl feed) = feed.0
 within_part xs audit place (inr end) = let no : false ≡ true = end.0 in cc
 
--- a fault of the bytes taken stands in an input that begins with them
+-- a fault of the bytes taken is in an input that begins with them
 pub stands_more_with : (xs ys : List ℕ) (ended audit : Bool) (place : ℕ) (kind : FaultKind) → StandsWithJournal (part xs audit) place kind
     → StandsWithJournal (record { bytes = xs ++ ys; ended = ended; audit = audit }) place kind
 stands_more_with xs ys ended audit place TooLong s = stands_more plain_lines xs ys ended audit place TooLong s

@@ -24,7 +24,7 @@ end_third n = refl
 row_no_end : (row : Row) (n : ℕ) → row_text row ≢ end_text n
 row_no_end row n e = omega (arith, row_third row, end_third n, ap (λ (text : List ℕ). get_or text 2 0) e)
 
--- ---- the texts of rows and of what is behind them
+-- ---- the texts of rows and of what is after them
 
 abbrev MeansRow : Row → Type 0
 MeansRow row = IsTextOf (row_text row) row
@@ -61,7 +61,7 @@ abbrev pub Wrong : ℕ → List (List ℕ) → ℕ → ℕ → Type 0
 Wrong workers texts first index = IsNoText workers (index - first) (get_or texts index []) ⊎ HasEndBefore texts first index
 
 -- of these texts the first `given` ones were read: from the one of this index on they are a journal's first line, rows and the end
--- line or not, and what is behind them
+-- line or not, and what is after them
 module _ (texts : List (List ℕ)) (workers first given : ℕ) (format : Format) (rows : List Row) (end : Bool) (rest : List (List ℕ))
     (head : get_or texts first [] ≡ first_text format workers) (meant : AreMeant rows) (lines : drop (first + 1) (take given texts) ≡ texts_of rows end ++ rest) where
   read_at : (k : ℕ) → k < length (texts_of rows end ++ rest) → get_or texts (first + 1 + k) [] ≡ get_or (texts_of rows end ++ rest) k []
@@ -96,7 +96,7 @@ module _ (texts : List (List ℕ)) (workers first given : ℕ) (format : Format)
       let there = row_text_at rows end k meant h in
       bad.0 there.0 there.1.is_row (sym there.2 ∙ sym (text_at k (omega (arith, count_of rows end))))
 
-  -- no end line stands before one of the rows, nor before the end line
+  -- no end line comes before one of the rows, nor before the end line
   none_before : (index : ℕ) → index ≤ first + 1 + length rows → ¬ (HasEndBefore texts first index)
   none_before index h e =
       let before : first + 1 + e.rows < index = e.before in
@@ -160,7 +160,7 @@ module _ (texts : List (List ℕ)) (workers first given : ℕ) (format : Format)
   pub no_end : end ≡ false → length texts ≤ first + 1 + length rows → ¬ (HasEndBefore texts first (length texts))
   no_end is all = none_before (length texts) all
 
-  -- a line behind them that is misplaced
+  -- a line after them that is misplaced
   pub wrong_next : (text : List ℕ) → rest ≡ text ∷ [] → IsMisplaced rows end text → Wrong workers texts first (first + 1 + length (texts_of rows end))
   wrong_next text one misplaced = by_end end refl misplaced
     where
@@ -180,7 +180,7 @@ module _ (texts : List (List ℕ)) (workers first given : ℕ) (format : Format)
           inl (subst (λ (n : ℕ). IsNoText workers n (get_or texts (first + 1 + length (texts_of rows end)) [])) (sym count)
           (subst (IsNoText workers (suc (length rows))) (sym here) m))
 
--- a first line that is the first of no journal with so many workers
+-- a first line that is the first of no journal with this many workers
 pub wrong_first : (texts : List (List ℕ)) (workers first : ℕ) (text : List ℕ) → get_or texts first [] ≡ text → ((format : Format) → text ≢ first_text format workers) → Wrong workers texts first first
 wrong_first texts workers first text here wrong =
     let none : first - first ≡ 0 = omega arith in

@@ -25,7 +25,7 @@ use Rattle.ev_audit_input.proofs.InPlace.{Wrong, count_open, none_wrong, has_end
 use Rattle.ev_audit_input.proofs.ScriptFaults.{by_kind, least_limit, limit_stands, stands_so, not_before}
 use Rattle.ev_audit_input.proofs.UpTo.{heads_of}
 
--- ---- an input in which a journal begins behind a script
+-- ---- an input in which a journal begins after a script
 
 module _ (all : List ℕ) (state : LinesState) (script : ScriptParts) (text : List ℕ)
     (up : IsUpToJournal plain_lines (input_of true state all) script.count text) (reads : script_of true all ≡ Some script) where
@@ -84,7 +84,7 @@ module _ (all : List ℕ) (state : LinesState) (script : ScriptParts) (text : Li
       let further : feeds_in (take up.place all) ≤ feeds_in (take place all) = feeds_up_to all up.place place late in
       omega (arith, start_is)
 
-  -- a fault of the script that isn't one of the limits stands nowhere
+  -- a fault of the script that isn't one of the limits is nowhere
   only_limits : (place : ℕ) (kind : FaultKind) → Stands plain_lines input place kind → (place < length all) × (HasNoLineFault all place → ⊥)
   only_limits place TooLong s = (s.0, λ sound. sound.2 s.1)
   only_limits place TooMany s = (s.0, λ sound. sound.1 s.1)
@@ -150,14 +150,14 @@ module _ (all : List ℕ) (state : LinesState) (script : ScriptParts) (text : Li
         numbered = refl;
       }
 
-  -- ---- some lines behind it
+  -- ---- some lines after it
 
   module _ (given : ℕ) (format : Format) (rows : List Row) (end : Bool) (rest : List (List ℕ))
       (head : text ≡ first_text format script.workers) (meant : AreMeant rows) (lines : drop (script.count + 1) (take given texts) ≡ texts_of rows end ++ rest) where
     headed : get_or texts script.count [] ≡ first_text format script.workers
     headed = up.here ∙ head
 
-    -- so many lines are in their places
+    -- this many lines are in their places
     placed : (place : ℕ) → index_at input place < script.count + 1 + length (texts_of rows end) → ¬ (IsMisplacedAt input place)
     placed place h m =
         none_wrong texts script.workers script.count given format rows end rest headed meant lines (index_at input place) (index_late place (misplaced_late place m)) h
@@ -187,7 +187,7 @@ module _ (all : List ℕ) (state : LinesState) (script : ScriptParts) (text : Li
         by_fault (inl plain) = let limited = only_limits place kind plain in limited.1 (sound place limited.0)
         by_fault (inr journal) = by_journal journal.1
 
-    -- the input goes on behind the lines that were given
+    -- the input goes on after the lines that were given
     pub goes_sound : rest ≡ [] → ¬ (IsTrue state.ended) → feeds_in all ≡ given → IsSoundUpTo all (length all) → HasNoFaultWithJournal input
     goes_sound none goes_on count sound place kind s = by_fault (by_kind input place kind s)
       where
@@ -232,7 +232,7 @@ module _ (all : List ℕ) (state : LinesState) (script : ScriptParts) (text : Li
             (omega (arith, count_rows, ap length lines, length-drop (script.count + 1) (take given texts), length-take given texts))
             (subst (λ (first : ℕ). HasEndBefore texts first (length texts)) (first_is start s) h)
 
-    -- a limit is passed behind the lines that were given
+    -- a limit is passed after the lines that were given
     pub past_limit : (line place : ℕ) (fault : LineFault) (kind : FaultKind) → rest ≡ [] → place < length all → StandsAt all place fault → IsSoundUpTo all place → Tells fault kind
         → feeds_in (take place all) ≡ given → line ≡ given + 1 → ((l : ℕ) → l ≡ index_at input place + 1 → IsToldWithJournal input place kind l) → IsFaultWithJournal input line (fault_number kind)
     past_limit line place fault kind none within stands sound tells behind here told = record {

@@ -50,7 +50,7 @@ told_so input place NoSuchWorker line s told = told
 told_so input place NoByte line s told = told
 told_so input place NotJournal line s told = inr (λ m. s.3 m.start m.starts.begins, told)
 
--- a fault stands within the bytes or at their end
+-- a fault is within the bytes or at their end
 pub stands_within : (input : Input) (place : ℕ) (kind : FaultKind) → Stands plain_lines input place kind → place ≤ length input.bytes
 stands_within input place TooLong s = let h : place < length input.bytes = s.0 in omega arith
 stands_within input place TooMany s = let h : place < length input.bytes = s.0 in omega arith
@@ -73,7 +73,7 @@ order_within NoSuchWorker = omega arith
 order_within NoByte = omega arith
 order_within NotJournal = omega arith
 
--- a fault of the journal at a place or behind it doesn't go before one that stands there
+-- a fault of the journal at a place or after it doesn't go before one that is there
 pub not_before : (place other : ℕ) (kind kind_there : FaultKind) → kind_there ≡ NotJournal → place ≤ other → (place < other) ⊎ ((place ≡ other) × (fault_order kind ≤ fault_order kind_there))
 not_before place other kind kind_there is late = by_place (cases_lt place other)
   where
@@ -122,7 +122,7 @@ script_sound input sound goes_on none place kind s = by_fault (by_kind input pla
 
 -- ---- faults of the limits
 
--- a fault of the limits stands as its kind
+-- a fault of the limits is one of its kind
 pub limit_stands : (input : Input) (place : ℕ) (fault : LineFault) (kind : FaultKind) → place < length input.bytes → StandsAt input.bytes place fault → Tells fault kind
     → Stands plain_lines input place kind
 limit_stands input place limit.TooLong kind within stands tells = subst (Stands plain_lines input place) (sym tells) (within, stands.2)
@@ -131,7 +131,7 @@ limit_stands input place limit.TooLarge kind within stands tells = subst (Stands
 limit_stands input place limit.Failed kind within stands tells = absurd tells
 limit_stands input place limit.OutOfMemory kind within stands tells = absurd tells
 
--- at its place the kinds that are looked at before don't stand
+-- at its place there is none of the kinds that are looked at before
 pub least_limit : (input : Input) (place : ℕ) (fault : LineFault) (kind kind_there : FaultKind) → StandsAt input.bytes place fault → Tells fault kind
     → Stands plain_lines input place kind_there → fault_order kind ≤ fault_order kind_there
 least_limit input place limit.TooLarge kind kind_there stands tells s = let same : fault_order kind ≡ 0 = ap fault_order tells in omega arith

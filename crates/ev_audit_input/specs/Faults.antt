@@ -17,8 +17,8 @@ pub record StartsJournal (input : Input) (start : ℕ) : Type 0 where
   pub begins : BeginsJournal input start
   pub first : (other : ℕ) → other < start → ¬ (BeginsJournal input other)
 
--- a text isn't that of the line of a journal with so many lines before it: of its first line, which names its format and the
--- script's count of workers, or after that and so many rows neither of a row nor of the end line, which names their number
+-- a text isn't that of the line of a journal with this many lines before it: of its first line, which names its format and the
+-- script's count of workers, or after that and this many rows neither of a row nor of the end line, which names their number
 abbrev pub IsNoText : ℕ → ℕ → List ℕ → Type 0
 IsNoText workers zero text = (format : Format) → text ≢ first_text format workers
 IsNoText workers (suc rows) text = IsNoRow text × (text ≢ end_text rows)
@@ -31,7 +31,7 @@ pub record HasEndBefore (texts : List (List ℕ)) (first index : ℕ) : Type 0 w
 
 -- ---- faults
 
--- a line of the journal ends at the place that isn't one in its place: it hasn't the text of one there, or stands after the
+-- a line of the journal ends at the place that isn't one in its place: it hasn't the text of one there, or comes after the
 -- end line
 pub record IsMisplacedAt (input : Input) (place : ℕ) : Type 0 where
   pub start : ℕ
@@ -50,7 +50,7 @@ pub record IsIncompleteAt (input : Input) (place : ℕ) : Type 0 where
   pub here : place ≡ length input.bytes
   pub missing : (start : ℕ) → StartsJournal input start → ¬ (HasEndBefore (lines_of input.bytes) (index_at input start) (length (lines_of input.bytes)))
 
--- a fault of this kind stands at the place
+-- a fault of this kind is at the place
 abbrev pub StandsWithJournal : Input → ℕ → FaultKind → Type 0
 StandsWithJournal input place TooLong = Stands plain_lines input place TooLong
 StandsWithJournal input place TooMany = Stands plain_lines input place TooMany
@@ -62,7 +62,7 @@ StandsWithJournal input place NoSuchWorker = Stands plain_lines input place NoSu
 StandsWithJournal input place NoByte = Stands plain_lines input place NoByte
 StandsWithJournal input place NotJournal = IsMisplacedAt input place ⊎ IsIncompleteAt input place
 
--- the line with which it is told: its own, and at the end of the input, where no line that ends there is out of its place, the
+-- the line with which it is reported: its own, and at the end of the input, where no line that ends there is out of its place, the
 -- one above the last
 abbrev pub IsToldWithJournal : Input → ℕ → FaultKind → ℕ → Type 0
 IsToldWithJournal input place TooLong line = line ≡ fault_line input place TooLong
@@ -76,7 +76,7 @@ IsToldWithJournal input place NoByte line = line ≡ fault_line input place NoBy
 IsToldWithJournal input place NotJournal line =
     (IsMisplacedAt input place × (line ≡ index_at input place + 1)) ⊎ ((¬ (IsMisplacedAt input place)) × (line ≡ length (lines_of input.bytes) + 1))
 
--- the input's first fault has this line and this number: no other stands at an earlier place, or at its place with a kind that
+-- the input's first fault has this line and this number: no other is at an earlier place, or at its place with a kind that
 -- is looked at before
 pub record IsFaultWithJournal (input : Input) (line number : ℕ) : Type 0 where
   pub place : ℕ
@@ -86,6 +86,6 @@ pub record IsFaultWithJournal (input : Input) (line number : ℕ) : Type 0 where
   pub told : IsToldWithJournal input place kind line
   pub numbered : number ≡ fault_number kind
 
--- no fault stands anywhere
+-- there is no fault anywhere
 abbrev pub HasNoFaultWithJournal : Input → Type 0
 HasNoFaultWithJournal input = (place : ℕ) (kind : FaultKind) → ¬ (StandsWithJournal input place kind)

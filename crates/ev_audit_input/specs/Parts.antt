@@ -36,7 +36,7 @@ IsAuditInputAnswer input (Err (Bad line number)) = IsFaultWithJournal input line
 IsAuditInputAnswer input (Err Read) = HasNoFaultWithJournal input × (¬ (IsTrue input.ended))
 IsAuditInputAnswer input (Err OutOfMemory) = ⊤
 
--- what a source told before and after, and what the bytes taken in between are: at most one more than an input may have, and
+-- what is known of a source's bytes before and after, and what the bytes taken in between are: at most one more than an input may have, and
 -- to the end of the source where it gave that
 pub record ReadsAuditInput (before after : Option (List ℕ)) (result : Result Audited ScriptFault) : Type 0 where
   pub input : Input

@@ -133,7 +133,7 @@ module _ (events : List Event) (start : ℕ) (row : Row) where
     none = lacks.none;
   }
 
-  -- one that lacks it stands before the place, or at it
+  -- one that lacks it comes before the place, or at it
   lacks_cases : (k : ℕ) (lacks : LacksSince events start (suc k) row.chain) → LacksSince events start k row.chain ⊎ (lacks.at ≡ k)
   lacks_cases k lacks = by (order lacks.at k)
     where

@@ -155,7 +155,7 @@ step_on state (Close other) conn number = closed_on state conn number other
 step_on state DrainTimeout conn number = drained_on state conn number
 step_on state Reap conn number = same_on (is_on conn number state)
 
--- ---- what stands at a place
+-- ---- what is at a place
 
 and_parts : (a b : Bool) → (a && b) ≡ true → (a ≡ true) × (b ≡ true)
 and_parts true b h = (refl, h)

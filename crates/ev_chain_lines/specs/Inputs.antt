@@ -37,7 +37,7 @@ pub record TakesInput (before after : Option (List ℕ)) (input : Input) : Type 
   pub at_most : length input.bytes ≤ MAX_INPUT_BYTES + 1
   pub ended : IsTrue input.ended → IsAtEnd after
 
--- what a source told before and after, and what is made of the bytes taken in between
+-- what is known of a source's bytes before and after, and what is made of the bytes taken in between
 pub record MakesChains (before after : Option (List ℕ)) (result : Result (Vec ℕ Global) ScriptFault) : Type 0 where
   pub input : Input
   pub takes : TakesInput before after input

@@ -26,7 +26,7 @@ abbrev pub closed_tree : Bool → Data
 closed_tree true = string (codes "done")
 closed_tree false = string (codes "notOpen")
 
--- an answer; a rule is told as `V` and its number
+-- an answer; a rule is written as `V` and its number
 abbrev pub answer_tree : EventAnswer → Data
 answer_tree (Refused rule) = string (codes "V" ++ decimal rule)
 answer_tree (Updated changed) = changed_tree changed

@@ -70,7 +70,7 @@ fn answer_listener(alloc: Global, chains: &mut Chains, message: &Value) -> Resul
     }
 }
 
-// Whether there are numbers for all chains of a listener, where so many were drawn.
+// Whether there are numbers for all chains of a listener, where this many were drawn.
 fn has_room(alloc: Global, made: u32, message: &Value) -> Result<bool, AllocError>
     ensures { IfOk result (λ has. IsTrue has ↔ (made + length (chains_of (view message.now)) < 2 ^ 32)) }
 {

@@ -90,7 +90,7 @@ puts_more keys key place before between after first second k =
     ∙ put_cond (key_same key k) (list_any (λ own. key_same own k) keys) (Some place) (before k)
     ∙ ap (λ b. cond b (Some place) (before k)) (sym (list_any-append (λ own. key_same own k) keys (key ∷ [])))
 
--- ---- one more row in front
+-- ---- one more row at the front
 
 module _ (rows : List Row) (place i : ℕ) (row : Row) (next : suc i ≡ place) (within : i < length rows) (at : row ≡ get_or rows i row) where
   front : drop i rows ≡ row ∷ drop place rows

@@ -29,7 +29,7 @@ judged_none told value h = ap (λ t. judged t value) h
 pub none_clash : (broken : BrokenRules) (clash : Bool) → least_of (record broken { v26 = clash }) ≡ None → clash ≡ false
 none_clash broken clash h = ap (λ (b : BrokenRules). b.v26) (least_none (record broken { v26 = clash }) h)
 
--- the rule that is told is what is found
+-- the rule that is reported is what is found
 pub told_is : (tree : Data) (parts full : BrokenRules) (clash : Bool) (listed rows : List Row) (made : ℕ) (serving : List Row) (chains : List Chain) (told : Option ℕ)
     → parts ≡ parts_broken tree → chains ≡ chains_in tree → rows ≡ numbered made serving chains → listed ≡ rows
     → clash ≡ has_clash (map match_of listed) → full ≡ record parts { v26 = clash } → told ≡ least_of full → told ≡ rule_told tree

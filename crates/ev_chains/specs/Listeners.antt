@@ -18,7 +18,7 @@ use Rattle.ev_chains.specs.Rows.{has_clash}
 
 -- ---- a chain among others
 
--- what stands as its match
+-- what is given as its match
 unfoldable pub match_tree : Data → Data
 match_tree chain = inside (object_of (codes "filter_chain_match") chain)
 
@@ -66,6 +66,6 @@ matches_of chains = map (λ (chain : Chain). chain.matches) chains
 unfoldable pub chains_broken : Data → BrokenRules
 chains_broken tree = record (parts_broken tree) { v26 = has_clash (matches_of (chains_in tree)) }
 
--- the rule that is told: the least that is broken
+-- the rule that is reported: the least that is broken
 abbrev pub rule_told : Data → Option ℕ
 rule_told tree = least_of (chains_broken tree)

@@ -8,7 +8,7 @@ use Rattle.std.specs.Str.{bytes_eq}
 abbrev pub has_star : List ℕ → Bool
 has_star name = list_any (λ byte. byte == 42) name
 
--- what stands after a leading `*.` that something follows, or the whole name where it doesn't begin so
+-- what comes after a leading `*.` that something follows, or the whole name where it doesn't begin so
 abbrev pub behind_star : List ℕ → List ℕ
 behind_star name = if nat_lt 2 (length name) && bytes_eq (take 2 name) (codes "*.") then drop 2 name else name
 

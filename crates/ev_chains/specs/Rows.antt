@@ -80,7 +80,7 @@ row_has key row = has_key key (match_of row)
 abbrev pub has_port : ℕ → Row → Bool
 has_port port row = port_same (match_of row).port (Some port)
 
--- the port that is looked for: this one where a chain has it, and else none
+-- the port that is looked for: this one where a chain has it, and otherwise none
 abbrev pub asked_port : ℕ → List Row → Option ℕ
 asked_port port rows = if list_any (has_port port) rows then Some port else None
 

@@ -31,7 +31,7 @@ abbrev pub made_after : Option ℕ → ℕ → ℕ
 made_after None made = made + 1
 made_after (Some number) made = made
 
--- Each chain has the number of the serving chain that equals it, and else the next one.
+-- Each chain has the number of the serving chain that equals it, and otherwise the next one.
 abbrev pub numbered : ℕ → List Row → List Chain → List Row
 numbered made serving [] = []
 numbered made serving (chain ∷ chains) =
@@ -80,7 +80,7 @@ accepted chains state =
       draining = state.draining ++ gone_in next state.serving;
     }
 
--- what a listener reads as: the rule that is told, or what changes
+-- what a listener reads as: the rule that is reported, or what changes
 abbrev pub listener_reading : Data → ChainState → Result Changed ℕ
 listener_reading tree state = judged (rule_told tree) (changed_by (chains_in tree) state)
 

@@ -33,7 +33,7 @@ pub data EventAnswer : Type 0 where
 
 -- ---- a listener
 
--- it is refused by the rule that is told, and else its chains change what serves
+-- it is refused by the rule that is reported, and otherwise its chains change what serves
 abbrev pub listener_by : Option ℕ → Data → ChainState → ChainState × EventAnswer
 listener_by (Some rule) tree state = (state, Refused rule)
 listener_by None tree state = (accepted (chains_in tree) state, Updated (changed_by (chains_in tree) state))

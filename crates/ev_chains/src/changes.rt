@@ -27,7 +27,7 @@ pub(crate) struct Numbered {
     pub made: u32,
 }
 
-// Gives each chain the number of the serving chain that equals it, and else the next one.
+// Gives each chain the number of the serving chain that equals it, and otherwise the next one.
 pub(crate) fn number_chains(
     alloc: Global,
     made: u32,

@@ -84,7 +84,7 @@ fn conns_on(alloc: Global, ledger: &Ledger, draining: &[Gen]) -> Result<BTreeSet
     Ok(conns)
 }
 
-// Puts the numbers of the first worker's connections at these places among others.
+// Adds the numbers of the first worker's connections at these places to others.
 fn put_places(conns: &mut BTreeSet<u64>, places: &[(u64, u64)]) -> Result<(), AllocError>
     ensures { OnOk result (Gains (contains nat_cmp) (λ conn. has_place 0 conn places.now) conns.old conns.new) }
 {
@@ -94,7 +94,7 @@ fn put_places(conns: &mut BTreeSet<u64>, places: &[(u64, u64)]) -> Result<(), Al
     Ok(())
 }
 
-// Puts the number of a connection at a place, where it is one of the first worker, among others.
+// Adds the number of a connection at a place, where it is one of the first worker, to others.
 fn put_place(conns: &mut BTreeSet<u64>, place: (u64, u64)) -> Result<(), AllocError>
     ensures { OnOk result (Gains (contains nat_cmp) (λ conn. (place.0 == 0) && (place.1 == conn)) conns.old conns.new) }
 {
@@ -104,7 +104,7 @@ fn put_place(conns: &mut BTreeSet<u64>, place: (u64, u64)) -> Result<(), AllocEr
     insert(conns, place.1)
 }
 
-// Puts a number among others.
+// Adds a number to others.
 fn insert(conns: &mut BTreeSet<u64>, conn: u64) -> Result<(), AllocError>
     ensures { OnOk result (Gains (contains nat_cmp) (λ other. conn == other) conns.old conns.new) }
 {
@@ -119,7 +119,7 @@ fn keys_of(alloc: Global, conns: &BTreeSet<u64>) -> Result<Vec<u64>, AllocError>
     ensures keys { IfOk result (λ keys. keys.items ≡ conns.now.keys) }
     ensures ordered { IsOrdered nat_cmp conns.now }
 {
-    // They stand in their order.
+    // They are in their order.
     let _ = conns.len();
     conns.iter().copied().collect(alloc)
 }

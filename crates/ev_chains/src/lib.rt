@@ -7,15 +7,15 @@
 //! # Choices
 //!
 //! - A state has the chains that serve, each with its number, and of those that drain the number alone: nothing asks what they
-//!   served. Which chain is gone shows nowhere, since a number is never drawn again.
-//! - Chains that serve stand in the order of the last listener that was accepted. So a listener's chains are numbered where they
-//!   stand, with the table that was made to find two that take the same connections, and nothing of the last version is copied.
+//!   served. Which chain is gone doesn't show, since a number is never drawn again.
+//! - Chains that serve are in the order of the last listener that was accepted. So a listener's chains are numbered where they
+//!   are, with the table that was made to find two that take the same connections, and nothing of the last version is copied.
 //! - Chains are found by keys: a match's port, or none, with each of its server names in lower case, or with none. Two matches
 //!   take the same connections exactly where they share a key. An accept asks for the key of each name that it may go by: so it
 //!   costs look-ups, and a listener a pass over its chains and over those that serve.
 //! - A server's name is compared with ASCII letters as lower case; matches of two versions are compared as they are written,
-//!   names in their order. A name that stands twice in one match is no conflict.
-//! - Where two chains clash and another rule is broken, the least rule is told; so the table is made before the rules are asked.
+//!   names in their order. A name that occurs twice in one match is no conflict.
+//! - Where two chains clash and another rule is broken, the least rule is reported; so the table is made before the rules are asked.
 //! - Only the form of a listener's own name counts. Where it listens is part of each of its chains, so another address or port
 //!   keeps none.
 //! - Open connections are those of one worker, 0, in a ledger, with the chain as their listener. The ledger lists them by their

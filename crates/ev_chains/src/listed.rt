@@ -194,7 +194,7 @@ impl Listed {
         Ok(self.number_under(&wild_key(alloc, port, name, place)?))
     }
 
-    // The port that is looked for: this one where a chain has it, and else none.
+    // The port that is looked for: this one where a chain has it, and otherwise none.
     fn asked_port(&self, port: u16) -> Option<u16>
         ensures { result ≡ asked_port port self.now }
     {
@@ -351,7 +351,7 @@ fn any_named(
     Ok(has)
 }
 
-// Puts the port of a chain, where it has one, among others.
+// Adds the port of a chain, where it has one, to others.
 fn put_port(ports: &mut IndexSet<u16>, row: &Row) -> Result<(), AllocError>
     ensures { OnOk result (Gains (contains nat_eq) (λ port. has_port port row.now) ports.old ports.new) }
 {
@@ -361,7 +361,7 @@ fn put_port(ports: &mut IndexSet<u16>, row: &Row) -> Result<(), AllocError>
     }
 }
 
-// Puts a port among others.
+// Adds a port to others.
 fn insert_port(ports: &mut IndexSet<u16>, port: u16) -> Result<(), AllocError>
     ensures { OnOk result (Gains (contains nat_eq) (nat_eq port) ports.old ports.new) }
 {

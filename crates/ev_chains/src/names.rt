@@ -15,7 +15,7 @@ fn has_star(name: &[u8]) -> bool
     name.iter().any(|byte| *byte == b'*')
 }
 
-// What stands after a leading `*.` that something follows.
+// What comes after a leading `*.` that something follows.
 fn behind_star(name: &[u8]) -> &[u8]
     ensures { result.now ≡ behind_star name.now }
 {

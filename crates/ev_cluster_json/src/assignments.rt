@@ -15,7 +15,7 @@ use std::alloc::{AllocError, Global};
 /// Reads an assignment (`envoy.config.endpoint.v3.ClusterLoadAssignment`): its hosts, in order.
 ///
 /// # Errors
-/// `Rule` has the least form rule that it breaks: V6, V12 or V13. `OutOfMemory` comes without memory, and
+/// `Rule` has the least form rule that it breaks: V6, V12 or V13. `OutOfMemory` comes where memory runs out, and
 /// for 2^32 - 1 hosts or more.
 pub fn read_assignment(
     alloc: Global,

@@ -7,7 +7,7 @@
 //!   form counts as one without `ads` and `self`.
 //! - V3 isn't looked at where `name` has the wrong form.
 //! - The sum of the weights of a group has the limit of the sum of a target's weights, the same constant.
-//! - V9 and V10 stand side by side at a cluster of another type than EDS with a bad config source: V9 is the answer.
+//! - V9 and V10 are both broken at a cluster of another type than EDS with a bad config source: V9 is the answer.
 //! - A type of the wrong form counts as STATIC for the question whether `load_assignment` is read. It doesn't show
 //!   either, since V6 is broken already, and V2 and V3 don't depend on it.
 #![tactic(auto)]

@@ -1,4 +1,4 @@
--- The commits of a journal in which no batch is broken: their entries are the journal, entries behind it are commits behind, and
+-- The commits of a journal in which no batch is broken: their entries are the journal, entries after it are further commits, and
 -- each has entries of its own seat alone.
 use Rattle.std.proofs.Common.{◌≡◌, ◌==◌, ℕ, Bool, true, false, ◌⊎◌, inl, inr, if◌then◌else◌, List, [], ◌∷◌, ◌++◌, refl, ap, sym, ◌∙◌, subst, append_assoc, append-nil}
 use Rattle.std.specs.List.{AllByRecursion as ByRecursion}
@@ -92,7 +92,7 @@ append_from begun (entry ∷ entries) more closed =
     (λ is. append_from (begun ++ entry ∷ []) entries more (more_begun begun entry entries closed is))
     (append_from [] entries more (inl refl, closed.1.1))
 
--- entries behind a journal are commits behind
+-- entries after a journal are commits after its commits
 pub commits_append : (journal more : List Entry) → IsUnbroken journal → commits_of (journal ++ more) ≡ commits_of journal ++ commits_of more
 commits_append journal more unbroken = append_from [] journal more (inl refl, unbroken)
 
@@ -159,7 +159,7 @@ elsewhere seat [] all none = tt
 elsewhere seat (commit ∷ commits) all none =
     elsewhere_by seat commit commits (commit.0 == seat) refl all.0 none (λ left. elsewhere seat commits all.1 left)
 
--- behind these entries a run goes on as a run
+-- after these entries a run goes on as a run
 pub runs_behind : (format : Format) (workers : ℕ) (world : World) (entries more : List Entry) → RunsFrom format workers world (entries ++ more)
     → RunsFrom format workers (world_after format world entries) more
 runs_behind format workers world [] more runs = runs

@@ -1,4 +1,4 @@
--- A turn shows what its pass has seen and entries of others behind, and ends with one commit more.
+-- A turn shows what its pass has seen and then entries of others, and ends with one commit more.
 use Rattle.std.proofs.Common.{◌≡◌, ◌≤◌, ◌<◌, ◌+◌, ◌-◌, if◌then◌else◌, nat_lt, ℕ, true, false, List, [], ◌∷◌, ◌++◌, length, refl, ap, sym, ◌∙◌, subst, subst₂, append_assoc, length-append, le_trans, arith}
 use Rattle.std.proofs.Common.{Bool, Err, Ok}
 use Rattle.std.proofs.lemmas.Bool.Decides.{nat_tests}
@@ -140,7 +140,7 @@ settles_once at n before after old new sound works settled =
       forward = forward before after (entries_made old ++ entry ∷ []) settled.entered;
     }
 
--- a turn shows what its pass has seen, and entries of others behind
+-- a turn shows what its pass has seen, and then entries of others
 pub turned : (parts : JournalParts) (seat : ℕ) (start earlier later : List (ℕ × List Entry)) → IsSound parts → commits_of parts.journal ≡ start ++ later
     → GrowsWithout seat earlier later → GrowsByOthers seat (journal_with (began_as parts) (start ++ earlier)) parts
 turned parts seat start earlier later sound are (more, goes_on, none) =
@@ -157,7 +157,7 @@ turned parts seat start earlier later sound are (more, goes_on, none) =
           (subst (RunsFrom parts.format parts.workers (opening parts.workers parts.node)) journal sound.answers);
     }
 
--- what a sound journal's commits tell is the journal
+-- what a sound journal's commits hold is the journal
 pub shown_whole : (parts : JournalParts) → IsSound parts → journal_with (began_as parts) (commits_of parts.journal) ≡ parts
 shown_whole parts sound =
     λ i. record { format = parts.format; workers = parts.workers; node = parts.node; journal = whole parts.journal sound.batches i }
@@ -251,7 +251,7 @@ turn_forward seat before after seen sound sound_then once are =
     (ap (λ (p : JournalParts). (last_picture (world_now p)).version) (sym (shown_whole after sound_then)))
     once.forward
 
--- behind its turn a pass has seen no older version than it had heard of
+-- after its turn a pass has seen no older version than it had heard of
 pub turn_newer : (seat : ℕ) (before after : JournalParts) (began : Began) (heard : List (ℕ × List Entry)) → IsSound before → CommitsOnce seat before after
     → began_as before ≡ began → version_after (began_as before) heard ≤ version_after (began_as before) (commits_of before.journal)
     → version_after began heard ≤ version_shown after
@@ -295,7 +295,7 @@ commits_if (Ok made) at n before asked after old prepared new kept same committe
     (subst (λ (p : JournalParts). HasCommitted at n p after prepared new) same committed))
 commits_if (Err error) at n before asked after old prepared new kept same committed = tt
 
--- an idle worker whose version isn't the newest has seen a newer one behind its turn
+-- an idle worker whose version isn't the newest has seen a newer one after its turn
 pub newer_if : (result : Result Bool AllocError) (version newest later : ℕ) (Idle : Type 0) → (Idle → version < newest) → OnOk result (newest ≤ later)
     → IfOk result (λ made. made ≡ true → Idle → version < later)
 newer_if (Ok made) version newest later Idle less seen = λ is idle. let below : version < newest = less idle in let above : newest ≤ later = seen in omega arith

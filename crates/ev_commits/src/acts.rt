@@ -14,7 +14,7 @@ use ev_worker::Worker;
 use std::alloc::AllocError;
 
 // An event of the main side is entered, and the rows that it reaped are taken. What it asks of the journal it asks of a run, since
-// only the value tells that it is one.
+// only the value shows that it is one.
 pub(crate) fn apply_in<J: Journaled>(
     kept: &mut Kept<J>,
     actor: Actor,

@@ -6,7 +6,7 @@
 //! - A resource may be any value. Where it has no name that is a text, by one spelling, its name is the empty one: rules of
 //!   the incremental response judge it.
 //! - Which names are removed is up to the caller, who knows the responses before.
-//! - The type URLs and the fields with names stand here again: `ev_wire` doesn't show its own.
+//! - The type URLs and the fields with names are repeated here: `ev_wire` doesn't show its own.
 #![tactic(auto)]
 
 mod depth;

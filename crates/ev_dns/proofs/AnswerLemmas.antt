@@ -1,4 +1,4 @@
--- What is known of host names behind one line more.
+-- What is known of host names after one line more.
 use Rattle.std.proofs.Common.{◌≡◌, ℕ, Bool, true, false, cond, ◌||◌, List, [], ◌∷◌, ◌++◌, filter_map, Option, option_map, Some, None, unwrap_or, refl, sym, ap, ◌∙◌}
 use Rattle.std.specs.List.{list_any, last_or, cons_option}
 use Rattle.std.specs.Str.{bytes_eq}
@@ -82,7 +82,7 @@ pub answered_more : (old new : Answers) (o : Option Resolution) → TakesGiven o
 answered_more old new None takes name = ap (λ (a : Answers). has_answer a name) takes
 answered_more old new (Some r) takes name = takes.answered name
 
--- ---- the addresses behind a resolution
+-- ---- the addresses after a resolution
 
 pub later_given : (b : Bool) (known names : List (List ℕ)) → cond b (each_once names) known ≡ later_addresses known (cond b (Some names) None)
 later_given true known names = refl

@@ -34,14 +34,14 @@ once_at true false one first names is here = ap (λ xs. first ∷ xs) (filter-ap
 once_at false true one first names is here = rw (any_kept one first names is, here)
 once_at false false one first names is here = rw (any_kept one first names is, here) (ap (λ xs. first ∷ xs) (filter-append (λ other. not (bytes_eq other first)) names (one ∷ []) ∙ rw is))
 
--- one more behind the others
+-- one more after the others
 pub once-push : (names : List (List ℕ)) (one : List ℕ) → each_once (names ++ one ∷ []) ≡ insert_key bytes_eq (each_once names) one
 once-push [] one = refl
 once-push (first ∷ names) one =
     ap (λ xs. first ∷ filter (λ other. not (bytes_eq other first)) xs) (once-push names one)
     ∙ once_at (bytes_eq one first) (list_any (bytes_eq one) (each_once names)) one first (each_once names) refl refl
 
--- names that are put behind those of a set one after another stand there once
+-- names that are put after those of a set one after another occur there once
 once_behind : (names more : List (List ℕ)) → insert_all bytes_eq (each_once names) more ≡ each_once (names ++ more)
 once_behind names [] = ap each_once (sym (append-nil names))
 once_behind names (one ∷ more) =

@@ -1,4 +1,4 @@
--- What waits and what is complete behind a line that answers a name or none, where more may be guarded.
+-- What waits and what is complete after a line that answers a name or none, where more may be guarded.
 use Rattle.std.proofs.Common.{◌≡◌, ℕ, ◌<◌, ◌≤◌, ◌⊎◌, inl, inr, Bool, true, false, not, ◌||◌, ◌&&◌, List, [], ◌∷◌, length, get_or, take, Option, Some, None, option_map, unwrap_or, refl, sym, ap, ap₂, ◌∙◌, arith}
 use Rattle.std.specs.Prelude.{slice_get}
 use Rattle.std.specs.List.{list_any, list_all}
@@ -39,7 +39,7 @@ open_where t s (x ∷ xs) h = by (t x) h (open_where t s xs)
     by true any rest = rest any
     by false any rest = refl
 
--- something complete stands at the place
+-- something complete is at the place
 complete_there : (answers : Answers) (gs : List Guarded) (n : ℕ) → complete_at answers gs n ≡ true → (g : Guarded) × (slice_get gs n ≡ Some g) × (has_all answers g.key ≡ true)
 complete_there answers gs n h = by (slice_get gs n) refl h
   where
@@ -47,7 +47,7 @@ complete_there answers gs n h = by (slice_get gs n) refl h
     by None at is = absurd (cc)
     by (Some g) at is = (g, at, is)
 
--- what was guarded stands at its place
+-- what was guarded is at its place
 at_first : (gs all others : List Guarded) (n : ℕ) (g : Guarded) → IsExtended gs all others → slice_get gs n ≡ Some g → slice_get all n ≡ Some g
 at_first gs all others n g e at = ap (λ (xs : List Guarded). slice_get xs n) e.grown ∙ first_get gs e.more n (slice_get_within gs n g at) ∙ at
 

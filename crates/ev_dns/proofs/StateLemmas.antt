@@ -1,4 +1,4 @@
--- What is known behind one line more, and what is due there.
+-- What is known after one line more, and what is due there.
 use Rattle.std.proofs.Common.{◌≡◌, ℕ, suc, ◌+◌, ◌<◌, ◌≤◌, Bool, true, false, not, cond, ◌&&◌, ◌||◌, nat_eq, nat_cmp, List, [], ◌∷◌, ◌++◌, length, map, filter, filter_map, flat_map, Option, Some, None, IfSome, option_map, option_and_then, unwrap_or, refl, sym, ap, ap₂, ◌∙◌, subst, arith}
 use Rattle.std.specs.Prelude.{All, slice_get}
 use Rattle.std.specs.List.{list_any, last_or, enumerate_from, cons_option}
@@ -46,7 +46,7 @@ stream_now before line =
 
 -- ---- the places
 
--- what is guarded behind a line: what was, and more that have guarded resources in it
+-- what is guarded after a line: what was, and more that have guarded resources in it
 pub extended : (before : List Data) (line : Data) → IsExtended (guarded_by by_names before) (guarded_by by_names (before ++ line ∷ [])) (guarded_in by_names line)
 extended before line =
     let e : IsExtended (guarded_by by_names before) (each_once (flat_map (guarded_in by_names) before ++ guarded_in by_names line)) (guarded_in by_names line) =

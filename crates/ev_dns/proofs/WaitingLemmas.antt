@@ -1,4 +1,4 @@
--- Places that stand under names, and places that go on.
+-- Places that are under names, and places that go on.
 use Rattle.std.proofs.Common.{◌≡◌, ℕ, zero, suc, ◌+◌, ◌<◌, ◌≤◌, ◌⊎◌, inl, inr, Bool, true, false, not, cond, ◌||◌, ◌&&◌, List, [], ◌∷◌, ◌++◌, length, get_or, set, take, Option, Some, None, option_map, unwrap_or, nat_eq, nat_cmp, refl, sym, ap, ap₂, ◌∙◌, arith}
 use Rattle.std.specs.Prelude.{slice_get}
 use Rattle.std.specs.BTreeSet.{contains}
@@ -85,7 +85,7 @@ at_get (y ∷ ys) (suc i) x h is = at_get ys i x (omega (arith, h)) is
 pub listed_more : (xs ys : List ℕ) (n : ℕ) → is_listed (xs ++ ys) n ≡ (is_listed xs n || is_listed ys n)
 listed_more xs ys n = list_any-append (λ (one : ℕ). nat_eq one n) xs ys
 
--- a place that was put under a name stands there, and what stood there before does
+-- a place that was put under a name is there, and what was there before still is
 stands_own : (before after : Places) (name : List ℕ) (place : ℕ) → Enters before after name place → stands_under after name place ≡ true
 stands_own before after name place enters =
     ap (λ xs. is_listed xs place) (enters name) ∙ listed_more (places_under before name) (cond (bytes_eq name name) (place ∷ []) []) place
@@ -147,7 +147,7 @@ one_finished false false at h = refl
 only_place : (place n : ℕ) → is_listed (place ∷ []) n ≡ true → place ≡ n
 only_place place n h = (numbers_decide place n).0 (sym (or_none (nat_eq place n)) ∙ h)
 
--- a place that isn't complete comes to stand under the first name that it still waits for
+-- a place that isn't complete is put under the first name that it still waits for
 pub advances_waiting : (answers : Answers) (gs : List Guarded) (place count : ℕ) (g : Guarded) (row : HostRowParts) (before after : Places) (done : List ℕ) → slice_get gs place ≡ Some g
     → slice_get (rows_of g.key) count ≡ Some row → has_row answers row ≡ false → Enters before after row.host.address place → AdvancesOne answers gs place before after done done
 advances_waiting answers gs place count g row before after done at next lacks enters = record {
@@ -176,7 +176,7 @@ advances_finished answers gs place count g under old new at past passes put =
     both true h k = cc
     both false h k = cc
 
--- nothing stands at the place
+-- nothing is at the place
 pub advances_nothing : (answers : Answers) (gs : List Guarded) (place : ℕ) (under : Places) (done : List ℕ) → slice_get gs place ≡ None → AdvancesOne answers gs place under under done done
 advances_nothing answers gs place under done none = record {
   kept = λ b n stands. stands;

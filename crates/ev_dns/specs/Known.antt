@@ -65,7 +65,7 @@ due_parts answers place key = record {
   endpoints = Some (endpoints_tree (hosts_with (known_addresses answers) key));
 }
 
--- the same of what stands at a place, where it is to be sent
+-- the same of what is at a place, where it is to be sent
 abbrev pub due_there : Answers → Bool → ℕ → Option Guarded → List DueParts
 due_there answers is place None = []
 due_there answers is place (Some g) = if is then due_parts answers place g.key ∷ [] else []
@@ -96,31 +96,31 @@ due_found answers guarded connected was_open touched complete =
 abbrev pub places_under : Places → List ℕ → List ℕ
 places_under places name = unwrap_or (get bytes_eq places.by_name name) []
 
--- the place stands under the name
+-- the place is under the name
 abbrev pub stands_under : Places → List ℕ → ℕ → Bool
 stands_under places name place = is_listed (places_under places name) place
 
--- there is a name, and the place stands under it
+-- there is a name, and the place is under it
 abbrev pub stands_named : Places → Option (List ℕ) → ℕ → Bool
 stands_named places None place = false
 stands_named places (Some name) place = stands_under places name place
 
--- one place comes to stand after the others under a name
+-- one place is put after the others under a name
 abbrev pub Enters : Places → Places → List ℕ → ℕ → Type 0
 Enters old new name place = (other : List ℕ) → places_under new other
     ≡ places_under old other ++ (if bytes_eq name other then place ∷ [] else [])
 
--- a place comes to stand under all host names of a template
+-- a place is put under all host names of a template
 abbrev pub EntersAll : Places → Places → Key → ℕ → Type 0
 EntersAll old new key place = (other : List ℕ) (n : ℕ) → stands_under new other n
     ≡ ((has_name other key && nat_eq place n) || stands_under old other n)
 
--- none stands under this name, and the same as before under all others
+-- none is under this name, and the same as before under all others
 abbrev pub Leaves : Places → Places → List ℕ → Type 0
 Leaves old new name = (other : List ℕ) → places_under new other
     ≡ (if bytes_eq name other then [] else places_under old other)
 
--- what stands under a name stays there
+-- what is under a name stays there
 abbrev pub KeepsUnder : Places → Places → Type 0
 KeepsUnder old new =
     (name : List ℕ) (place : ℕ) → stands_under old name place ≡ true → stands_under new name place ≡ true

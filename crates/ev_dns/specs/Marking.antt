@@ -28,7 +28,7 @@ Gains old new test = (place : ℕ) → contains nat_cmp new place ≡ (contains 
 abbrev pub has_both : BTreeSet ℕ → BTreeSet ℕ → ℕ → Bool
 has_both first second place = contains nat_cmp first place && contains nat_cmp second place
 
--- what stands at a place passes the test
+-- what is at a place passes the test
 abbrev pub passes_at : (Guarded → Bool) → List Guarded → ℕ → Bool
 passes_at test guarded place = unwrap_or (option_map test (slice_get guarded place)) false
 

@@ -28,7 +28,7 @@ pub record IsBehind (s : Resolutions) (lines : List Data) : Type 0 where
   pub waiting : AreWaiting s.answers (guarded_by by_names lines) s.waiting
   pub complete : AreComplete s.answers (guarded_by by_names lines) s.complete
 
--- what stands at a place after these lines and one more passes the test
+-- what is at a place after these lines and one more passes the test
 abbrev pub passes_now : List Data → Data → (Guarded → Bool) → ℕ → Bool
 passes_now before line test place = passes_at test (guarded_by by_names (before ++ line ∷ [])) place
 

@@ -20,13 +20,13 @@ abbrev pub is_named : Option (List ℕ) → List ℕ → Bool
 is_named None other = false
 is_named (Some name) other = bytes_eq name other
 
--- what stands at a place is complete
+-- what is at a place is complete
 abbrev pub complete_at : Answers → List Guarded → ℕ → Bool
 complete_at answers guarded place = passes_at (λ g. has_all answers g.key) guarded place
 
 -- ---- what isn't complete
 
--- a place stands under the name of a host that wasn't answered
+-- a place is under the name of a host that wasn't answered
 abbrev pub is_waiting : Answers → Places → ℕ → Key → Bool
 is_waiting answers under place key = list_any
     (λ (row : HostRowParts). not (has_row answers row) && stands_under under row.host.address place)
@@ -59,7 +59,7 @@ pub record Wakes (name : Option (List ℕ)) (before after : Places) (woken : Lis
   pub left : (other : List ℕ) → is_named name other ≡ false → places_under after other ≡ places_under before other
 
 -- These places went on: each of them that isn't complete waits, and the complete ones are finished. The others stay
--- where they stand.
+-- where they are.
 pub record Advances (answers : Answers) (guarded : List Guarded) (places : List ℕ) (before after : Places)
     (done : List ℕ) : Type 0 where
   pub kept : KeepsUnder before after
@@ -78,7 +78,7 @@ pub record AdvancesOne (answers : Answers) (guarded : List Guarded) (place : ℕ
 
 -- ---- what is complete
 
--- the set has exactly the complete places, and each of them stands under the names of its hosts, and under no other
+-- the set has exactly the complete places, and each of them is under the names of its hosts, and under no other
 pub record AreComplete (answers : Answers) (guarded : List Guarded) (complete : Complete) : Type 0 where
   pub places : (place : ℕ) → contains nat_cmp complete.places place ≡ complete_at answers guarded place
   pub served : (name : List ℕ) (place : ℕ) → stands_under complete.served name place

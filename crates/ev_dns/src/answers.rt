@@ -38,7 +38,7 @@ impl Answers {
         }
     }
 
-    // Puts the addresses of a name in the place of those of before.
+    // Puts the addresses of a name in place of those before.
     fn put(&mut self, name: Name, addresses: IndexSet<Name>) -> Result<(), AllocError>
         ensures answered { OnOk result (AnswersOne self.old self.new name) }
         ensures addresses { OnOk result (GivesOne self.old self.new name addresses.keys) }
@@ -92,7 +92,7 @@ fn each_once(alloc: Global, names: Seq<Name>) -> Result<IndexSet<Name>, AllocErr
     Ok(set)
 }
 
-// Puts these names after those of a set, each once.
+// Appends these names to those of a set, each once.
 fn put_once(set: &mut IndexSet<Name>, names: Seq<Name>) -> Result<(), AllocError>
     ensures { OnOk result (set.new.keys ≡ insert_all bytes_eq set.old.keys names) }
 {

@@ -56,7 +56,7 @@ impl Complete {
     }
 }
 
-/// Puts a place among others.
+/// Adds a place to others.
 pub(crate) fn put_place(set: &mut BTreeSet<usize>, place: usize) -> Result<(), AllocError>
     ensures { OnOk result (Gains set.old set.new (nat_eq place)) }
 {

@@ -25,7 +25,7 @@ pub(crate) fn endpoints_value(
     Ok(Value::Array(groups))
 }
 
-// Puts a host with each address of its name after these.
+// Appends a host with each address of its name to these.
 fn push_hosts(
     alloc: Global,
     groups: &mut Vec<Value>,

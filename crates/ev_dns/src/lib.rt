@@ -3,11 +3,11 @@
 //!
 //! - Resolutions count on a closed stream too: they are no part of it. A failed one answers its name, and keeps the last success.
 //!   Their lines aren't written, also where they are of a wrong form: an input of the command has no such line.
-//! - Host names compare byte for byte. An address in the place of a host name waits for its resolution like any name.
+//! - Host names compare byte for byte. An address in place of a host name waits for its resolution like any name.
 //! - A template is the cluster as it is read with the type STATIC: so its hosts, and what else tells two templates apart, are
 //!   those of the shared reader of clusters.
-//! - Each place that isn't complete stands under the first host name that it still waits for, so a resolution wakes the places
-//!   alone that wait for its name. The complete ones stand under all their host names.
+//! - Each place that isn't complete is under the first host name that it still waits for, so a resolution wakes the places
+//!   alone that wait for its name. The complete ones are under all their host names.
 #![tactic(auto)]
 
 mod answers;

@@ -17,7 +17,7 @@ fn in_order(alloc: Global, set: &BTreeSet<usize>) -> Result<Vec<usize>, AllocErr
     ensures places { IfOk result (λ places. places.items ≡ set.now.keys) }
     ensures ordered { IsOrdered nat_cmp set.now }
 {
-    // They stand in their order.
+    // They are in their order.
     let _ = set.len();
     set.iter().copied().collect(alloc)
 }
@@ -56,7 +56,7 @@ fn due_each(
     Ok(due)
 }
 
-// Puts what stands at a place after these, where it is complete.
+// Appends what is at a place to these, where it is complete.
 fn push_there(
     alloc: Global,
     due: &mut Vec<Due>,
@@ -75,7 +75,7 @@ fn push_there(
     }
 }
 
-// Puts a template after these, with its endpoints.
+// Appends a template to these, with its endpoints.
 fn push_due(
     alloc: Global,
     due: &mut Vec<Due>,

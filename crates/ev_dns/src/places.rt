@@ -49,7 +49,7 @@ impl Places {
         Ok(())
     }
 
-    /// Puts a place after those under a name.
+    /// Appends a place to those under a name.
     pub(crate) fn put(&mut self, alloc: Global, name: &Name, place: usize) -> Result<(), AllocError>
         ensures { OnOk result (Enters self.old self.new name.now place) }
     {

@@ -188,7 +188,7 @@ fn open_after(connected: bool, event: &Option<Event>) -> bool
 ///
 /// # Errors
 /// `Private` exactly for the first line that uses a name that begins with `dns/` for endpoints. `Large` where there is
-/// none, exactly for the line with whose output the text goes above a limit of inputs. `OutOfMemory` without memory,
+/// none, exactly for the line with whose output the text goes above a limit of inputs. `OutOfMemory` where memory runs out,
 /// and for 2^32 lines and more.
 pub fn expand(alloc: Global, head: &Value, lines: &[Value]) -> Result<Vec<u8>, ExpandError>
     ensures { IsExpanded dns_rules (view head.now) (map view lines.now) result }

@@ -26,7 +26,7 @@ pub(crate) fn touched_by(
     Ok(set)
 }
 
-// Puts those of these places that are given among others.
+// Adds those of these places that are given to others.
 fn put_items(set: &mut BTreeSet<usize>, items: &[Option<usize>]) -> Result<(), AllocError>
     ensures { OnOk result (Gains set.old set.new (is_marked items.now)) }
 {
@@ -36,7 +36,7 @@ fn put_items(set: &mut BTreeSet<usize>, items: &[Option<usize>]) -> Result<(), A
     Ok(())
 }
 
-// Puts a place among others, where one is given.
+// Adds a place to others, where one is given.
 fn put_item(set: &mut BTreeSet<usize>, item: Option<usize>) -> Result<(), AllocError>
     ensures { OnOk result (Gains set.old set.new (is_place item)) }
 {
@@ -46,7 +46,7 @@ fn put_item(set: &mut BTreeSet<usize>, item: Option<usize>) -> Result<(), AllocE
     }
 }
 
-// Puts the places under a name among others, where there is one.
+// Adds the places under a name to others, where there is one.
 fn put_named(
     set: &mut BTreeSet<usize>,
     places: &Places,
@@ -60,7 +60,7 @@ fn put_named(
     }
 }
 
-// Puts these places among others.
+// Adds these places to others.
 fn put_places(set: &mut BTreeSet<usize>, places: &[usize]) -> Result<(), AllocError>
     ensures { OnOk result (Gains set.old set.new (is_listed places.now)) }
 {

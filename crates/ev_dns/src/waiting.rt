@@ -72,7 +72,7 @@ impl Waiting {
         Ok(finished)
     }
 
-    // Goes on with a place: it comes to stand under the first name that it still waits for, or it is complete.
+    // Goes on with a place: it is put under the first name that it still waits for, or it is complete.
     fn advance(
         &mut self,
         alloc: Global,
@@ -160,7 +160,7 @@ fn set_passed(passed: &mut Vec<usize>, place: usize, count: usize)
     }
 }
 
-// Puts a place after the others.
+// Appends a place to the others.
 fn push_place(places: &mut Vec<usize>, place: usize) -> Result<(), AllocError>
     ensures { OnOk result (places.new.items ≡ places.old.items ++ place ∷ []) }
 {

@@ -95,7 +95,7 @@ all_resolved before after [] none = refl
 all_resolved before after (row ∷ rows) none =
     ap₂ (λ (addresses : List (List ℕ)) (rest : List HostRowParts). map (with_address row) addresses ++ rest) none.0.addresses (all_resolved before after rows none.1)
 
--- what is known of a template is the same behind the line
+-- what is known of a template is the same after the line
 pub record StaysKnown (before after : List Data) (key : Key) : Type 0 where
   pub complete : is_complete after key ≡ is_complete before key
   pub hosts : hosts_of after key ≡ hosts_of before key

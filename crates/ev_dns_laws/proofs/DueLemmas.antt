@@ -1,4 +1,4 @@
--- Where a template is complete and a stream is open it was due at some line, and nothing of it has changed behind the last such line.
+-- Where a template is complete and a stream is open it was due at some line, and nothing of it has changed after the last such line.
 use Rattle.std.proofs.Common.{◌≡◌, ◌∙◌, ◌⊎◌, inl, inr, ℕ, zero, suc, ◌+◌, ◌<◌, ◌≤◌, Bool, true, false, ◌&&◌, ◌||◌, not, List, [], ◌∷◌, ◌++◌, length, take, Some, option_map, refl, sym, ap, subst, arith}
 use Rattle.std.specs.Prelude.{slice_get}
 use Rattle.std.specs.List.{list_any}
@@ -15,7 +15,7 @@ use Rattle.ev_dns.specs.Answers.{is_complete}
 use Rattle.ev_dns.specs.Resolving.{answers_name, has_guarded, hosts_of, is_due}
 use Rattle.ev_dns_laws.proofs.AnswerLemmas.{StaysKnown, stays_known}
 
--- there is a front at each line
+-- there is a prefix at each line
 pub front_there : (lines : List Data) (n : ℕ) → n < length lines → (f : Front) × (slice_get (fronts lines) n ≡ Some f)
 front_there [] n h = absurd (omega (arith, h))
 front_there (first ∷ lines) zero h = (record { before = []; line = first }, refl)
@@ -27,7 +27,7 @@ front_there (first ∷ lines) (suc n) h =
 abbrev pub was_guarded : List Data → Key → Bool
 was_guarded lines key = list_any (λ line. has_guarded line key) lines
 
--- the template is due at a line before the n-th, and behind that one it isn't, nor is it guarded, and its hosts stay
+-- the template is due at a line before the n-th, and after that one it isn't, nor is it guarded, and its hosts stay
 pub record IsDueLast (lines : List Data) (n : ℕ) (g : Guarded) : Type 0 where
   pub index : ℕ
   pub within : index < n

@@ -31,7 +31,7 @@ use Rattle.ev_dns_laws.proofs.ListLemmas.{taken_parts}
 pub of_fronts : (rules : Rules) (lines : List Data) (n : ℕ) → given_before rules lines n ≡ length (flat_map (gives rules) (take n (fronts lines)))
 of_fronts rules lines n = ap (λ fs. length (flat_map (gives rules) fs)) (fronts_taken lines n)
 
--- a line gives its own behind those of the lines before it
+-- a line gives its own after those of the lines before it
 pub given_next : (rules : Rules) (lines : List Data) (index : ℕ) (front : Front) → slice_get (fronts lines) index ≡ Some front
     → given_before rules lines (index + 1) ≡ given_before rules lines index + length (gives rules front)
 given_next rules lines index front there =
@@ -66,7 +66,7 @@ pub record IsBy (lines : List Data) (entry : Entry) : Type 0 where
   pub says : line.event ≡ entry.event
   pub own : entry.step ≡ 0
 
--- it stands behind the lines of those before, and not behind its own
+-- it comes after the lines of those before, and not after its own
 pub record IsWithin (lines : List Data) (index at : ℕ) : Type 0 where
   pub from : given_before dns_rules lines index + 2 ≤ at
   pub to : at ≤ given_before dns_rules lines (index + 1) + 1
@@ -85,7 +85,7 @@ index_rises lines i j m n first second less = by (cases_lt j i)
     by (inl back) = absurd (omega (arith, first.from, second.to, less, given_grows dns_rules lines (j + 1) i (omega (arith, back))))
     by (inr ahead) = ahead
 
--- an entry of the main side is by a line, where it is none of those that stand behind lines
+-- an entry of the main side is by a line, where it is none of those that come after lines
 pub entry_by : (trees : ScriptTrees) (format : Format) (journal : List Entry) → IsScript (answered_script trees) → IsRunOf format (answered_script trees) journal
     → (q : ℕ) (entry : Entry) → slice_get journal q ≡ Some entry → IsMainSide entry.actor → is_behind entry.event ≡ false → IsBy (lines_in trees) entry
 entry_by trees format journal kept run q entry there main event =

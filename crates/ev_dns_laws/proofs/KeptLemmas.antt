@@ -59,7 +59,7 @@ judged_at response versions lives (first ∷ items) (suc p) item there =
     (lives_same verdict first.name first.body lives (verdict_fits Eds response lives versions first))
     ∙ judged_at response versions lives items p item there
 
--- what stands once in a response without removed names, and is watched, is kept
+-- what occurs once in a response without removed names, and is watched, is kept
 kept_verdict : (response : ResponseParts) (lives : List Live) (versions : List KeptVersion) (item : ItemParts) (content : Content) → response.removed ≡ []
     → item.body ≡ Good content → nat_le 2 (length (items_named item.name response.items)) ≡ false → is_watched lives Eds item.name ≡ true
     → verdict_of Eds response lives versions item ≡ Kept

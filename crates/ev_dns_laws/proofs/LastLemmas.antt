@@ -1,4 +1,4 @@
--- Behind the last line that a line of the input gave, a watched place is told of exactly where its template is complete.
+-- After the last line that a line of the input gave, a watched place is reported exactly where its template is complete.
 use Rattle.std.proofs.Common.{◌≡◌, ◌∙◌, ◌⊎◌, inl, inr, ℕ, ◌+◌, ◌<◌, ◌≤◌, ◌==◌, Bool, true, false, ◌&&◌, ◌||◌, nat_lt, List, [], ◌∷◌, length, take, filter_map, decimal, Some, None, codes, refl, sym, ap, subst, arith}
 use Rattle.std.specs.Prelude.{slice_get, unwrap_or}
 use Rattle.std.specs.List.{cons_option, last_or}
@@ -129,7 +129,7 @@ module _ (trees : ScriptTrees) (format : Format) (journal : List Entry) (kept : 
   agrees : (world (k + 1)).stream ≡ stream_at (take (index + 1) lines)
   agrees = stream_agrees trees format journal kept run k last.entry index found.0 last.there last.by found.1 within
 
-  -- an entry of the stream not behind this one is by no later line
+  -- an entry of the stream not after this one is by no later line
   no_later : (m : ℕ) (entry : Entry) → slice_get journal m ≡ Some entry → entry.actor ≡ Stream → m ≤ k → (by : IsBy lines entry) → by.index ≤ index
   no_later m entry at own less by =
       index_rises lines by.index index entry.at last.entry.at (within_own lines entry by) within (number (cases_lt m k))
@@ -143,7 +143,7 @@ module _ (trees : ScriptTrees) (format : Format) (journal : List Entry) (kept : 
           let one : entry ≡ last.entry = some_same (sym at ∙ ap (slice_get journal) position ∙ last.there) in
           omega (arith, ap (λ (e : Entry). e.at) one)
 
-  -- ---- what is told is complete
+  -- ---- what is reported is complete
 
   told_complete : is_told (world (k + 1)) Eds name ≡ true → is_complete (take (index + 1) lines) g.key ≡ true
   told_complete h =
@@ -153,7 +153,7 @@ module _ (trees : ScriptTrees) (format : Format) (journal : List Entry) (kept : 
       complete_later lines (by.index + 1) (index + 1) g.key (omega (arith, no_later was.position was.entry was.at was.due.own (omega (arith, was.earlier)) by))
       (subst (λ ls. is_complete ls g.key ≡ true) (up_to_at lines by.index by.front by.there) (due_parts by.front g was.due.due).1)
 
-  -- ---- what is complete is told
+  -- ---- what is complete is reported
 
   -- a watched place was guarded in the lines so far
   watched_guarded : watched (k + 1) ≡ true → was_guarded (take (index + 1) lines) g.key ≡ true
@@ -215,7 +215,7 @@ module _ (trees : ScriptTrees) (format : Format) (journal : List Entry) (kept : 
     says : done.entry.event ≡ Response (due_response due.front)
     says = ap (λ (o : Operation). o.event) done.does
 
-    -- an entry of the stream behind it is by a later line
+    -- an entry of the stream after it is by a later line
     later : (m : ℕ) (entry : Entry) → slice_get journal m ≡ Some entry → entry.actor ≡ Stream → done.place < m → (by : IsBy lines entry) → due.index < by.index
     later m entry here mine less by = at_least (cases_lt due.index by.index)
       where
@@ -272,7 +272,7 @@ module _ (trees : ScriptTrees) (format : Format) (journal : List Entry) (kept : 
             absurd (endpoints_ask lines unused few place g there (due_response due.front)
             (filter_map (entry_due (codes "dns/") (decimal (place_of due.front))) (due_at dns_rules due.front)) done.entry.event refl refl says starts.maker)
 
-    -- behind it the place has the hosts of the lines up to its line
+    -- after it the place has the hosts of the lines up to its line
     record HasHosts (n : ℕ) : Type 0 where
       value : value_of (world n) Eds name ≡ Some (an_assignment (hosts_of (up_to due.front) g.key))
       told_of : is_told (world n) Eds name ≡ true

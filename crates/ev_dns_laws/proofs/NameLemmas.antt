@@ -76,7 +76,7 @@ due_speaks : (name : List ℕ) (front : Front) → SpeaksOf name (Response (due_
 due_speaks name front (inl names) = due_named (codes "dns/") (codes "dns-") (decimal (place_of front)) name (due_at dns_rules front) names.1
 due_speaks name front (inr ends) = absurd (false≢true ends)
 
--- so it is where an entry says something of the endpoints of a place
+-- this holds where an entry says something of the endpoints of a place
 pub speaks_due : (lines : List Data) (entry : Entry) (by : IsBy lines entry) (place : ℕ) → first_use (codes "dns/") lines ≡ None
     → SpeaksOf (name_of_place place) entry.event → SpeaksDue lines entry by (name_of_place place)
 speaks_due lines entry by place unused speaks = at (given_is by.front by.inner by.tree by.among)

@@ -1,4 +1,4 @@
--- Which of two entries of an actor stands first.
+-- Which of two entries of an actor comes first.
 use Rattle.std.proofs.Common.{◌≡◌, ◌∙◌, ◌⊎◌, inl, inr, ℕ, zero, suc, ◌<◌, ◌≤◌, Bool, true, false, cond, List, [], ◌∷◌, map, filter, Some, refl, sym, ap, subst, arith}
 use Rattle.std.specs.Prelude.{slice_get, option_map}
 use Rattle.std.proofs.lemmas.Bool.{both_ways, false≢true}
@@ -20,7 +20,7 @@ rising_either (x ∷ os) a b rises (inl e) (inr is) = inr (inl (subst (λ o. is_
 rising_either (x ∷ os) a b rises (inr is) (inl f) = inr (inr (subst (λ o. is_earlier o a ≡ true) f (at_in (λ o. is_earlier x o ≡ true) a os rises.0 is)))
 rising_either (x ∷ os) a b rises (inr is) (inr other) = rising_either os a b rises.1 is other
 
--- of those that pass a test and rise, each is earlier than those behind it
+-- of those that pass a test and rise, each is earlier than those after it
 pub first_at : (mine : Operation → Bool) (os : List Operation) (a b : Operation) (test : Bool) → mine a ≡ test → test ≡ true
     → IsRising (cond test (a ∷ filter mine os) (filter mine os)) → IsIn b (filter mine os) → is_earlier a b ≡ true
 first_at mine os a b true is passes rises among = at_in (λ o. is_earlier a o ≡ true) b (filter mine os) rises.0 among
@@ -52,7 +52,7 @@ module _ (script : ScriptParts) (journal : List Entry) (actor : Actor) (kept : I
       (slice_get-map operation_of journal m ∙ ap (option_map operation_of) here)
       ((actor_decides first.actor actor).1 mine) ((actor_decides second.actor actor).1 own) less
 
-  -- an entry not behind place k does the operation
+  -- an entry not after place k does the operation
   pub record IsDoneBy (k : ℕ) (o : Operation) : Type 0 where
     pub place : ℕ
     pub within : place ≤ k
@@ -60,7 +60,7 @@ module _ (script : ScriptParts) (journal : List Entry) (actor : Actor) (kept : I
     pub there : slice_get journal place ≡ Some entry
     pub does : operation_of entry ≡ o
 
-  -- so it is of each operation of the actor that is no later than its entry at place k
+  -- this holds for each operation of the actor that is no later than its entry at place k
   pub done_by : (k : ℕ) (entry : Entry) (o : Operation) → slice_get journal k ≡ Some entry → entry.actor ≡ actor → IsIn o (operations_of script actor)
       → is_earlier (operation_of entry) o ≡ false → IsDoneBy k o
   done_by k entry o there mine among late =

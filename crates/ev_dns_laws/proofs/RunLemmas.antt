@@ -1,4 +1,4 @@
--- In a run the endpoints of a watched place are told of by the line that follows the last one at which it was due.
+-- In a run the endpoints of a watched place are reported by the line that follows the last one at which it was due.
 use Rattle.std.proofs.Common.{◌≡◌, ◌∙◌, inl, inr, ℕ, ◌+◌, ◌<◌, ◌≤◌, ◌==◌, Bool, true, false, cond, ◌&&◌, ◌||◌, nat_lt, List, length, filter, take, Some, None, codes, refl, sym, ap, subst, arith}
 use Rattle.std.specs.Prelude.{slice_get}
 use Rattle.std.specs.Str.{bytes_eq}
@@ -64,7 +64,7 @@ use Rattle.ev_dns_laws.proofs.WatchLemmas.{makes_guard}
 stream_main : (actor : Actor) → actor ≡ Stream → IsMainSide actor
 stream_main actor own = subst IsMainSide (sym own) tt
 
--- an event that tells of a name is a response
+-- an event that reports a name is a response
 told_response : (kind : Kind) (name : List ℕ) (event : Event) (answer : Answer) → tells_of_name kind name event answer ≡ true → (response : ResponseParts) × (event ≡ Response response)
 told_response kind name (Response response) answer h = (response, refl)
 told_response kind name event answer h = absurd (false≢true h)
@@ -185,9 +185,9 @@ module _ (trees : ScriptTrees) (format : Format) (journal : List Entry) (kept : 
   has_begun k within =
       over_places told HasBegun 0 (λ h. absurd (false≢true h)) (λ j entry from at before. begun_next j entry at before) k (omega arith) within
 
-  -- ---- what is told
+  -- ---- what is reported
 
-  -- an entry before place k has told of the place
+  -- an entry before place k has reported the place
   pub record WasTold (k : ℕ) : Type 0 where
     pub position : ℕ
     pub earlier : position < k
@@ -221,7 +221,7 @@ module _ (trees : ScriptTrees) (format : Format) (journal : List Entry) (kept : 
 
   -- ---- what stays
 
-  -- no entry behind place q and not behind place k tells of the place, and none begins a watch of it
+  -- no entry after place q and not after place k reports the place, and none begins a watch of it
   pub record IsQuiet (q k : ℕ) : Type 0 where
     pub tells : (m : ℕ) (entry : Entry) → q < m → m ≤ k → At m entry → TellsDue entry → ⊥
     pub begins : (m : ℕ) (entry : Entry) → q < m → m ≤ k → At m entry → Begins entry → ⊥
@@ -259,7 +259,7 @@ module _ (trees : ScriptTrees) (format : Format) (journal : List Entry) (kept : 
             };
           }
 
-  -- behind such an entry the place stays as it is
+  -- after such an entry the place stays as it is
   pub stays : (q k : ℕ) → IsQuiet q k → q ≤ k → k < length journal → watched (k + 1) ≡ true → Stays (q + 1) (k + 1)
   stays q k quiet order within after =
       over_places told (StaysTo (q + 1) k) (q + 1) (λ less is. record { watches = is; same = record { value = refl; told = refl } })

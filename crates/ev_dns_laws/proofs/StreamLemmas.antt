@@ -1,4 +1,4 @@
--- Behind an entry of the stream a stream is open exactly where it is behind the input's lines up to the entry's own.
+-- After an entry of the stream a stream is open exactly where it is after the input's lines up to the entry's own.
 use Rattle.std.proofs.Common.{◌≡◌, ◌∙◌, ℕ, zero, suc, ◌+◌, ◌<◌, ◌≤◌, ◌==◌, Bool, true, false, cond, not, ◌&&◌, ◌||◌, nat_le, nat_lt, List, [], ◌∷◌, ◌++◌, length, map, take, filter, filter_map, flat_map, Option, Some, None, codes, decimal, refl, sym, ap, ap₂, subst, arith, length-append, append_assoc}
 use Rattle.std.specs.Prelude.{slice_get, option_and_then, option_map, option_to_list, unwrap_or}
 use Rattle.std.specs.List.{AllByRecursion as ByRecursion, cons_option, last_or, range_with_len}
@@ -312,7 +312,7 @@ gives_said last at front =
 not_above : (m n : ℕ) → m ≤ n → nat_le m n ≡ true
 not_above m n h = grind (arith, nat_tests)
 
--- of the lines that fronts give, those up to a number that lies within the m-th
+-- of the lines that prefixes give, those up to a number that lies within the m-th
 fronts_said : (last at m : ℕ) (fs : List Front) → m ≤ length fs → ((j : ℕ) → j < m → at + length (flat_map (gives dns_rules) (take j fs)) ≤ last)
     → last < at + length (flat_map (gives dns_rules) (take m fs)) → said_from last at (flat_map (gives dns_rules) fs) ≡ filter_map (λ (f : Front). said_by f.line) (take m fs)
 fronts_said last at zero [] within before past = refl
@@ -344,7 +344,7 @@ lines_said_by (line ∷ lines) = ap (cons_option (said_by line)) (behind_said li
 
 -- ---- in a run
 
--- behind an entry of the stream a stream is open where it is so behind the input's lines up to that by which the entry is
+-- after an entry of the stream a stream is open where it is so after the input's lines up to that by which the entry is
 pub stream_agrees : (trees : ScriptTrees) (format : Format) (journal : List Entry) → IsScript (answered_script trees) → IsRunOf format (answered_script trees) journal
     → (k : ℕ) (entry : Entry) (index : ℕ) (front : Front) → slice_get journal k ≡ Some entry → entry.actor ≡ Stream → slice_get (fronts (lines_in trees)) index ≡ Some front
     → IsWithin (lines_in trees) index entry.at

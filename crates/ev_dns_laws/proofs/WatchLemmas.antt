@@ -65,7 +65,7 @@ response_used prefix rest response item content typed among good asks =
 
 -- ---- the resource that begins it
 
--- the names by which two clusters ask are one
+-- the names by which two clusters ask are the same
 asked_same : (name other : List ℕ) (cluster : Cluster) (content : Content) → content ≡ a_cluster (waiting_cluster other cluster) → IsAsking name content → other ≡ name
 asked_same name other cluster content is asks =
     let same : a_cluster (waiting_cluster other cluster) ≡ a_cluster asks.cluster = sym is ∙ asks.is in

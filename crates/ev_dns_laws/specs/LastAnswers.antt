@@ -54,7 +54,7 @@ pub record HasLastAnswers (world : World) (lines : List Data) (place : ℕ) (key
   pub hosts : is_complete lines key ≡ true
       → value_of world Eds (name_of_place place) ≡ Some (an_assignment (hosts_of lines key))
 
--- so it is of each place that is watched, after an entry which leaves the stream open and is its input line's last
+-- this holds for each place that is watched, after an entry which leaves the stream open and is its input line's last
 abbrev pub AreLastAnswers : Format → ScriptTrees → List Entry → Type 0
 AreLastAnswers format trees journal =
     (k index place : ℕ) (guarded : Guarded)

@@ -4,7 +4,7 @@
 //! - It is said of every run of the script that the command writes, in both formats, by one thread or by several, and of any trees.
 //! - It speaks of a template by the private name of its place, where that is watched: of other names nothing is kept.
 //! - It looks at the stream's entries by the last line that a line of the input gave, where they leave the stream open: within the
-//!   lines of one, what is due is still on its way, and on a closed stream nothing is told, though resolutions count.
+//!   lines of one, what is due is still on its way, and on a closed stream nothing is reported, though resolutions count.
 //! - What it says of the hosts depends on the last success of each name alone, so the order in which different names are answered
 //!   changes nothing in the end.
 

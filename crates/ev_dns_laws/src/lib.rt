@@ -31,7 +31,7 @@ use std::alloc::Global;
 ///
 /// # Errors
 /// `Private` exactly for the first line that uses a name that begins with `dns/` for endpoints. `Large` where there is none,
-/// exactly for the line with whose output the text goes above a limit of inputs. `OutOfMemory` without memory, and for 2^32
+/// exactly for the line with whose output the text goes above a limit of inputs. `OutOfMemory` where memory runs out, and for 2^32
 /// lines and more.
 pub fn resolve(alloc: Global, trees: &ScriptTrees) -> Result<Vec<u8>, ExpandError>
     requires read { (input : Input) × IsTreesAnswer dns_lines input (Ok trees.now) }

@@ -39,7 +39,7 @@ marked_note name note =
 abbrev pub is_waiting_among : List ℕ → List ℕ → ℕ × Note → Bool
 is_waiting_among name numbers entry = has_number entry.0 numbers && is_waiting_note name entry.1
 
--- the entry once the drain timeout of this name came, which is told to the notes of these numbers
+-- the entry once the drain timeout of this name came, which the notes of these numbers learn
 abbrev pub marked_among : List ℕ → List ℕ → ℕ × Note → ℕ × Note
 marked_among name numbers entry = (entry.0, if has_number entry.0 numbers then marked_note name entry.1 else entry.1)
 

@@ -25,7 +25,7 @@ AreAmong numbers others = (number : ℕ) → has_number number numbers ≡ true 
 abbrev pub HaveWaiters : WaitersKept → List Retired → Type 0
 HaveWaiters kept rows = (name : List ℕ) → AreAmong (numbers_waiting name rows) (numbers_under kept name)
 
--- no name stands there with no number under it
+-- no name is there with no number under it
 abbrev pub HasNoEmpty : WaitersKept → Type 0
 HasNoEmpty kept = (name : List ℕ) → lookup (bytes_eq name) kept ≢ Some []
 
@@ -33,20 +33,20 @@ HasNoEmpty kept = (name : List ℕ) → lookup (bytes_eq name) kept ≢ Some []
 abbrev pub HasNoOtherEmpty : List ℕ → WaitersKept → Type 0
 HasNoOtherEmpty name kept = (other : List ℕ) → bytes_eq name other ≡ false → lookup (bytes_eq other) kept ≢ Some []
 
--- the same numbers stand under each name
+-- the same numbers are under each name
 abbrev pub SameUnder : WaitersKept → WaitersKept → Type 0
 SameUnder before after = (name : List ℕ) → numbers_under after name ≡ numbers_under before name
 
--- this number stands after the others under each name that passes the test, and the same as before under each other name
+-- this number comes after the others under each name that passes the test, and the same as before under each other name
 abbrev pub Enters : (List ℕ → Bool) → ℕ → WaitersKept → WaitersKept → Type 0
 Enters test number before after =
     (name : List ℕ) → numbers_under after name ≡ numbers_under before name ++ (if test name then number ∷ [] else [])
 
--- the number of a row stands after the others under each name under which it waits, and the same as before under each other name
+-- the number of a row comes after the others under each name under which it waits, and the same as before under each other name
 abbrev pub EntersWaiter : Retired → WaitersKept → WaitersKept → Type 0
 EntersWaiter row before after = Enters (λ name. is_waiting name row) row.number before after
 
--- under this name stands what the change makes of what stood there, and the same as before under each other name
+-- under this name is what the change makes of what was there, and the same as before under each other name
 abbrev pub ChangesUnder : List ℕ → (List ℕ → List ℕ) → WaitersKept → WaitersKept → Type 0
 ChangesUnder name change before after =
     (other : List ℕ) → numbers_under after other ≡ (if bytes_eq name other then change (numbers_under before other) else numbers_under before other)

@@ -30,7 +30,7 @@ impl Deferred {
         }
     }
 
-    /// Makes room for so many more.
+    /// Makes room for this many more.
     pub fn make_room(&mut self, additional: usize) -> Result<(), AllocError>
         ensures rows { self.new.0 ≡ self.old.0 }
         ensures room { OnOk result (additional ≤ self.new.1) }
@@ -39,7 +39,7 @@ impl Deferred {
         Ok(())
     }
 
-    /// Puts one after the others, where there is room for it. It takes no memory.
+    /// Appends one to the others, where there is room for it. It takes no memory.
     pub fn push(&mut self, row: GenRow)
         requires { 0 < self.old.1 }
         ensures rows { self.new.0 ≡ self.old.0 ++ row ∷ [] }
@@ -48,7 +48,7 @@ impl Deferred {
         self.rows.push_reserved(row);
     }
 
-    /// Puts the rows of the other after these, and leaves the other none. Out of memory, both stay as they were.
+    /// Appends the rows of the other to these, and leaves the other none. Out of memory, both stay as they were.
     pub fn append(&mut self, other: &mut Deferred) -> Result<(), AllocError>
         ensures ok { OnOk result (self.new.0 ≡ self.old.0 ++ other.old.0) }
         ensures none { OnOk result (other.new.0 ≡ []) }

@@ -108,7 +108,7 @@ impl Drain {
         ensures answer_by_world { IsAnswerOf (has_unexpired name.now) self.old result }
         ensures world { Expires name.now self.old self.new }
     {
-        // They stand in the order of their numbers.
+        // They are in the order of their numbers.
         let _ = self.notes.len();
         let Some(numbers) = self.waiters.take(name) else {
             return false;
@@ -125,7 +125,7 @@ impl Drain {
     }
 
     /// The numbers of the generations that nothing holds any more, from the least, by a journal's format: `ledger` has the open
-    /// connections, and `shown` tells what pictures in use show. It asks both by number, and looks at no connection.
+    /// connections, and `shown` says what pictures in use show. It asks both by number, and looks at no connection.
     pub fn dead<S: Shows>(
         &self,
         alloc: Global,
@@ -144,7 +144,7 @@ impl Drain {
     pub fn is_dead<S: Shows>(&self, format: Format, ledger: &Ledger, shown: &S, number: Gen) -> bool
         ensures dead { result ≡ is_dead_in format (S.has shown.now) ledger.now number self.now }
     {
-        // They stand in the order of their numbers.
+        // They are in the order of their numbers.
         let _ = self.notes.len();
         match self.notes.get(&number) {
             Some(note) => nothing_holds(format, ledger, shown, number, note),
@@ -158,7 +158,7 @@ impl Drain {
         ensures removed { self.new ≡ filter (λ row. not (is_numbered number row)) self.old }
         ensures world { Removes number self.old self.new }
     {
-        // They stand in the order of their numbers.
+        // They are in the order of their numbers.
         let _ = self.notes.len();
         let Some(note) = self.notes.remove(&number) else {
             return;

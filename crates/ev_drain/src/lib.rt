@@ -2,8 +2,8 @@
 //!
 //! # Choices
 //!
-//! - The retired rows stand in an ordered map by number, so dead ones are found from the least. The mark of a drain
-//!   timeout stands in the row: `retire` takes its memory, and `expire` takes none. A row's name is shared with its
+//! - The retired rows are in an ordered map by number, so dead ones are found from the least. The mark of a drain
+//!   timeout is in the row: `retire` takes its memory, and `expire` takes none. A row's name is shared with its
 //!   copies.
 //! - `expire` goes over the numbers that may wait under its name. That index says too much at times and never too
 //!   little: out of memory between a number and its note leaves a number that waits for nothing, and each note is

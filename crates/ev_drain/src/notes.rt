@@ -59,13 +59,13 @@ fn waits(note: &Note, name: &str) -> bool
 /// The notes by number.
 pub(crate) type Notes = BTreeMap<Gen, Note>;
 
-/// Puts a note among the others. Out of memory, they stay as they were.
+/// Adds a note to the others. Out of memory, they stay as they were.
 pub(crate) fn put(notes: &mut Notes, number: Gen, note: Note) -> Result<(), AllocError>
     ensures entries { OnOk result (notes.new.entries ≡ insert_entry nat_cmp notes.old.entries number note) }
     ensures err { OnErr result (notes.new.entries ≡ notes.old.entries) }
     ensures ordered { IsOrdered nat_cmp notes.old }
 {
-    // They stand in the order of their numbers.
+    // They are in the order of their numbers.
     let _ = notes.len();
     let Ok(_) = notes.insert(number, note) else {
         return Err(AllocError);
@@ -92,7 +92,7 @@ fn mark_numbered(notes: &mut Notes, name: &str, number: Gen) -> bool
     ensures answer { result ≡ list_any (is_waiting_among name.now (number ∷ [])) notes.old.entries }
     ensures entries { notes.new.entries ≡ map (marked_among name.now (number ∷ [])) notes.old.entries }
 {
-    // They stand in the order of their numbers.
+    // They are in the order of their numbers.
     let _ = notes.len();
     match notes.get_mut(&number) {
         Some(note) => mark_one(note, name),

@@ -48,7 +48,7 @@ impl Waiters {
         }
     }
 
-    /// Puts the number of a generation that is retired after those of its name, where it is a draining listener. Out of memory,
+    /// Appends the number of a generation that is retired to those of its name, where it is a draining listener. Out of memory,
     /// the numbers stay as they were.
     pub(crate) fn await_timeout(
         &mut self,
@@ -67,7 +67,7 @@ impl Waiters {
         self.enter(alloc, name, number)
     }
 
-    // Puts a number after those of a name. Out of memory, the numbers stay as they were.
+    // Appends a number to those of a name. Out of memory, the numbers stay as they were.
     fn enter(&mut self, alloc: Global, name: &Name, number: Gen) -> Result<(), AllocError>
         ensures entered { OnOk result (Enters (bytes_eq name.now) number self.old self.new) }
         ensures err { OnErr result (SameUnder self.old self.new) }
@@ -148,7 +148,7 @@ fn copy_numbers(alloc: Global, map: &Numbers) -> Result<Numbers, AllocError>
     Ok(copied)
 }
 
-// Puts the numbers of a name that has none after the others.
+// Appends the numbers of a name that has none yet to the others.
 fn put(map: &mut Numbers, name: Name, numbers: Seq<Gen>) -> Result<(), AllocError>
     requires { get bytes_eq map.old name ≡ None }
     ensures { OnOk result (map.new.entries ≡ map.old.entries ++ (name, numbers) ∷ []) }

@@ -1,4 +1,4 @@
--- Worlds behind equal entries differ in what workers hold and in the node alone, whatever their workers and nodes.
+-- Worlds after equal entries differ in what workers hold and in the node alone, whatever their workers and nodes.
 use Rattle.std.proofs.Common.{◌≡◌, ◌<◌, ℕ, zero, suc, Bool, true, false, not, ◌&&◌, ◌||◌, ◌==◌, if◌then◌else◌, List, [], ◌∷◌, ◌++◌, map, filter, length, replicate, Option, None, Some, refl, ap, sym, ◌∙◌, subst, arith}
 use Rattle.std.specs.Prelude.{slice_index_or, slice_set}
 use Rattle.std.specs.List.{flat_map, list_any}
@@ -354,7 +354,7 @@ run_by format workers others world other (entry ∷ entries) run there count cou
     (begins_after format world entry.actor entry.event begins)
     (step_alike format world other begins alike workers others entry.actor entry.event run.0 there.0 count counted)
 
--- worlds behind entries that are a run both for so many workers and a node and for others
+-- worlds after entries that are a run both for this many workers and a node and for others
 pub run_alike : (format : Format) (workers others : ℕ) (node other : List ℕ) (entries : List Entry) → RunsFrom format workers (opening workers node) entries
     → RunsFrom format others (opening others other) entries
     → Alike (world_after format (opening workers node) entries) (world_after format (opening others other) entries)

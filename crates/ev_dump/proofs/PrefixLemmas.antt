@@ -22,7 +22,7 @@ text_by : (parts others : JournalParts) → parts.journal ≡ others.journal →
 unfolding dump_text
 text_by parts others journal shown = λ i. compact_text (dump_tree (sym shown i) (journal i)) ++ 10 ∷ []
 
--- one dump of entries that are a run both for so many workers and a node and for others
+-- one dump of entries that are a run both for this many workers and a node and for others
 one_text : (format : Format) (workers others : ℕ) (node other : List ℕ) (entries more : List Entry) → entries ≡ more
     → RunsFrom format workers (opening workers node) entries → RunsFrom format others (opening others other) more
     → dump_text record { format = format; workers = workers; node = node; journal = entries }

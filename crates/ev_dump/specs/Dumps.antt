@@ -9,29 +9,29 @@ use Rattle.ev_actors.specs.Journals.{JournalParts}
 use Rattle.ev_fronts.specs.Fronts.{ends_commit}
 use Rattle.ev_dump.specs.Texts.{dump_text}
 
--- the first so many entries of a journal that rows tell, with its format, workers and node
+-- the first n entries of a journal that rows record, with its format, workers and node
 abbrev pub front_of : Format → ScriptParts → List Row → ℕ → JournalParts
 front_of format script rows entries =
     record { format = format; workers = script.workers; node = script.node; journal = take entries (journal_told script rows) }
 
--- the text is the dump of so many entries: the rows are found legal, and a commit ends there
+-- the text is the dump of this many entries: the rows are found legal, and a commit ends there
 pub record IsDump (format : Format) (script : ScriptParts) (rows : List Row) (entries : ℕ) (text : List ℕ) : Type 0 where
   pub legal : finding_of format script rows ≡ Legal
   pub ends : IsTrue (ends_commit rows entries)
   pub line : text ≡ dump_text (front_of format script rows entries)
 
--- the number of the journal's end line: after the lines of its script stand its first line and its rows
+-- the number of the journal's end line: after the lines of its script come its first line and its rows
 abbrev pub end_line : ScriptParts → List Row → ℕ
 end_line script rows = script.count + length rows + 2
 
--- the rows are found legal, but no commit ends with so many entries, which is told at the end line: there aren't so many, or the last
+-- the rows are found legal, but no commit ends with this many entries, which is reported at the end line: there are fewer, or the last
 -- of them is an accept or a close
 pub record IsNoCommit (format : Format) (script : ScriptParts) (rows : List Row) (entries line : ℕ) : Type 0 where
   pub legal : finding_of format script rows ≡ Legal
   pub goes_on : IsTrue (not (ends_commit rows entries))
   pub told : line ≡ end_line script rows
 
--- dumps of journals that agree in their first entries are one, whatever stands after, and whatever their workers and nodes
+-- dumps of journals that agree in their first entries are the same, whatever comes after, and whatever their workers and nodes
 abbrev pub DumpsByPrefix : Type 0
 DumpsByPrefix =
     (format : Format) (script other : ScriptParts) (rows others : List Row) (entries : ℕ) (text another : List ℕ) → IsScript script → IsScript other

@@ -8,7 +8,7 @@ use ev_registry::Registry;
 use ev_types::{Format, Row, Script};
 use std::alloc::{AllocError, Global};
 
-/// The registry in which the first so many entries were done of a journal whose rows are found legal with their script, up to where a
+/// The registry in which the first n entries were done of a journal whose rows are found legal with their script, up to where a
 /// commit ends.
 pub fn state_after(
     alloc: Global,

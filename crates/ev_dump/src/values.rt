@@ -40,7 +40,7 @@ fn rows_value(alloc: Global, kind: Kind, rows: &[ViewRow]) -> Result<Value, Allo
     Ok(Value::Array(values))
 }
 
-// Puts the tree of a generation after others, where it is of the kind.
+// Appends the tree of a generation to others, where it is of the kind.
 fn put_row(
     values: &mut Vec<Value>,
     alloc: Global,

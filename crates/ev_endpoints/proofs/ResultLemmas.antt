@@ -97,7 +97,7 @@ module _ {S : Type 0} where
       → result_in (results_of es) number h ≡ inner o h
   found es number o e h = result_in-results_of es number h ∙ (λ i. inner (e i) h)
 
-  -- a map with the same entries in the place of one changes nothing
+  -- a map with the same entries in place of one changes nothing
   pub results_of-set_value : (test : ℕ → Bool) (es : List (ℕ × HashMap Host Bool S)) (m w : HashMap Host Bool S) → lookup test es ≡ Some m → w.entries ≡ m.entries
       → results_of (set_value test es w) ≡ results_of es
   results_of-set_value test [] m w at same = refl

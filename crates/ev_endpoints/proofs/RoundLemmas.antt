@@ -11,7 +11,7 @@ use Rattle.ev_types.specs.Hosts.{HostRowParts}
 use Rattle.ev_types.specs.declared.hosts.Host.{Host}
 use Rattle.ev_endpoints.specs.Results.{ResultsKept, hosts_in, result_in}
 
--- where the test holds of all rows' hosts, it holds of a host that stands among them
+-- where the test holds of all rows' hosts, it holds of a host that is among them
 holds : (test : Host → Bool) (host : Host) (rows : List HostRowParts) → list_all (λ (row : HostRowParts). test row.host) rows ≡ true → has_host host rows ≡ true → test host ≡ true
 holds test host [] all among = absurd (true≢false (sym among))
 holds test host (row ∷ rows) all among = by (host_same row.host host) refl (test row.host) refl (holds test host rows) all among

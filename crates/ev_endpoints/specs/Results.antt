@@ -31,7 +31,7 @@ is_eligible kept number checked row = row.usable && (not checked || unwrap_or (r
 abbrev pub HasNoEmpty : ResultsKept → Type 0
 HasNoEmpty kept = (number : ℕ) → lookup (nat_eq number) kept ≢ Some []
 
--- the number with these results stands after the others
+-- the number with these results comes after the others
 abbrev pub Appends : {S : Type 0} → List (ℕ × HashMap Host Bool S) → List (ℕ × HashMap Host Bool S) → ℕ → List (Host × Bool) → Type 0
 Appends old new number hosts = results_of new ≡ results_of old ++ (number, hosts) ∷ []
 

@@ -44,7 +44,7 @@ impl Endpoints {
         }
     }
 
-    /// Keeps a result of a host for a generation in place of an earlier one. Without memory all stays as it was.
+    /// Keeps a result of a host for a generation in place of an earlier one. Out of memory, all stays as it was.
     pub fn note(
         &mut self,
         alloc: Global,
@@ -120,7 +120,7 @@ impl Endpoints {
         self.results.swap_remove(&number.number());
     }
 
-    /// Forgets the results of a generation for hosts that aren't among these rows. Without memory all stays as it was.
+    /// Forgets the results of a generation for hosts that aren't among these rows. Out of memory, all stays as it was.
     pub fn trim(&mut self, alloc: Global, number: Gen, rows: &Assignment) -> Result<(), AllocError>
         ensures ok { OnOk result (Trims self.old self.new number rows.now) }
         ensures err { OnErr result (self.new ≡ self.old) }
@@ -151,7 +151,7 @@ impl TryCopy for Endpoints {
     }
 }
 
-// Puts the results of a number that has none after the others.
+// Appends the results of a number that has none yet to the others.
 fn put_hosts(
     results: &mut IndexMap<u32, IndexMap<Host, bool>>,
     number: u32,
@@ -180,7 +180,7 @@ fn copy_hosts(
     Ok(copied)
 }
 
-// Puts the result of a host that has none after the others.
+// Appends the result of a host that has none yet to the others.
 fn put_new(hosts: &mut IndexMap<Host, bool>, host: Host, healthy: bool) -> Result<(), AllocError>
     requires { get host_same hosts.old host ≡ None }
     ensures { OnOk result (hosts.new.entries ≡ hosts.old.entries ++ (host, healthy) ∷ []) }
@@ -191,7 +191,7 @@ fn put_new(hosts: &mut IndexMap<Host, bool>, host: Host, healthy: bool) -> Resul
     Ok(())
 }
 
-// The results of the hosts that stand among these rows.
+// The results of the hosts that are among these rows.
 fn standing(
     alloc: Global,
     hosts: &IndexMap<Host, bool>,

@@ -1,4 +1,4 @@
--- Each key stands once among what is guarded, so it is found at its place.
+-- Each key occurs once among what is guarded, so it is found at its place.
 use Rattle.std.proofs.Common.{◌≡◌, ℕ, zero, suc, ◌+◌, ◌<◌, ◌≤◌, Bool, true, false, not, cond, ◌||◌, List, [], ◌∷◌, ◌++◌, length, filter, Some, refl, sym, ap, ◌∙◌, append_assoc, arith}
 use Rattle.std.specs.Prelude.{slice_get}
 use Rattle.std.specs.List.{list_any}
@@ -8,7 +8,7 @@ use Rattle.ev_expand.specs.Keys.{key_same, key_decides}
 use Rattle.ev_expand.specs.Guarding.{Guarded, guarded_same, each_once, place_in}
 use Rattle.ev_expand.proofs.NumberLemmas.{once-push}
 
--- no key stands twice
+-- no key occurs twice
 abbrev pub AreDistinct : List Guarded → Type 0
 AreDistinct [] = Unit {0}
 AreDistinct (first ∷ others) = (list_any (λ (g : Guarded). guarded_same g first) others ≡ false) × AreDistinct others
@@ -87,12 +87,12 @@ at_place true key x gs (suc i) n g is e h k = absurd (omega (arith, e))
 at_place false key x gs zero n g is e h k = absurd (omega (arith, e))
 at_place false key x gs (suc i) n g is e h k = k i (omega (arith, e)) h
 
--- at the place of a key stands that key
+-- at the place of a key is that key
 pub place_has : (gs : List Guarded) (key : Key) (i : ℕ) (g : Guarded) → place_in gs key ≡ i → slice_get gs i ≡ Some g → key_same key g.key ≡ true
 place_has [] key i g e h = absurd (cc)
 place_has (x ∷ gs) key i g e h = at_place (key_same key x.key) key x gs i (place_in gs key) g refl e h (λ j e' h'. place_has gs key j g e' h')
 
--- ---- what is new behind some
+-- ---- what is new after some
 
 only : (y : Guarded) (i : ℕ) (g : Guarded) → slice_get (y ∷ []) i ≡ Some g → g ≡ y
 only y zero g h = cc
@@ -107,7 +107,7 @@ split_get P [] ys i g h first second = second i h
 split_get P (x ∷ xs) ys zero g h first second = first zero h
 split_get P (x ∷ xs) ys (suc i) g h first second = split_get P xs ys i g h (λ j k. first (suc j) k) second
 
--- behind some of these stand more, each of which has a key of others
+-- after some of these come more, each of which has a key of others
 pub record IsExtended (old all others : List Guarded) : Type 0 where
   pub more : List Guarded
   pub grown : all ≡ old ++ more
@@ -129,7 +129,7 @@ once_extends xs (y ∷ ys) =
           (λ j k. later_any (guarded_same g y) (list_any (guarded_same g) ys) (rest.among j g k));
     }
 
--- one of the first of these, or one behind them
+-- one of the first of these, or one after them
 pub first_get : (old more : List Guarded) (i : ℕ) → i < length old → slice_get (old ++ more) i ≡ slice_get old i
 first_get [] more i h = absurd (omega arith)
 first_get (x ∷ old) more zero h = refl

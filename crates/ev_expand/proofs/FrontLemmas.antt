@@ -1,4 +1,4 @@
--- One more line behind others.
+-- One more line after others.
 use Rattle.std.proofs.Common.{◌≡◌, Bool, true, false, cond, List, [], ◌∷◌, ◌++◌, map, filter, flat_map, refl, ap, ◌∙◌}
 use Rattle.std.proofs.lemmas.List.{map-append, append-nil}
 use Rattle.std.proofs.lemmas.List.Elements.{filter-append}
@@ -7,14 +7,14 @@ use Rattle.serde_json.specs.Data.{Data}
 use Rattle.ev_expand.specs.Fronts.{Front, up_to, fronts, behind, stream_at, heard}
 use Rattle.ev_expand.specs.Growing.{front_of}
 
--- the fronts of some lines and one more
+-- the prefixes of some lines and one more
 pub fronts-push : (lines : List Data) (line : Data) → fronts (lines ++ line ∷ []) ≡ fronts lines ++ front_of lines line ∷ []
 fronts-push [] line = refl
 fronts-push (first ∷ lines) line =
     ap (λ (fs : List Front). front_of [] first ∷ map (behind first) fs) (fronts-push lines line)
     ∙ ap (λ (fs : List Front). front_of [] first ∷ fs) (map-append (behind first) (fronts lines) (front_of lines line ∷ []))
 
--- what each front gives, with one more line
+-- what each prefix gives, with one more line
 pub flat-push : {A : Type 0} (f : Front → List A) (lines : List Data) (line : Data) → flat_map f (fronts (lines ++ line ∷ [])) ≡ flat_map f (fronts lines) ++ f (front_of lines line)
 flat-push f lines line =
     ap (flat_map f) (fronts-push lines line) ∙ flat_map-append f (fronts lines) (front_of lines line ∷ [])
@@ -24,7 +24,7 @@ heard_last : (b : Bool) (line : Data) (fs : List Front) (f : Front) → f.line �
 heard_last true line fs f e = ap (λ (l : Data). l ∷ []) e
 heard_last false line fs f e = refl
 
--- the line is heard too, where a stream is open behind it
+-- the line is heard too, where a stream is open after it
 pub heard-push : (lines : List Data) (line : Data) → heard (lines ++ line ∷ []) ≡ heard lines ++ cond (stream_at (lines ++ line ∷ [])) (line ∷ []) []
 heard-push lines line =
     ap (λ (fs : List Front). map (λ (front : Front). front.line) (filter (λ front. stream_at (up_to front)) fs)) (fronts-push lines line)

@@ -1,4 +1,4 @@
--- Trees within the limits, and what a line gives behind others.
+-- Trees within the limits, and what a line gives after others.
 use Rattle.std.proofs.Common.{◌≡◌, ℕ, suc, ◌+◌, ◌-◌, ◌<◌, ◌≤◌, Bool, true, false, List, [], ◌∷◌, ◌++◌, length, get_or, take, map, None, Result, Ok, decimal, refl, sym, ap, ◌∙◌, subst, append_assoc, arith, length-append}
 use Rattle.std.specs.declared.alloc.AllocError.{AllocError}
 use Rattle.std.specs.Prelude.{All}
@@ -27,7 +27,7 @@ front_short : (P : Data → Type 0) (xs ys : List Data) → All P (xs ++ ys) →
 front_short P [] ys each = λ i d h. absurd (omega arith)
 front_short P (x ∷ xs) ys each = All-cons P x xs (each 0 x (omega arith)) (front_short P xs ys (λ i d h. each (suc i) d (omega arith)))
 
--- trees that are a front of others are within the limits where those are
+-- trees that are a prefix of others are within the limits where those are
 pub within_front : (xs ys : List Data) → AreWithinLimits (xs ++ ys) → AreWithinLimits xs
 within_front xs ys within =
     let small : length (text_of_trees (xs ++ ys)) ≡ length (text_of_trees xs) + length (text_of_trees ys) =
@@ -46,7 +46,7 @@ pub written-push : (rules : Rules) (head : Data) (lines : List Data) (line : Dat
     → written_by rules head (lines ++ line ∷ []) ≡ written_by rules head lines ++ map whole (gives rules (front_of lines line))
 written-push rules head lines line = ap (map whole) (given-push rules head lines line) ∙ map-append whole (given_by rules head lines) (gives rules (front_of lines line))
 
--- ---- answers of calls that put trees behind a text
+-- ---- answers of calls that put trees after a text
 
 pub read_one : (tree : Data) → (IsReadable tree → ReadsBack (whole tree)) → ReadBack (tree ∷ [])
 read_one tree h = All-cons (λ (t : Data). IsReadable t → ReadsBack (whole t)) tree [] h (λ i d k. absurd (omega arith))
@@ -61,7 +61,7 @@ pushes_first old new answer more rest pushes is = record {
   read_back = λ h. absurd (cc);
 }
 
--- the first of some stand there, and the others had room or not
+-- the first of some are there, and the others had room or not
 pub pushes_then : (old mid new : TextSoFar) (first answer : Result Bool AllocError) (more rest : List Data) → Pushes old mid first more → first ≡ Ok true → Pushes mid new answer rest
     → Pushes old new answer (more ++ rest)
 pushes_then old mid new first answer more rest one is two =
@@ -124,7 +124,7 @@ large_at rules head ls i entry old new gs answer h there grown pushes is =
       above = λ within. pushes.full (written_by rules head (map view (take i ls))) grown.written is (subst AreWithinLimits all within);
     }
 
--- what was told where no line was refused
+-- what was reported where no line was refused
 pub all_grown : (rules : Rules) (head : Data) (lines : List Data) (text : TextSoFar) (gs : List Guarded) → first_use rules.prefix lines ≡ None → IsGrown rules head lines text gs
     → IsExpanded rules head lines (Ok text.bytes)
 all_grown rules head lines text gs unused grown = (unused, grown.written.limits, grown.read_back, grown.written.bytes)

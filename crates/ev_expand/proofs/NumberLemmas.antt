@@ -42,7 +42,7 @@ once_at true false one first gs is here = ap (λ xs. first ∷ xs) (filter-appen
 once_at false true one first gs is here = rw (any_kept one first gs is, here)
 once_at false false one first gs is here = rw (any_kept one first gs is, here) (ap (λ xs. first ∷ xs) (filter-append (λ other. not (guarded_same other first)) gs (one ∷ []) ∙ rw is))
 
--- one more behind the others
+-- one more after the others
 pub once-push : (gs : List Guarded) (one : Guarded) → each_once (gs ++ one ∷ []) ≡ added (each_once gs) one
 once-push [] one = refl
 once-push (first ∷ gs) one =
@@ -55,7 +55,7 @@ stays_at : (b : Bool) (n m l : ℕ) → cond (not b) (1 + n) 0 < suc l → (n < 
 stays_at true n m l h k = refl
 stays_at false n m l h k = ap (λ (x : ℕ). 1 + x) (k (omega arith))
 
--- the place of a key that stands among these stays where more stand behind them
+-- the place of a key that is among these stays where more come after them
 pub place_stays : (key : Key) (gs more : List Guarded) → place_in gs key < length gs → place_in (gs ++ more) key ≡ place_in gs key
 place_stays key [] more h = absurd (omega arith)
 place_stays key (g ∷ gs) more h = stays_at (key_same key g.key) (place_in gs key) (place_in (gs ++ more) key) (length gs) h (place_stays key gs more)
@@ -69,7 +69,7 @@ more_of : (gs : List Guarded) (o : Option Guarded) (b : Bool) (one : Guarded) �
 more_of gs o true one = ([], sym (append-nil gs))
 more_of gs o false one = (one ∷ [], refl)
 
--- some more stand behind these, or none
+-- some more come after these, or none
 pub more_behind : (gs : List Guarded) (o : Option Guarded) → (more : List Guarded) × (taken_up gs o ≡ gs ++ more)
 more_behind gs None = ([], sym (append-nil gs))
 more_behind gs (Some one) = more_of gs (Some one) (list_any (guarded_same one) gs) one
@@ -90,7 +90,7 @@ within_more : (n m : ℕ) (place : Option ℕ) → n ≤ m → IfSome place (λ 
 within_more n m None le h = tt
 within_more n m (Some p) le h = omega arith
 
--- the places of some entries and of one more, behind which what it guards is taken up
+-- the places of some entries and of one more, after which what it guards is taken up
 pub record ArePlaced (guard : Guard) (entries : List Data) (gs : List Guarded) (places : List (Option ℕ)) : Type 0 where
   pub each : places ≡ map (place_at guard gs) entries
   pub within : All (λ (place : Option ℕ). IfSome place (λ (p : ℕ). p < length gs)) places
@@ -136,7 +136,7 @@ new_at : (b c : Bool) (n l : ℕ) → (b || c) ≡ false → (c ≡ false → n 
 new_at true c n l h k = absurd (cc)
 new_at false c n l h k = let e : n ≡ l = k h in omega arith
 
--- a new key stands behind the others
+-- a new key comes after the others
 pub place_new : (key : Key) (own : Data) (gs : List Guarded) → list_any (λ (g : Guarded). key_same key g.key) gs ≡ false
     → place_in (gs ++ record { key = key; own = own } ∷ []) key ≡ length gs
 place_new key own [] h = let same : key_same key key ≡ true = (key_decides key key).1 refl in rw same

@@ -26,7 +26,7 @@ length_with trees tree =
 count_with : (trees : List Data) (tree : Data) → length (trees ++ tree ∷ []) ≡ length trees + 1
 count_with trees tree = length-append trees (tree ∷ [])
 
--- a line that has room goes behind the text
+-- a line that has room goes after the text
 pub room_for : (trees : List Data) (tree : Data) (old new : TextSoFar) → IsTextSoFar trees old
     → HasRoom (length old.bytes.items) old.lines (length (line_text tree))
     → new.bytes.items ≡ old.bytes.items ++ line_text tree → new.lines ≡ old.lines + 1 → IsTextSoFar (trees ++ tree ∷ []) new

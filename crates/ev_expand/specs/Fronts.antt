@@ -17,11 +17,11 @@ pub record Front : Type 0 where
 abbrev pub up_to : Front → List Data
 up_to front = front.before ++ front.line ∷ []
 
--- the front with one more line before all others
+-- the prefix with one more line before all others
 abbrev pub behind : Data → Front → Front
 behind first front = record { before = first ∷ front.before; line = front.line }
 
--- the fronts that end at each of these lines, in order
+-- the prefixes that end at each of these lines, in order
 abbrev pub fronts : List Data → List Front
 fronts [] = []
 fronts (first ∷ lines) = record { before = []; line = first } ∷ map (behind first) (fronts lines)
@@ -44,7 +44,7 @@ stream_at lines = unwrap_or (last_or None (filter_map (λ line. option_and_then 
 abbrev pub opens : Front → Bool
 opens front = stream_at (up_to front) && not (stream_at front.before)
 
--- the lines that stand where a stream is open, in order
+-- the lines where a stream is open, in order
 abbrev pub heard : List Data → List Data
 heard lines = map (λ (front : Front). front.line) (filter (λ front. stream_at (up_to front)) (fronts lines))
 

@@ -19,7 +19,7 @@ use Rattle.ev_expand.specs.Expanding.{Rules, due_at, gives, given_by, place_of, 
 abbrev pub front_of : List Data → Data → Front
 front_of before line = record { before = before; line = line }
 
--- what an answer of a call means that puts these after a text, in order: all of them stand there, or they had no room
+-- what an answer of a call means that puts these after a text, in order: all of them are there, or they had no room
 pub record Pushes (old new : TextSoFar) (answer : Result Bool AllocError) (more : List Data) : Type 0 where
   pub pushed : (trees : List Data) → IsTextSoFar trees old → answer ≡ Ok true → IsTextSoFar (trees ++ map whole more) new
   pub full : (trees : List Data) → IsTextSoFar trees old → answer ≡ Ok false → ¬ (AreWithinLimits (trees ++ map whole more))
@@ -62,7 +62,7 @@ abbrev pub TakesLine : {S : Type 0} → Rules → (S → List Data → Type 0) �
 TakesLine rules is_behind old new numbers line answer = FromBehind rules.guard is_behind old numbers line
     (λ before. OnOk answer (is_behind new (before ++ line ∷ [])))
 
--- what is due at the next line is told, by the numbers after that line
+-- what is due at the next line is reported, by the numbers after that line
 abbrev pub TellsDue : {S : Type 0} → Rules → (S → List Data → Type 0) → S → Numbers → Data
     → Result (Vec Due Global) AllocError → Type 0
 TellsDue rules is_behind old numbers line answer = FromBehind rules.guard is_behind old numbers line

@@ -5,7 +5,7 @@ use Rattle.ev_io.specs.declared.limits.TheConstants.{MAX_LINE_BYTES, MAX_LINES, 
 use Rattle.ev_trees.specs.Trees.{text_of_trees, AreWithinLimits}
 use Rattle.ev_expand.specs.declared.text_so_far.TextSoFar.{TextSoFar}
 
--- after so many bytes and lines there is room for a line of this length, its line feed counted
+-- after this many bytes and lines there is room for a line of this length, its line feed counted
 pub record HasRoom (bytes lines line : ℕ) : Type 0 where
   pub short : line ≤ MAX_LINE_BYTES + 1
   pub few : lines < MAX_LINES

@@ -65,7 +65,7 @@ pub trait Expansion {
     fn own(&self, alloc: Global, entry: &Value) -> Result<Value, AllocError>
         ensures { IfOk result (λ own. view own ≡ rules.guard.own_of (view entry.now)) };
 
-    /// Takes the next line, and tells which places are due after it, with their endpoints. The event is what the line is read
+    /// Takes the next line, and says which places are due after it, with their endpoints. The event is what the line is read
     /// as, the numbers are those after the line, and `items` are the places of the keys of its guarded resources.
     ///
     /// # Errors
@@ -91,7 +91,7 @@ pub const MOST_LINES: usize = 4_294_967_290;
 ///
 /// # Errors
 /// `Private` exactly for the first line that uses a private name. `Large` where there is none, exactly for the line with whose
-/// output the text goes above a limit of inputs. `OutOfMemory` without memory, and for 2^32 lines and more.
+/// output the text goes above a limit of inputs. `OutOfMemory` where memory runs out, and for 2^32 lines and more.
 pub fn expand_with<E: Expansion + Drop>(
     alloc: Global,
     expansion: E,
@@ -122,7 +122,7 @@ pub fn expand_with<E: Expansion + Drop>(
     Ok(text.bytes)
 }
 
-// Puts what the next line gives after the text, and answers whether it had room there.
+// Appends what the next line gives to the text, and answers whether it had room there.
 fn push_line<E: Expansion>(
     alloc: Global,
     expansion: &mut E,
@@ -162,7 +162,7 @@ fn push_read<E: Expansion>(
     push_due(alloc, expansion.prefix(), expansion.nonce(), text, at, due)
 }
 
-// Puts a line itself after the text, where it is written, by the places of its keys.
+// Appends a line itself to the text, where it is written, by the places of its keys.
 fn push_written<E: Expansion>(
     alloc: Global,
     expansion: &E,
@@ -184,7 +184,7 @@ fn push_written<E: Expansion>(
     }
 }
 
-// Puts the line that follows line `at` after the text, where some are due.
+// Appends the line that follows line `at` to the text, where some are due.
 fn push_due(
     alloc: Global,
     prefix: &str,

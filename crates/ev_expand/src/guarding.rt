@@ -32,7 +32,7 @@ fn waiting_config(alloc: Global, name: &str) -> Result<Value, AllocError>
     })
 }
 
-// A cluster that waits for this name, and is the same else.
+// A cluster that waits for this name, and is otherwise the same.
 fn waiting_body(alloc: Global, name: &str, body: &Value) -> Result<Value, AllocError>
     ensures { IfOk result (λ made. view made ≡ waiting_body name.now (view body.now)) }
 {

@@ -52,7 +52,7 @@ impl Numbers {
         self.firsts.get_index_of(key)
     }
 
-    /// Puts a key that has no place after the others, with what is kept of its first item.
+    /// Appends a key that has no place yet to the others, with what is kept of its first item.
     pub(crate) fn push(&mut self, key: Key, own: Value) -> Result<(), AllocError>
         requires { list_any (λ g. key_same key g.key) (guarded_so_far self.old) ≡ false }
         ensures { OnOk result (guarded_so_far self.new ≡ guarded_so_far self.old ++ guarded_as key (view own) ∷ []) }

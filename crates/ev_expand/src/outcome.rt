@@ -5,7 +5,7 @@ use std::alloc::{AllocError, AllocFailed};
 use std::error::Error;
 use std::fmt;
 
-/// Why there is no text. A line is told by its number in the input, from 1.
+/// Why there is no text. A line is given by its number in the input, from 1.
 #[derive(Clone, Copy, Debug, PartialEq, Eq)]
 pub enum ExpandError {
     /// The first line that uses a private name. It is looked for before all else.

@@ -30,7 +30,7 @@ impl TextSoFar {
         }
     }
 
-    /// Puts the line of a tree after the text, with -1 for each float in it, and answers whether it had room there, by the
+    /// Appends the line of a tree to the text, with -1 for each float in it, and answers whether it had room there, by the
     /// limits of inputs. Where it hadn't, the text stays as it was.
     ///
     /// # Errors
@@ -55,7 +55,7 @@ impl TextSoFar {
     }
 }
 
-// Whether there is room for a line of this length, its line feed counted, after so many bytes and lines.
+// Whether there is room for a line of this length, its line feed counted, after this many bytes and lines.
 fn has_room(bytes: usize, lines: u32, line: usize) -> bool
     ensures { IsTrue result ↔ HasRoom bytes lines line }
 {

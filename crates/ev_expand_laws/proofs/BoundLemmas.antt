@@ -106,7 +106,7 @@ header_keeps (Some h) header kept e = let same : h ≡ header = cc in subst IsHe
 
 -- ---- a line has no more resources than its tree has elements
 
--- an event with at most so many resources, and a line with one
+-- an event with at most this many resources, and a line with one
 abbrev BringsAtMost : ℕ → Event → Type 0
 BringsAtMost n event = items_in event ≤ n
 

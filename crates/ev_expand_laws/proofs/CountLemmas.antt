@@ -66,7 +66,7 @@ fronts_lines f (line ∷ lines) =
 
 -- where each line that has something guarded is written
 module _ (rules : Rules) (writes : (line : Data) → has_guarded rules.guard line ≡ true → rules.is_written line ≡ true) where
-  -- the line of a front has no fewer resources than guarded ones
+  -- the line of a prefix has no fewer resources than guarded ones
   front_items : (front : Front) (at : ℕ) → length (guarded_in rules.guard front.line) ≤ items_of (lines_said at (gives rules front))
   front_items front at = by (has_guarded rules.guard front.line) refl
     where

@@ -80,7 +80,7 @@ enum_in m [] p is = absurd is
 enum_in m (x ∷ xs) p (inl e) = (0, sym (ap (λ q. q.0) e) ∙ omega arith, ap (λ q. Some q.1) e)
 enum_in m (x ∷ xs) p (inr is) = let rest = enum_in (m + 1) xs p is in (suc rest.0, omega (arith, rest.1), rest.2)
 
--- what is due stands among what is guarded, and is due
+-- what is due is among what is guarded, and is due
 pub record IsDueAt (rules : Rules) (front : Front) (place : ℕ) : Type 0 where
   pub guarded : Guarded
   pub there : slice_get (guarded_at rules front) place ≡ Some guarded

@@ -85,7 +85,7 @@ mutual
 
 -- ---- what is found in a tree has no more
 
--- a tree with at most so many
+-- a tree with at most that many
 abbrev pub HasAtMost : ℕ → Data → Type 0
 HasAtMost n d = elements d ≤ n
 

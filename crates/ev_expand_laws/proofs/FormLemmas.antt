@@ -32,7 +32,7 @@ record LineEnd (bytes : List ℕ) (i : ℕ) : Type 0 where
   index : feeds_in (take place bytes) ≡ i
   ends : ((place < length bytes) × (slice_index bytes place ≡ 10)) ⊎ ((place ≡ length bytes) × (feeds_in bytes < length (lines_of bytes)))
 
--- behind a byte that is a line feed
+-- after a byte that is a line feed
 end_behind_feed : (byte : ℕ) (bytes : List ℕ) (i : ℕ) → eqb byte 10 ≡ true → LineEnd bytes i → LineEnd (byte ∷ bytes) (suc i)
 end_behind_feed byte bytes i feed found = record {
   place = suc found.place;
@@ -47,7 +47,7 @@ end_behind_feed byte bytes i feed found = record {
     by (inl h) = inl (omega (arith, h.0), h.1)
     by (inr h) = inr (omega (arith, h.0), subst (λ t. cond t (suc (feeds_in bytes)) (feeds_in bytes) < length (cond t ([] ∷ lines_of bytes) (onto_first byte (lines_of bytes)))) (sym feed) (omega (arith, h.1)))
 
--- behind another byte
+-- after another byte
 end_behind_byte : (byte : ℕ) (bytes : List ℕ) (i : ℕ) → eqb byte 10 ≡ false → LineEnd bytes i → LineEnd (byte ∷ bytes) i
 end_behind_byte byte bytes i other found = record {
   place = suc found.place;
@@ -108,7 +108,7 @@ line_ends (byte ∷ bytes) i h = by (λ j k. line_ends bytes j k) (eqb byte 10) 
 
 -- ---- the forms
 
--- at this place the tree has the form of a line, of a script of so many workers
+-- at this place the tree has the form of a line, of a script of this many workers
 pub record HasForm (forms : LineForms) (workers at : ℕ) (tree : Data) : Type 0 where
   pub named : Option ℕ
   pub reads : forms.lines at tree ≡ Some named

@@ -11,7 +11,7 @@ use Rattle.ev_expand.specs.Fronts.{Front, behind, fronts, up_to}
 use Rattle.ev_expand_laws.specs.Said.{given_lines}
 use Rattle.ev_expand_laws.proofs.ListLemmas.{IsOfPiece, fewer_pieces, of_piece, piece_at}
 
--- the front that ends at a line is that of its place
+-- the prefix that ends at a line is that of its place
 pub record IsFrontAt (lines : List Data) (index : ℕ) (front : Front) : Type 0 where
   pub here : slice_get lines index ≡ Some front.line
   pub before : front.before ≡ take index lines
@@ -35,7 +35,7 @@ front_at (first ∷ lines) (suc index) front there =
           before = sym (ap (λ (g : Front). g.before) same) ∙ ap (λ ls. first ∷ ls) rest.before;
         }
 
--- at each line a front ends
+-- at each line a prefix ends
 pub front_there : (lines : List Data) (index : ℕ) (line : Data) → slice_get lines index ≡ Some line → (front : Front) × (slice_get (fronts lines) index ≡ Some front)
 front_there [] index line there = absurd (cc)
 front_there (first ∷ lines) zero line there = (record { before = []; line = first }, refl)
@@ -43,7 +43,7 @@ front_there (first ∷ lines) (suc index) line there =
     let rest = front_there lines index line there in
     (behind first rest.0, slice_get-map (behind first) (fronts lines) index ∙ ap (option_map (behind first)) rest.1)
 
--- the fronts of the first lines are the first fronts
+-- the prefixes of the first lines are the first prefixes
 pub fronts_taken : (lines : List Data) (n : ℕ) → fronts (take n lines) ≡ take n (fronts lines)
 fronts_taken [] zero = refl
 fronts_taken [] (suc n) = refl
@@ -52,7 +52,7 @@ fronts_taken (first ∷ lines) (suc n) =
     ap (λ fs. record { before = []; line = first } ∷ fs)
     (ap (map (behind first)) (fronts_taken lines n) ∙ sym (take-map (behind first) n (fronts lines)))
 
--- up to it stand the lines of its place
+-- up to it come the lines of its place
 pub up_to_at : (lines : List Data) (index : ℕ) (front : Front) → slice_get (fronts lines) index ≡ Some front → up_to front ≡ take (index + 1) lines
 up_to_at lines index front there =
     let at : IsFrontAt lines index front = front_at lines index front there in
@@ -60,7 +60,7 @@ up_to_at lines index front there =
 
 -- ---- lines of the text
 
--- so many lines of the text are given by those of the input before this one
+-- this many lines of the text are given by those of the input before this one
 abbrev pub given_before : Rules → List Data → ℕ → ℕ
 given_before rules lines index = length (given_lines rules (take index lines))
 

@@ -28,7 +28,7 @@ all_counted : {X : Type 0} (P : X → Type 0) (n : ℕ) (xs : List X) → All P 
 all_counted {X} P n [] all = All-nil (λ (p : ℕ × X). P p.1)
 all_counted {X} P n (x ∷ xs) all = All-cons (λ (p : ℕ × X). P p.1) (n, x) (enumerate_from (n + 1) xs) (All-head P x xs all) (all_counted P (n + 1) xs (All-tail P x xs all))
 
--- what holds of each line holds of that of each front
+-- what holds of each line holds of that of each prefix
 pub all_fronts : (P : Data → Type 0) (lines : List Data) → All P lines → All (λ (front : Front). P front.line) (fronts lines)
 all_fronts P [] all = All-nil (λ (front : Front). P front.line)
 all_fronts P (first ∷ lines) all =
@@ -40,7 +40,7 @@ all_fronts P (first ∷ lines) all =
 all_one : {X : Type 0} (P : X → Type 0) (x : X) → P x → All P (x ∷ [])
 all_one P x is = All-cons P x [] is (All-nil P)
 
--- a line of a script of so many workers, not too deep
+-- a line of a script of this many workers, not too deep
 pub record IsGiven (workers : ℕ) (tree : Data) : Type 0 where
   pub line : HasLine workers 0 tree
   pub readable : IsReadable tree

@@ -1,4 +1,4 @@
--- A guarded key stands at its place among what is guarded, by any rules.
+-- A guarded key is at its place among what is guarded, by any rules.
 use Rattle.std.proofs.Common.{◌≡◌, ◌∙◌, inl, ℕ, suc, ◌+◌, ◌<◌, Bool, true, false, cond, not, ◌||◌, List, [], ◌∷◌, length, filter, flat_map, Some, option_map, refl, sym, ap, subst, arith}
 use Rattle.std.specs.Prelude.{slice_get}
 use Rattle.std.specs.List.{list_any}
@@ -52,7 +52,7 @@ place_within key [] h = absurd (cc)
 place_within key (g ∷ gs) h =
     within_at (key_same key g.key) (place_in gs key) (length gs) (λ none. place_within key gs (sym (ap (λ b. b || list_any (λ (x : Guarded). key_same key x.key) gs) none) ∙ h))
 
--- the key of a guarded resource of a line stands at its place in the whole input
+-- the key of a guarded resource of a line is at its place in the whole input
 pub record IsGuardedAt (guard : Guard) (lines : List Data) (place : ℕ) (key : Key) : Type 0 where
   pub guarded : Guarded
   pub there : slice_get (guarded_by guard lines) place ≡ Some guarded

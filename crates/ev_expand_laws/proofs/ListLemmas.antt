@@ -1,4 +1,4 @@
--- Where the elements of joined lists stand, and which of two elements of a rising list stands first.
+-- Where the elements of joined lists are, and which of two elements of a rising list comes first.
 use Rattle.std.proofs.Common.{◌≡◌, ◌∙◌, ◌⊎◌, inl, inr, ℕ, zero, suc, ◌+◌, ◌<◌, ◌≤◌, Bool, true, false, cond, ◌||◌, List, [], ◌∷◌, ◌++◌, length, take, map, filter, filter_map, flat_map, Option, Some, None, refl, sym, ap, subst, arith, length-append}
 use Rattle.std.specs.Prelude.{slice_get, Contains}
 use Rattle.std.specs.Cmp.{first_so, second_so}
@@ -28,7 +28,7 @@ back_get (y ∷ xs) ys i =
     let next : length (y ∷ xs) + i ≡ suc (length xs + i) = omega arith in
     ap (slice_get (y ∷ (xs ++ ys))) next ∙ back_get xs ys i
 
--- an element of joined lists stands in the first, or in the second behind it
+-- an element of joined lists is in the first, or in the second after it
 pub record IsBehind {X : Type 0} (xs ys : List X) (i : ℕ) (x : X) : Type 0 where
   pub place : ℕ
   pub at : i ≡ length xs + place
@@ -53,7 +53,7 @@ taken_get (y ∷ xs) (suc n) (suc i) x h = let rest = taken_get xs n i x h in (o
 
 -- ---- joined pieces
 
--- the element stands in one of the pieces, behind all of those before it
+-- the element is in one of the pieces, after all of those before it
 pub record IsOfPiece {X Y : Type 0} (f : X → List Y) (xs : List X) (i : ℕ) (y : Y) : Type 0 where
   pub index : ℕ
   pub piece : X

@@ -1,4 +1,4 @@
--- The entries of an actor of the main side stand in a run as its operations stand in the script.
+-- The entries of an actor of the main side come in a run as its operations come in the script.
 use Rattle.std.proofs.Common.{◌≡◌, ◌∙◌, ◌⊎◌, inl, inr, ℕ, zero, suc, ◌<◌, Bool, true, false, cond, ◌&&◌, List, [], ◌∷◌, map, filter, flat_map, Option, Some, None, refl, sym, ap, subst, arith}
 use Rattle.std.specs.Prelude.{slice_get, option_map}
 use Rattle.std.specs.List.{range_with_len}
@@ -15,7 +15,7 @@ use Rattle.ev_model_laws.proofs.OperationLists.{IsIn, at_in, in_filter, in_front
 use Rattle.ev_model_laws.proofs.RisingOperations.{IsRising, not_back, not_itself, operations_rise}
 use Rattle.ev_expand_laws.proofs.ListLemmas.{flat_in, in_flat, in_get, in_kept, in_map, map_in}
 
--- the event is that of an operation which stands behind a line, or behind all of them
+-- the event is that of an operation which comes after a line, or after all of them
 abbrev pub is_behind : Event → Bool
 is_behind Publish = true
 is_behind Reap = true
@@ -78,9 +78,9 @@ entry_in script journal actor q entry holds there mine =
     (in_filter (λ (o : Operation). actor_same o.actor actor) (operation_of entry) (all_operations script)
     (entry_among script journal actor q entry holds there mine)).0
 
--- ---- which of two stands first
+-- ---- which of two comes first
 
--- the operation stands before place q
+-- the operation comes before place q
 pub record IsBefore (os : List Operation) (q : ℕ) (o : Operation) : Type 0 where
   pub place : ℕ
   pub earlier : place < q
@@ -104,7 +104,7 @@ later_rises mine x os q first true rises (inl e) more = record { place = 0; earl
 later_rises mine x os q first true rises (inr is) more = further x os q first (more rises.1 is)
 later_rises mine x os q first false rises is more = further x os q first (more rises is)
 
--- of those that pass a test and rise, one that is earlier than another stands before it
+-- of those that pass a test and rise, one that is earlier than another comes before it
 pub stands_before : (mine : Operation → Bool) (os : List Operation) (q : ℕ) (o first : Operation) → IsRising (filter mine os) → slice_get os q ≡ Some o → mine o ≡ true
     → IsIn first (filter mine os) → is_earlier first o ≡ true → IsBefore os q first
 stands_before mine [] q o first rises there passes is less = absurd is

@@ -1,4 +1,4 @@
--- Runs of the script that a command writes, and where its input's lines stand in it.
+-- Runs of the script that a command writes, and where its input's lines are in it.
 use Rattle.std.specs.Prelude.{ℕ, ◌+◌, List, length, take}
 use Rattle.serde_json.specs.Data.{Data}
 use Rattle.ev_types.specs.Scripts.{ScriptParts}

@@ -21,7 +21,7 @@ abbrev pub lines_said : ℕ → List Data → List Line
 lines_said at [] = []
 lines_said at (tree ∷ trees) = option_to_list (line_of at tree) ++ lines_said (at + 1) trees
 
--- the tree is, at this place, a line of a script of so many workers
+-- the tree is, at this place, a line of a script of this many workers
 pub record HasLine (workers at : ℕ) (tree : Data) : Type 0 where
   pub line : Line
   pub is : line_of at tree ≡ Some line

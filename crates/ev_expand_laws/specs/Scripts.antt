@@ -15,7 +15,7 @@ use Rattle.ev_expand.specs.Guarding.{Guarded}
 use Rattle.ev_expand.specs.Expanding.{Rules, guarded_at, IsExpanded}
 use Rattle.ev_expand_laws.specs.Said.{lines_in, HasLine, AllAt, input_of_text, expanded_script}
 
--- where it is written, the line is at this place one of a script of so many workers
+-- where it is written, the line is at this place one of a script of this many workers
 abbrev pub IsLineIfWritten : Rules → ℕ → ℕ → Data → Type 0
 IsLineIfWritten rules workers at line = IsTrue (rules.is_written line) → HasLine workers at line
 

@@ -22,7 +22,7 @@ use Rattle.ev_fits.proofs.ActLemmas.{acts, acts_ended, suffices}
 use Rattle.ev_fits.proofs.OwnLemmas.{all_own, few_items, keep_to_batches}
 use Rattle.ev_fits.proofs.WorkLemmas.{works_ended}
 
--- what stands at a place of a list, and what stands behind it
+-- what is at a place of a list, and what comes after it
 pub next_of : {X : Type 0} (items : List X) (place : ℕ) (item : X) → place < length items → item ≡ get_or items place item
     → drop place items ≡ item ∷ drop (place + 1) items
 next_of items place item within is =

@@ -1,4 +1,4 @@
--- What an actor has left, behind entries of others and behind its own.
+-- What an actor has left, after entries of others and after its own.
 use Rattle.std.proofs.Common.{◌≡◌, Bool, true, false, ◌&&◌, inl, inr, List, [], ◌∷◌, ◌++◌, map, filter, refl, ap, sym, ◌∙◌, subst, append_assoc, append-nil}
 use Rattle.std.specs.Prelude.{IsTrue}
 use Rattle.std.specs.List.{AllByRecursion as ByRecursion}
@@ -19,7 +19,7 @@ use Rattle.ev_fits.specs.Left.{FitsSoFar, deeds_in}
 abbrev pub own_deeds : Actor → List Deed → List Deed
 own_deeds actor deeds = filter (λ (d : Deed). actor_same d.operation.actor actor) deeds
 
--- the deeds of entries and of others behind them
+-- the deeds of entries and of others after them
 deeds_append : (format : Format) (world : World) (entries more : List Entry)
     → deeds_from format world (entries ++ more) ≡ deeds_from format world entries ++ deeds_from format (world_after format world entries) more
 deeds_append format world [] more = refl
@@ -67,7 +67,7 @@ deeds_ops format world [] = refl
 deeds_ops format world (entry ∷ entries) =
     ap (λ (os : List Operation). operation_of entry ∷ os) (deeds_ops format (step format world entry.actor entry.event).0 entries)
 
--- the actor rests behind the last of them or not
+-- the actor rests after the last of them or not
 pub rest_last : (rests : Bool) (format : Format) (world : World) (entries : List Entry) (last : Entry)
     → rest_after rests (deeds_from format world (entries ++ last ∷ [])) ≡ rests_behind (world_after format world (entries ++ last ∷ [])) (operation_of last)
 rest_last rests format world [] last = refl

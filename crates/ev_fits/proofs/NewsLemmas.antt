@@ -31,14 +31,14 @@ use Rattle.ev_commits.proofs.TurnLemmas.{AreBatched, lines_batched, works_on}
 use Rattle.ev_fits.specs.Acting.{HasNews}
 use Rattle.ev_fits.proofs.FitLemmas.{not_same}
 
--- whether the worker rests behind these entries
+-- whether the worker rests after these entries
 abbrev pub rests_at : Format → ℕ → Bool → World → List Entry → Bool
 rests_at format worker rests world [] = rests
 rests_at format worker rests world (entry ∷ entries) =
     let after = (step format world entry.actor entry.event).0 in
     rests_at format worker (rests_after worker rests after entry) after entries
 
--- news by entries and by more behind them
+-- news by entries and by more after them
 news_append : (format : Format) (worker : ℕ) (rests : Bool) (world : World) (entries more : List Entry) → SettlesForNews format worker rests world entries
     → SettlesForNews format worker (rests_at format worker rests world entries) (world_after format world entries) more
     → SettlesForNews format worker rests world (entries ++ more)
@@ -87,7 +87,7 @@ not_so : (b : Bool) → not b ≡ true → b ≡ false
 not_so true h = absurd (cc)
 not_so false h = refl
 
--- a worker that rests behind an entry has nothing open there
+-- a worker that rests after an entry has nothing open there
 rest_opens : (format : Format) (number : ℕ) (rests : Bool) (world : World) (entry : Entry) → HoldsPublished world
     → (rests ≡ true → SameOpen number [] world.opened) → (b : Bool) → actor_same entry.actor (Worker number) ≡ b
     → (if b then rests_behind (step format world entry.actor entry.event).0 (operation_of entry) else rests) ≡ true
@@ -103,7 +103,7 @@ rest_opens format number rests world entry published here false apart resting =
     (λ worker is same. both_ways (actor_same entry.actor (Worker number)) apart ((actor_decides entry.actor (Worker number)).1 (is ∙ ap Worker same)))
     (record { holds = refl; has = here resting })).has
 
--- and behind entries
+-- and after entries
 none_open : (format : Format) (number : ℕ) (rests : Bool) (world : World) (entries : List Entry) → HoldsPublished world
     → (rests ≡ true → SameOpen number [] world.opened) → rests_at format number rests world entries ≡ true
     → SameOpen number [] (world_after format world entries).opened
@@ -116,7 +116,7 @@ none_open format number rests world (entry ∷ entries) published here is =
 no_settle : (line : BatchLine) → is_batched line.event ≡ true → is_settle line.event ≡ true → ⊥
 no_settle line batched settle = both_ways (is_batched line.event) (settle_not_batched line.event settle) batched
 
--- a batch has no settle, and its worker doesn't rest behind it
+-- a batch has no settle, and its worker doesn't rest after it
 news_batch : (format : Format) (number : ℕ) (picture : Picture) (lines : List BatchLine) (last : Entry) (rests : Bool) (world : World) → AreBatched lines
     → (lines ≡ [] → rests ≡ true → IsBehind number world)
     → SettlesForNews format number rests world (entries_of number picture lines ++ last ∷ [])

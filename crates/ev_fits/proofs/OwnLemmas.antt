@@ -87,7 +87,7 @@ few_items script actor kept =
     few : (all limit own : ℕ) → own ≤ all → all < limit → limit ≤ 4294967296 → 0 + own < 4294967296
     few all limit own less below small = omega arith
 
--- the same of operations that are told by places of lines
+-- the same of operations that are given by places of lines
 abbrev KeepTo : ℕ → List (Option Operation) → Type 0
 KeepTo waiting [] = waiting ≡ 0
 KeepTo waiting (None ∷ os) = ⊥
@@ -97,7 +97,7 @@ keep_some : (waiting : ℕ) (os : List Operation) → KeepTo waiting (map Some o
 keep_some waiting [] keeps = keeps
 keep_some waiting (o ∷ os) keeps = (keeps.0, keep_some (waiting_past waiting o) os keeps.1)
 
--- behind these, where so many wait, go on others that keep to batches
+-- after these, where this many wait, go on others that keep to batches
 abbrev GoOn : ScriptParts → Actor → List Due → ℕ → Type 0
 GoOn script actor dues waiting = (rest : List (Option Operation)) → KeepTo waiting rest → KeepTo 0 (map (operation_due script actor) dues ++ rest)
 
@@ -148,7 +148,7 @@ module _ (script : ScriptParts) (worker place waiting : ℕ) (line : Line) (ther
       by false true full is = omega arith
       by false false full is = few
 
--- so many lines were gone through, and what is due of them keeps to batches
+-- this many lines were gone through, and what is due of them keeps to batches
 record IsGoneTo (script : ScriptParts) (worker place : ℕ) : Type 0 where
   dues : List Due
   waiting : ℕ

@@ -43,7 +43,7 @@ pub record IsWorking (script : ScriptParts) (worker : WorkerParts) (left : List 
   pub idle : IsIdle worker → rests ≡ true
   pub news : HasNews (Worker worker.number) parts
 
--- the same, where what is left is told by places of lines
+-- the same, where what is left is given by places of lines
 pub record IsActingOn (script : ScriptParts) (actor : Actor) (todo : List Due) (parts : JournalParts) : Type 0 where
   pub left : List Operation
   pub due : AreDue script actor todo left

@@ -32,11 +32,11 @@ items_left (o ∷ os) = items_in o.event + items_left os
 abbrev pub SufficeForAll : Actor → List Operation → JournalParts → Type 0
 SufficeForAll actor left parts = IsStream actor → (world_now parts).made + items_left left < 2 ^ 32
 
--- how many accepts and closes wait after a worker's operation, where so many did before it
+-- how many accepts and closes wait after a worker's operation, where this many did before it
 abbrev pub waiting_past : ℕ → Operation → ℕ
 waiting_past waiting o = if is_batched o.event then waiting + 1 else 0
 
--- Where so many accepts and closes wait, no more than a batch may have come together, and after the last operation none waits.
+-- Where this many accepts and closes wait, no more than a batch may have come together, and after the last operation none waits.
 abbrev pub KeepToBatches : ℕ → List Operation → Type 0
 KeepToBatches waiting [] = waiting ≡ 0
 KeepToBatches waiting (o ∷ os) = (is_batched o.event ≡ true → waiting < batch_limit) × KeepToBatches (waiting_past waiting o) os

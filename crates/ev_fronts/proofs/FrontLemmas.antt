@@ -1,4 +1,4 @@
--- Why the front of a legal journal is a run. Place by place: a row of which nothing is found makes the journal so far one entry
+-- Why the prefix of a legal journal is a run. Place by place: a row of which nothing is found makes the journal so far one entry
 -- longer.
 use Rattle.std.proofs.Common.{◌≡◌, ◌<◌, ◌≤◌, ◌+◌, ◌-◌, ◌==◌, ℕ, zero, suc, Bool, true, false, not, ◌&&◌, ◌||◌, if◌then◌else◌, List, [], ◌∷◌, ◌++◌, take, drop, length, Option, Some, None, IsSome, refl, ap, sym, ◌∙◌, subst, below_more, arith, add-one}
 use Rattle.std.specs.Prelude.{option_and_then, slice_get}
@@ -234,7 +234,7 @@ module _ (format : Format) (script : ScriptParts) (kept : IsScript script) (rows
   so_far (suc place) within =
       subst IsSoFar (add-one place) (next_far place (omega arith) (placed place (omega arith)) (so_far place (omega arith)))
 
-  -- the journal of the first rows is the front of the journal
+  -- the journal of the first rows is the prefix of the journal
   front_is : (place : ℕ) → length (journal place) ≡ place → journal place ≡ take place (journal_told script rows)
   front_is place count =
       let all : journal_told script rows ≡ journal place ++ journal_told script (drop place rows) =

@@ -1,4 +1,4 @@
--- The entry that a row tells of, by its word or its line.
+-- The entry that a row records, by its word or its line.
 use Rattle.std.proofs.Common.{◌≡◌, ◌==◌, ◌⊎◌, inl, inr, ℕ, ◌+◌, Bool, true, false, ◌&&◌, if◌then◌else◌, List, [], ◌∷◌, ◌++◌, map, Option, Some, None, IsSome, refl, ap, sym, ◌∙◌, subst}
 use Rattle.std.specs.Prelude.{find, option_map, slice_get, take}
 use Rattle.std.specs.List.{cons_option, flat_map, range_with_len}

@@ -34,7 +34,7 @@ abbrev pub is_end : Option Row → Bool
 is_end None = false
 is_end (Some row) = not (is_batched_word row.op)
 
--- a commit ends with the first so many rows: there are so many, and the last of them, if any, is no accept and no close
+-- a commit ends with the first n rows: there are that many, and the last of them, if any, is no accept and no close
 abbrev pub ends_commit : List Row → ℕ → Bool
 ends_commit rows entries = if entries == 0 then true else is_end (slice_get rows (entries - 1))
 
@@ -44,7 +44,7 @@ SufficeFrom format world [] = ⊤
 SufficeFrom format world (entry ∷ entries) =
     NumbersSuffice world entry.event × SufficeFrom format (step format world entry.actor entry.event).0 entries
 
--- there are so many entries of the journal that rows tell of, the first rows tell of them, and they are a run of the machine
+-- there are this many entries of the journal that rows record, the first rows record them, and they are a run of the machine
 pub record IsFront (format : Format) (script : ScriptParts) (rows : List Row) (entries : ℕ) : Type 0 where
   pub within : entries ≤ length rows
   pub told : AreTold script (take entries rows)

@@ -1,4 +1,4 @@
--- The entries that rows tell of, found in their script. This project's own.
+-- The entries that rows record, found in their script. This project's own.
 use Rattle.std.specs.Prelude.{ℕ, ◌==◌, List, Option, Some, None, All, find, IsSome}
 use Rattle.ev_types.specs.Scripts.{ScriptParts}
 use Rattle.ev_types.specs.declared.events.Event.{Event}
@@ -13,7 +13,7 @@ use Rattle.ev_model.specs.Finding.{entry_told}
 abbrev pub AreTold : ScriptParts → List Row → Type 0
 AreTold script rows = All (λ (row : Row). IsSome (entry_told script row)) rows
 
--- the event of a word that stands after lines too: the word says all of it
+-- the event of a word that comes after lines too: the word says all of it
 abbrev pub event_behind : Op → Option Event
 event_behind Publish = Some publish
 event_behind Reap = Some reap

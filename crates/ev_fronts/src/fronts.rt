@@ -3,7 +3,7 @@ ghost use Rattle.ev_fronts.specs.Fronts.{FrontsAreRuns, ends_commit, is_batched_
 
 use ev_types::{Op, Row};
 
-/// Whether a commit ends with the first so many rows: there are so many, and the last of them, if any, is no accept and no close.
+/// Whether a commit ends with the first n rows: there are that many, and the last of them, if any, is no accept and no close.
 pub fn ends_commit(rows: &[Row], entries: u32) -> bool
     ensures { result ≡ ends_commit rows.now entries }
 {

@@ -7,8 +7,8 @@
 //!   is the event of the line of the row's number, which a binary search finds, since lines' numbers rise. So no actor's operations are
 //!   listed again, and each row costs a search.
 //! - The law is a walk over the rows, like the audit's (ev_walk_laws), which goes on as long as nothing is found: so it speaks of the
-//!   journal that the rows tell, and not of some run that has these rows.
-//! - That the numbers of generations suffice for each entry stands beside the run, since what steps through the entries once more
+//!   journal that the rows record, and not of some run that has these rows.
+//! - That the numbers of generations suffice for each entry is stated beside the run, since what steps through the entries once more
 //!   requires it.
 #![tactic(auto)]
 

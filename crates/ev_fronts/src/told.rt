@@ -6,7 +6,7 @@ ghost use Rattle.ev_fronts.specs.Told.{AreTold, event_behind, line_numbered};
 use ev_types::{Entry, Event, Line, Op, Row, Script, TryCopy};
 use std::alloc::{AllocError, Global};
 
-/// The entries that rows tell of, in order, where the script has the operation of each.
+/// The entries that rows record, in order, where the script has the operation of each.
 pub fn entries_told(alloc: Global, script: &Script, rows: &[Row]) -> Result<Vec<Entry>, AllocError>
     requires told { AreTold script.now rows.now }
     ensures entries { IfOk result (λ entries. entries.items ≡ journal_told script.now rows.now) }
@@ -18,7 +18,7 @@ pub fn entries_told(alloc: Global, script: &Script, rows: &[Row]) -> Result<Vec<
     Ok(entries)
 }
 
-// The entry that a row tells of.
+// The entry that a row records.
 fn entry_told(alloc: Global, script: &Script, row: &Row) -> Result<Entry, AllocError>
     requires told { IsSome (entry_told script.now row.now) }
     ensures entry { IfOk result (λ entry. entry_told script.now row.now ≡ Some entry) }
@@ -32,7 +32,7 @@ fn entry_told(alloc: Global, script: &Script, row: &Row) -> Result<Entry, AllocE
     })
 }
 
-// The event of the entry that a row tells of: where its word doesn't say all of it, that of the line.
+// The event of the entry that a row records: where its word doesn't say all of it, that of the line.
 fn event_told(alloc: Global, script: &Script, row: &Row) -> Result<Event, AllocError>
     requires told { IsSome (entry_told script.now row.now) }
     ensures event { IfOk result (λ event. entry_told script.now row.now ≡ Some record {
@@ -52,7 +52,7 @@ fn event_told(alloc: Global, script: &Script, row: &Row) -> Result<Event, AllocE
     line.event.copy(alloc)
 }
 
-// The event of a word that stands after lines too.
+// The event of a word that comes after lines too.
 fn event_behind(op: Op) -> Option<Event>
     ensures { result ≡ event_behind op }
 {

@@ -1,4 +1,4 @@
--- Each step at a gate's table keeps the rule, and tells what its play says.
+-- Each step at a gate's table keeps the rule, and shows what its play says.
 use Rattle.std.proofs.Common.{not, max, ◌≡◌, ◌≢◌, ◌⊎◌, ℕ, zero, suc, ◌+◌, ◌%◌, ◌^◌, ◌<◌, ◌≤◌, Bool, true, false, true≢false, List, [], ◌∷◌, ◌++◌, length, set, drop, eqb, cond, refl, sym, ap, ◌∙◌, subst, inl, inr, ⊎_elim, arith, length-append, append_assoc, Option, Some, None}
 use Rattle.std.specs.Prelude.{slice_index, slice_get}
 use Rattle.std.proofs.Math.Nat.{mod-add-mod}
@@ -657,7 +657,7 @@ module _ {V O C : Type 0} (opening : V → O) (commits : V → List (ℕ × C)) 
         seen_all = λ q. absurd (off out q);
       }
 
-      -- what the older seats were told stands
+      -- what the older seats were told still holds
       gathers_old : (s : State (Option V) (View O C)) (h : Kept s) → get_elem? s.views i ≡ some v → (u u' : View O C) → u'.told ≡ u.told → Gathers s.views (commits terms.value.value) h.since u
           → Gathers (set s.views i (left_view v) ++ right_view v ∷ []) (commits terms.value.value) h.since u'
       gathers_old s h at u u' told g = record {

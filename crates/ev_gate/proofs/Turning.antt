@@ -135,6 +135,6 @@ module _ {V O C : Type 0} (opening : V → O) (commits : V → List (ℕ × C)) 
 pub same_mine : {C : Type 0} → (n : ℕ) (earlier later : List (ℕ × C)) → GrowsWithout n earlier later → commits_by n later ≡ commits_by n earlier
 same_mine n earlier later g = ap (commits_by n) g.1 ∙ commits_by-append n earlier g.0 ∙ ap (λ l. commits_by n earlier ++ l) g.2 ∙ append-nil (commits_by n earlier)
 
--- a list of which the beginning is told: that, and the rest
+-- a list of which the beginning is given: that, and the rest
 pub whole_again : {C : Type 0} → (start rest all : List (ℕ × C)) → all ≡ start ++ rest → start ++ drop (length start) all ≡ all
 whole_again start rest all e = ap (λ l. start ++ drop (length start) l) e ∙ ap (λ l. start ++ l) (drop-append_seam start rest) ∙ sym e

@@ -11,7 +11,7 @@ use Rattle.ev_gate.specs.Rule.{new_view, joined, WasTold}
 use Rattle.ev_gate.specs.History.{Continues, GrowsWithout}
 
 module _ {V O C : Type 0} where
-  -- the first seat, when so many seats are made
+  -- the first seat, when this many seats are made
   pub record IsLeader (gate : TableId) (made : ℕ) (opening : O) (start : List (ℕ × C)) (version : ℕ) (it : Seat (Option V) (View O C)) : Type 0 where
     pub gate_is : it.table_id ≡ gate
     pub me_is : it.me ≡ (new_view 0 made (Some opening) start version, [])
@@ -21,7 +21,7 @@ module _ {V O C : Type 0} where
     pub gate_is : (k : ℕ) (p : Pass V O C g) → slice_get passes k ≡ Some p → p.seat.table_id ≡ gate
     pub me_is : (k : ℕ) (p : Pass V O C g) → slice_get passes k ≡ Some p → p.seat.me ≡ (new_view (suc k) 0 (Some opening) start version, [])
 
-  -- while the leader makes seats: so many are made, and all but its own have passes
+  -- while the leader makes seats: this many are made, and all but its own have passes
   pub record IsSeating {g : Ghosts V O C} (gate : TableId) (made : ℕ) (opening : O) (start : List (ℕ × C)) (version : ℕ) (leader : Seat (Option V) (View O C)) (passes : List (Pass V O C g)) : Type 0 where
     pub leads : IsLeader gate made opening start version leader
     pub others : AreSeated gate opening start version passes

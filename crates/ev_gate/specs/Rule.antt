@@ -1,4 +1,4 @@
--- The rule of a gate's table, and what each step tells.
+-- The rule of a gate's table, and what each step shows.
 -- The words are the ticket to be drawn next, the ticket that is served, and the newest version; the one slot has the value.
 use Rattle.std.specs.Prelude.{◌≡◌, ◌⊎◌, ℕ, ◌+◌, ◌%◌, ◌^◌, ◌<◌, ◌≤◌, ◌==◌, Bool, true, false, not, max, List, [], ◌∷◌, ◌++◌, length, drop, slice_get, if◌then◌else◌, Option, Some, None, MatchBool}
 use mathlib.Core.Option.{some, none}
@@ -86,7 +86,7 @@ module _ {V O C : Type 0} (opening : V → O) (commits : V → List (ℕ × C)) 
     pub opening_is : opening value ≡ opening first
     pub commits_are : commits value ≡ commits first ++ since
 
-  -- where the first value is told, the seat knows its opening and its commits
+  -- where the first value is known, the seat knows its opening and its commits
   abbrev pub KnowsFirst : Option V → View O C → Type 0
   KnowsFirst first v = (x : V) → first ≡ Some x → (v.opening ≡ Some (opening x)) × (v.start ≡ commits x)
 
@@ -144,7 +144,7 @@ module _ {V O C : Type 0} (opening : V → O) (commits : V → List (ℕ × C)) 
     pub commits_are : commits value ≡ m.0.start ++ n.0.since
     pub not_below : version_of (opening value) (m.0.start ++ m.0.heard) ≤ version_of (opening value) (commits value)
 
-  -- where the word is the seat's ticket, it is served, and else nothing changed
+  -- where the word is the seat's ticket, it is served, and otherwise nothing changed
   abbrev pub Looks : Me (Option V) (View O C) → ℕ → Me (Option V) (View O C) → Type 0
   Looks m found n = MatchBool (found == m.0.ticket % 2 ^ 64) (Takes m n) (n ≡ m)
 

@@ -14,7 +14,7 @@ use std::mem::drop;
 use std::snapshot::Snapshot;
 
 impl<V: Stands> Gate<V> {
-    /// A gate round `value` with this many seats, and a pass for each. Without memory the value comes back.
+    /// A gate around `value` with this many seats, and a pass for each. Out of memory, the value comes back.
     pub fn new(
         alloc: Global,
         value: V,

@@ -6,7 +6,7 @@ use crate::bells::Bells;
 use crate::stands::Stands;
 use crate::view::{GateSeat, GateTable};
 
-/// A lock round one value. Each of its seats has a pass, with which it takes turns. This type and the two below are
+/// A lock around one value. Each of its seats has a pass, with which it takes turns. This type and the two below are
 /// the project's own. It must be spent, by `close`.
 pub struct Gate<V: Stands> {
     pub(crate) table: GateTable<V>,

@@ -3,12 +3,12 @@
 //! A gate keeps one value and lets one seat at a time have it. A value stands for a list of commits, each with the
 //! number of the seat that made it. Who has the value knows the whole list, and that its own commits in it are those
 //! that it made and no others; who closes the gate knows it of every seat.
-//! A gate also tells the newest version of its value without a turn.
+//! A gate also reports the newest version of its value without a turn.
 //! Seats are served in the order in which they draw a ticket. Nothing is said of when.
 //!
 //! # What it is
 //!
-//! A gate is a lock round one value whose history can be told. The value *stands for* a list of commits, each beside
+//! A gate is a lock around one value whose history can be told. The value *stands for* a list of commits, each beside
 //! the number of the seat that made it, and has an *opening* that no commit changes. It also has a *version*, a
 //! number that opening and commits determine and that does not fall along its history. It implements the trait
 //! `Stands`, whose ghost members say what the three are. A gate has 1 to 20 seats. `Gate::new` gives a pass for each;
@@ -163,7 +163,7 @@
 //! - `Turn::value` says by a clause on the loan what the turn has after the write, so a caller needs no proof file
 //!   for it.
 //! - A waiting thread sleeps at a bell of its own, and the end of a turn wakes the one that is next, if it sleeps: to wake
-//!   all that wait took run twice to three times the time. Bells stand beside the table, and no clause speaks of them: a
+//!   all that wait took run twice to three times the time. Bells are kept beside the table, and no clause speaks of them: a
 //!   wake that is spurious does no harm, since a thread looks again, and none is lost, since a thread looks once more after
 //!   it has said that it will sleep.
 //! - `Gate` has no `Drop` either: its value need not be `Drop`, so a gate ends in `close`.

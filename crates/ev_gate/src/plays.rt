@@ -1,4 +1,4 @@
-//! What each step at the table tells. These types are for the proofs alone.
+//! What each step at the table shows. These types are for the proofs alone.
 ghost use Rattle.std.specs.Prelude.{Option, None};
 ghost use Rattle.ev_gate.specs.Rule.{KnowsFirst, Draws, Looks, Ends, Raises, Asks, left_view, right_view, joined_view, spent_view};
 

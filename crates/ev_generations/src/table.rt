@@ -67,7 +67,7 @@ impl Generations {
         self.made = made;
     }
 
-    /// A new row, which warms and has the next number. It costs one look-up by number. Without memory the table stays as it was.
+    /// A new row, which warms and has the next number. It costs one look-up by number. Out of memory, the table stays as it was.
     pub fn add(&mut self, kind: Kind, name: Name, content: Content) -> Result<Gen, AllocError>
         requires { self.old.made + 1 < 2 ^ 32 }
         ensures number { IfOk result (λ number. number ≡ self.old.made + 1) }
@@ -196,7 +196,7 @@ fn copy_rows(alloc: Global, rows: &Rows) -> Result<Rows, AllocError>
     Ok(copied)
 }
 
-// Puts a row after the others, whose numbers are below its own.
+// Appends a row to the others, whose numbers are below its own.
 fn put(rows: &mut Rows, number: u32, row: GenRow) -> Result<(), AllocError>
     requires { AllByRecursion (λ n. n < number) (keys rows.old) }
     ensures { OnOk result (rows.new.entries ≡ rows.old.entries ++ (number, row) ∷ []) }

@@ -82,19 +82,19 @@ any_awaited kind name (live ∷ lives) =
     list_any-append (λ n. bytes_eq n name) (names_awaited kind (dependencies_of live.content)) (flat_map (λ (live : Live). names_awaited kind (dependencies_of live.content)) lives)
     ∙ or_same _ _ _ _ (awaited_is kind name (dependencies_of live.content)) (any_awaited kind name lives)
 
--- a name stands among sorted ones where it stands among them
+-- a name is among sorted ones where it is among them
 pub among_sorted : (names : List (List ℕ)) (name : List ℕ) → is_among name (sorted_names names) ≡ is_among name names
 among_sorted names name =
     any_dedup (λ n. bytes_eq n name) bytes_eq (λ x y is. ap (λ n. bytes_eq n name) (sym ((bytes_decide x y).0 is))) (sorted_by is_before names)
     ∙ any_sorted (λ n. bytes_eq n name) is_before names
 
--- a name stands among those that are watched where it is watched
+-- a name is among those that are watched where it is watched
 pub among_watched : (lives : List Live) (kind : Kind) (name : List ℕ) → is_among name (watched_by lives kind) ≡ is_watched lives kind name
 among_watched lives kind name =
     among_sorted (flat_map (λ (live : Live). names_awaited kind (dependencies_of live.content)) lives) name
     ∙ any_awaited kind name lives
 
--- a name that stands among those that fail a test
+-- a name that is among those that fail a test
 pub among_failing : (test : List ℕ → Bool) (names : List (List ℕ)) (name : List ℕ) → is_among name (filter (λ n. not (test n)) names) ≡ (is_among name names && not (test name))
 among_failing test [] name = refl
 among_failing test (first ∷ names) name = by (bytes_eq first name) refl (test first) refl (among_failing test names name)
@@ -115,7 +115,7 @@ among_failing test (first ∷ names) name = by (bytes_eq first name) refl (test 
     by false isnt true passes rest = rest
     by false isnt false fails rest = ap (λ b. b || is_among name (filter (λ n. not (test n)) names)) isnt ∙ rest
 
--- a name that stands among those that aren't among the others
+-- a name that is among those that aren't among the others
 pub among_other : (others names : List (List ℕ)) (name : List ℕ) → is_among name (other_than others names) ≡ (is_among name names && not (is_among name others))
 among_other others names name = among_failing (λ n. is_among n others) names name
 

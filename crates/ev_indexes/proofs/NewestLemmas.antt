@@ -43,7 +43,7 @@ never-both Draining n a w = true≢false (sym a)
 never-both Dropped n a w = true≢false (sym w)
 
 module _ (p q t : GenRow → Bool) (either : (r : GenRow) → t r ≡ (p r || q r)) where
-  -- where none passes the first test, the second one tells
+  -- where none passes the first test, the second one decides
   left-none : (rows : List GenRow) → filter p rows ≡ [] → filter t rows ≡ filter q rows
   left-none [] none = refl
   left-none (row ∷ rows) none = (λ i. cond (either row i) (row ∷ filter t rows) (filter t rows)) ∙ by (p row) none (left-none rows)
@@ -53,7 +53,7 @@ module _ (p q t : GenRow → Bool) (either : (r : GenRow) → t r ≡ (p r || q 
       by true h rest = cc
       by false h rest = ap (λ (rs : List GenRow). cond (q row) (row ∷ rs) rs) (rest h)
 
-  -- where none passes the second test, the first one tells
+  -- where none passes the second test, the first one decides
   right-none : (rows : List GenRow) → filter q rows ≡ [] → filter t rows ≡ filter p rows
   right-none [] none = refl
   right-none (row ∷ rows) none = (λ i. cond (either row i) (row ∷ filter t rows) (filter t rows)) ∙ by (p row) (q row) none (right-none rows)
@@ -203,7 +203,7 @@ newest-found s name x = newest-rows s.table.rows name x.table.apart (standing_in
 pub newest-world : (s : State) (world : World) (name : List ℕ) → StandsFor s world → newest_in s.table.rows name ≡ newest_of (lives_of world) s.kind name
 newest-world s world name stands = (λ i. newest_in (stands.rows i) name) ∙ sym (ap latest (named-world s.kind name world.rows))
 
--- a name is found to stand where a row passes the test
+-- a name is found to be live where a row passes the test
 some-listed : (test : GenRow → Bool) (rows : List GenRow) (o : Option ℕ) → option_to_list o ≡ numbers_where test rows → is_some o ≡ list_any test rows
 some-listed test rows o e = by o ∙ ap has_number e ∙ sym (any-some test rows)
   where

@@ -53,7 +53,7 @@ kept-above x (y ∷ ys) all =
     let far : nat_eq x y ≡ false = apart x y (λ e. omega (arith, less x y all.0, e)) in
     (λ i. cond (not (far i)) (y ∷ numbers_without x ys) (numbers_without x ys)) ∙ ap (λ zs. y ∷ zs) (kept-above x ys all.1)
 
--- the place where a number stands is the only one
+-- the place where a number is, is the only one
 without-at : (x : ℕ) (xs : List ℕ) (i : ℕ) → Rise xs → i < length xs → get_or xs i 0 ≡ x → remove xs i ≡ numbers_without x xs
 unfolding IsStrictlySortedBy
 without-at x [] i h l e = absurd (omega (arith, l))
@@ -64,14 +64,14 @@ without-at x (y ∷ ys) (suc i) h l e =
     let far : nat_eq x y ≡ false = apart x y (λ s. omega (arith, before, e, s)) in
     ap (λ zs. y ∷ zs) (without-at x ys i h.1 (omega (arith, l)) e) ∙ sym (λ j. cond (not (far j)) (y ∷ numbers_without x ys) (numbers_without x ys))
 
--- a number that stands nowhere
+-- a number that is nowhere
 without-none : (x : ℕ) (xs : List ℕ) → ((k : ℕ) → k < length xs → nat_eq x (get_or xs k 0) ≡ false) → xs ≡ numbers_without x xs
 without-none x [] none = refl
 without-none x (y ∷ ys) none =
     ap (λ zs. y ∷ zs) (without-none x ys (λ k l. none (suc k) (omega (arith, l))))
     ∙ sym (λ j. cond (not (none 0 (omega arith) j)) (y ∷ numbers_without x ys) (numbers_without x ys))
 
--- what a search by halves finds is the number, and where it finds none, the number stands nowhere
+-- what a binary search finds is the number, and where it finds none, the number is nowhere
 pub halves : (x : ℕ) (xs : List ℕ) (r : Result ℕ ℕ) → Rise xs → IsBinarySearchResult (λ y. nat_cmp y x) xs r
     → MatchResult r (λ i. remove xs i ≡ numbers_without x xs) (λ i. xs ≡ numbers_without x xs)
 halves x xs r h found = by r (searched xs x r found (λ i j le lt. non_decreasing_from_sorted xs h i j 0 le lt))

@@ -1,4 +1,4 @@
--- Sorted lists by a key that is a text: what a sort of the machine's leaves, and that two strictly sorted lists of the same elements are one.
+-- Sorted lists by a key that is a text: what a sort of the machine's leaves, and two strictly sorted lists of the same elements are equal.
 use Rattle.std.proofs.Common.{◌≡◌, ◌∙◌, ℕ, ◌+◌, Bool, true, false, cond, List, [], ◌∷◌, ◌++◌, ◌⊎◌, inl, inr, Ordering, refl, sym, ap, subst, true≢false, map, get_or, arith}
 use Rattle.std.specs.declared.cmp.Ordering.TheVariants.{Less, Equal, Greater}
 use Rattle.std.specs.Cmp.{IsTotalOrder, tied_itself, alike_right, both_ways, on_total}
@@ -44,7 +44,7 @@ module _ {X : Type 0} (c : X → X → Ordering) (o : IsTotalOrder c) where
   turn : (x y : X) → c x y ≡ Less → c y x ≡ Less → ⊥
   turn x y h k = true≢false (ap is_lt (sym h ∙ o.antisymm x y ∙ ap ordering_reverse k))
 
-  -- two strictly sorted lists of the same elements are one
+  -- two strictly sorted lists of the same elements are equal
   pub sorted-unique : (xs ys : List X) → IsStrictlySortedBy c xs → IsStrictlySortedBy c ys → SameElements xs ys → xs ≡ ys
   unfolding IsStrictlySortedBy
   sorted-unique [] [] s t same = refl

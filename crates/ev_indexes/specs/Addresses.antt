@@ -40,26 +40,26 @@ filled_or_none (number ∷ numbers) = Some (number ∷ numbers)
 abbrev pub entry_with : ℕ → AddressesKept → Host → Option (List ℕ)
 entry_with number kept address = Some (numbers_at kept address ++ number ∷ [])
 
--- the number stands after those at the address, and at every other address the entry of before stands
+-- the number comes after those at the address, and at every other address the entry stays
 abbrev pub EntersNumber : {S : Type 0} → IndexMap Host (List ℕ) S → IndexMap Host (List ℕ) S → Host → ℕ → Type 0
 EntersNumber old new address number = (other : Host) → get host_same new other
     ≡ (if host_same address other then entry_with number old.entries address else get host_same old other)
 
--- the entry at an address without this number; where no other number stands there, there is no entry
+-- the entry at an address without this number; where no other number is there, there is no entry
 abbrev pub entry_without : ℕ → AddressesKept → Host → Option (List ℕ)
 entry_without number kept address = filled_or_none (numbers_without number (numbers_at kept address))
 
--- the number is gone at the address, and at every other address the entry of before stands
+-- the number is gone at the address, and at every other address the entry stays
 abbrev pub LeavesNumber : {S : Type 0} → IndexMap Host (List ℕ) S → IndexMap Host (List ℕ) S → Host → ℕ → Type 0
 LeavesNumber old new address number = (other : Host) → get host_same new other
     ≡ (if host_same address other then entry_without number old.entries address else get host_same old other)
 
--- the number stands after those at the address, and at every other address those of before
+-- the number comes after those at the address, and at every other address those of before
 abbrev pub EntersAt : AddressesKept → AddressesKept → Host → ℕ → Type 0
 EntersAt old new address number =
     (other : Host) → numbers_at new other ≡ numbers_at old other ++ (if host_same address other then number ∷ [] else [])
 
--- the number is gone at the address, and at every other address those of before stand
+-- the number is gone at the address, and at every other address those of before stay
 abbrev pub LeavesAt : AddressesKept → AddressesKept → Host → ℕ → Type 0
 LeavesAt old new address number = (other : Host) → numbers_at new other
     ≡ (if host_same address other then numbers_without number (numbers_at old other) else numbers_at old other)

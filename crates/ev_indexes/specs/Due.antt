@@ -2,7 +2,7 @@
 use Rattle.std.specs.Prelude.{ℕ, Bool, true, false, nat_eq, List, [], ◌∷◌}
 use Rattle.std.specs.List.{list_any}
 
--- the number stands among these
+-- the number is among these
 abbrev pub is_among : List ℕ → ℕ → Bool
 is_among numbers number = list_any (nat_eq number) numbers
 

@@ -1,4 +1,4 @@
--- Names that generations began or ceased to depend on since so many numbers were drawn, by the numbers of the generations that were
+-- Names that generations began or ceased to depend on since this many numbers were drawn, by the numbers of the generations that were
 -- made and of those that retired.
 use Rattle.std.specs.Prelude.{ℕ, zero, suc, ◌+◌, ◌-◌, Bool, not, ◌&&◌, nat_le, if◌then◌else◌, List, [], ◌∷◌, ◌++◌, Option, None, Some, filter}
 use Rattle.std.specs.List.{list_any, flat_map}

@@ -23,7 +23,7 @@ later_of_two None second = second
 later_of_two (Some first) None = Some first
 later_of_two (Some first) (Some second) = if nat_lt first second then Some second else Some first
 
--- the greater of the numbers that stand of a name
+-- the greater of the live numbers of a name
 abbrev pub later_number : Standing → Option ℕ
 later_number standing = later_of_two standing.active standing.warming
 

@@ -34,7 +34,7 @@ has_answer_in watches number d = has_word_in watches number d || (has_timeout_in
 abbrev pub is_answered_in : WatchesKept → ℕ → Content → Bool
 is_answered_in watches number content = list_all (has_answer_in watches number) (dependencies_of content)
 
--- the hosts that stand in a cluster, or the value of its service, or none
+-- the hosts given in a cluster, or the value of its service, or none
 abbrev pub discovered_in : WatchesKept → Discovery → List HostRowParts
 discovered_in watches (Static rows) = rows
 discovered_in watches (by_eds service limited fresh) = rows_in (watch_in watches service).value

@@ -51,7 +51,7 @@ impl Addresses {
         self.numbers.get(address)
     }
 
-    /// A generation of this content holds the address at which it listens, where it listens. Without memory nothing is promised.
+    /// A generation of this content holds the address at which it listens, where it listens. Out of memory, nothing is promised.
     pub fn hold(&mut self, alloc: Global, content: &Content, number: Gen) -> Result<(), AllocError>
         ensures { OnOk result (HoldsAddress self.old self.new number content.now) }
     {
@@ -70,14 +70,14 @@ impl Addresses {
         }
     }
 
-    // One more number stands at the address. Without memory nothing is promised.
+    // One more number is at the address. Out of memory, nothing is promised.
     fn enter(&mut self, alloc: Global, address: &Host, number: Gen) -> Result<(), AllocError>
         ensures { OnOk result (EntersAt self.old self.new address.now number) }
     {
         enter_number(&mut self.numbers, alloc, address, number)
     }
 
-    // A number no longer stands at the address.
+    // A number is no longer at the address.
     fn leave(&mut self, address: &Host, number: Gen)
         ensures { LeavesAt self.old self.new address.now number }
     {
@@ -85,7 +85,7 @@ impl Addresses {
     }
 }
 
-// One more number stands at an address. Without memory the numbers stay as they were.
+// One more number is at an address. Out of memory, the numbers stay as they were.
 fn enter_number(
     map: &mut Numbers,
     alloc: Global,
@@ -162,7 +162,7 @@ fn copy_numbers(alloc: Global, map: &Numbers) -> Result<Numbers, AllocError>
     Ok(copied)
 }
 
-// Puts the numbers of an address that has none after the others.
+// Appends the numbers of an address that has none yet to the others.
 fn put(map: &mut Numbers, address: Host, numbers: Seq<Gen>) -> Result<(), AllocError>
     requires { get host_same map.old address ≡ None }
     ensures { OnOk result (map.new.entries ≡ map.old.entries ++ (address, numbers) ∷ []) }

@@ -21,7 +21,7 @@ pub(crate) fn copy_map<V: TryCopy + Drop>(
     Ok(copied)
 }
 
-// Puts a value of a name that has none after the others.
+// Appends a value of a name that has none yet to the others.
 fn put<V: Drop>(map: &mut IndexMap<Name, V>, name: Name, value: V) -> Result<(), AllocError>
     requires { get bytes_eq map.old name ≡ None }
     ensures { OnOk result (map.new.entries ≡ map.old.entries ++ (name, value) ∷ []) }

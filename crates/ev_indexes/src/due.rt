@@ -41,7 +41,7 @@ impl Due {
         self.numbers.first().copied()
     }
 
-    /// One more is due. Without memory the same are due as before.
+    /// One more is due. Out of memory, the same are due as before.
     pub fn put(&mut self, number: Gen) -> Result<(), AllocError>
         ensures ok { OnOk result ((n : ℕ) → is_among self.new n ≡ (nat_eq number n || is_among self.old n)) }
         ensures err { OnErr result (self.new ≡ self.old) }

@@ -40,7 +40,7 @@ fn lives_at<'a>(
     Ok(lives)
 }
 
-// Puts what is seen of the generations of these numbers to the others.
+// Adds what is seen of the generations of these numbers to the others.
 fn push_numbered<'a>(
     table: &'a Generations,
     numbers: &[Gen],
@@ -54,7 +54,7 @@ fn push_numbered<'a>(
     Ok(())
 }
 
-// Puts what is seen of the generation of this number to the others, where it is found.
+// Adds what is seen of the generation of this number to the others, where it is found.
 fn push_number<'a>(
     table: &'a Generations,
     number: Gen,

@@ -18,7 +18,7 @@ pub(crate) fn is_checked(content: &Content) -> bool
     }
 }
 
-/// The hosts of a generation of this content: those that stand in a cluster, or the value of its service.
+/// The hosts of a generation of this content: those given in a cluster, or the value of its service.
 pub(crate) fn assignment<'a>(watches: &'a Watches, content: &'a Content) -> Option<&'a Assignment>
     ensures { unwrap_or (option_copied result) [] ≡ assignment_in watches.now content.now }
 {

@@ -1,4 +1,4 @@
-//! The generations of one kind with their indexes: which stand of a name, which wait for which name, which hold an address, and
+//! The generations of one kind with their indexes: which are live of a name, which wait for which name, which hold an address, and
 //! which are due to serve; and what is read of them. The kind of the rows is a value, so that clusters and listeners share it:
 //! of clusters the index of addresses is empty by itself.
 //!

@@ -12,7 +12,7 @@ use std::alloc::{AllocError, Global};
 
 impl State {
     /// The names that these retired generations depended on and no live generation up to the number `made` does, in the order of
-    /// their bytes, each once; of generations after that number nothing is told. It looks at these generations alone.
+    /// their bytes, each once; of generations after that number nothing is said. It looks at these generations alone.
     pub fn names_lost(
         &self,
         alloc: Global,

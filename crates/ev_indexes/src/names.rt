@@ -11,14 +11,14 @@ use indexmap::IndexMap;
 use std::alloc::{AllocError, Global};
 use std::marker::Model;
 
-/// Which generations of a name stand: at most one serves and at most one warms.
+/// Which generations of a name are live: at most one serves and at most one warms.
 #[derive(Clone, Copy, Debug, PartialEq, Eq)]
 pub struct Standing {
     pub active: Option<Gen>,
     pub warming: Option<Gen>,
 }
 
-/// By name which generations stand. A name of which none stands has no entry.
+/// By name which generations are live. A name of which none is live has no entry.
 #[derive(Drop)]
 pub struct Names {
     names: IndexMap<Name, Standing>,
@@ -45,14 +45,14 @@ impl Names {
         }
     }
 
-    /// Which generations of the name stand.
+    /// Which generations of the name are live.
     pub fn standing(&self, name: &Name) -> Standing
         ensures { result ≡ standing_in self.now name.now }
     {
         self.standing_of(name.as_str())
     }
 
-    /// The same for a text, of which none stands where it is no name.
+    /// The same for a text, of which none is live where it is no name.
     pub fn standing_of(&self, text: &str) -> Standing
         ensures { result ≡ standing_in self.now text.now }
     {
@@ -65,7 +65,7 @@ impl Names {
         }
     }
 
-    /// These generations of the name stand. Without memory all stays as it was.
+    /// These generations of the name are live. Out of memory, all stays as it was.
     pub fn enter(&mut self, name: Name, standing: Standing) -> Result<(), AllocError>
         ensures ok { OnOk result (Sets nobody self.old self.new name standing) }
         ensures err { OnErr result (self.new ≡ self.old) }
@@ -80,7 +80,7 @@ impl Names {
         Ok(())
     }
 
-    /// These generations of a name stand, of which some stood before. It takes no memory.
+    /// These generations of a name are live, of which some were before. It takes no memory.
     pub fn set(&mut self, name: &Name, standing: Standing)
         requires { IsSome (lookup (bytes_eq name.now) self.old) }
         ensures { Sets nobody self.old self.new name.now standing }
@@ -96,7 +96,7 @@ impl Names {
     }
 }
 
-// Whether no generation stands.
+// Whether no generation is live.
 fn is_nobody(standing: &Standing) -> bool
     ensures { Decides result (standing.now ≡ nobody) }
 {

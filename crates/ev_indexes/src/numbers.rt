@@ -14,7 +14,7 @@ use std::alloc::{AllocError, Global};
 use std::marker::Model;
 
 /// Numbers of generations in the order in which they came. As long as each is above those before it, which is so of numbers in
-/// the order in which they are drawn, one is found among them by halves.
+/// the order in which they are drawn, one is found among them by binary search.
 #[derive(Drop)]
 pub struct Numbers {
     numbers: Vec<Gen>,
@@ -90,7 +90,7 @@ impl Numbers {
         Ok(())
     }
 
-    /// Leaves a number out. Where they rise, it is found by halves; the first leaves its place empty, and after another the
+    /// Leaves a number out. Where they rise, it is found by binary search; the first leaves its place empty, and after another the
     /// rest moves up at once.
     pub fn leave_out(&mut self, number: Gen)
         ensures { self.new ≡ numbers_without number self.old }

@@ -84,7 +84,7 @@ fn numbers(alloc: Global, table: &Generations) -> Result<Vec<Gen>, AllocError>
     Ok(numbers)
 }
 
-// Puts the number of a row to the others, where it is live.
+// Adds the number of a row to the others, where it is live.
 fn push_number(row: &GenRow, numbers: &mut Vec<Gen>) -> Result<(), AllocError>
     ensures { OnOk result (numbers.new.items ≡ numbers.old.items ++ numbers_of (live_rows (row.now ∷ []))) }
 {
@@ -167,7 +167,7 @@ fn lives<'a>(alloc: Global, table: &'a Generations) -> Result<Vec<LiveRow<'a>>, 
     Ok(lives)
 }
 
-// Puts what is seen of a row to the others, where it is live.
+// Adds what is seen of a row to the others, where it is live.
 fn push_live<'a>(row: &'a GenRow, lives: &mut Vec<LiveRow<'a>>) -> Result<(), AllocError>
     ensures { OnOk result (lives.new.items ≡ lives.old.items ++ map live_of (live_rows (row.now ∷ []))) }
 {

@@ -101,7 +101,7 @@ fn is_ready(watches: &Watches, results: &Endpoints, row: &GenRow) -> bool
 }
 
 /// Looks at the rows of these numbers anew: those that are due are put among the due ones, and the others left out. Each look
-/// counts. Without memory nothing is promised of the due ones.
+/// counts. Out of memory, nothing is promised of the due ones.
 pub fn refresh<L: Ledger>(
     table: &Generations,
     watches: &Watches,

@@ -99,7 +99,7 @@ fn listeners(
     Ok(served)
 }
 
-// Puts a listener to the others, where it is active.
+// Adds a listener to the others, where it is active.
 fn push_listener(
     alloc: Global,
     watches: &Watches,

@@ -107,7 +107,7 @@ fn clusters(
     Ok(served)
 }
 
-// Puts a cluster to the others, where it is active.
+// Adds a cluster to the others, where it is active.
 fn push_cluster(
     alloc: Global,
     watches: &Watches,

@@ -1,4 +1,4 @@
-//! What is known of names that generations depend on. Values stand beside the marks of their names, for endpoints and for routes
+//! What is known of names that generations depend on. Values are kept beside the marks of their names, for endpoints and for routes
 //! alike: a content is shared, so there is one place for both.
 
 ghost use Rattle.std.specs.Prelude.{◌≡◌, ◌≢◌, ◌++◌, [], Decides, IsSome, OnOk, OnErr};

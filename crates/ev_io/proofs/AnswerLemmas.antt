@@ -16,7 +16,7 @@ use Rattle.ev_io.specs.LinesState.{LinesState, FindsNext, HasTaken, Grows}
 use Rattle.ev_io.specs.ReadLine.{IsUnfinished, Means, ReadsLine}
 use Rattle.ev_io.proofs.ReadLemmas.{unfinished, taken_more, no_length, lines_kept, retold, line_given, gives_line, reaches_end, too_large, too_many, too_long}
 
--- what is to be shown of an answer, where `mid` is the state once it is known what stands next
+-- what is to be shown of an answer, where `mid` is the state once it is known what comes next
 pub record IsStep (old mid new : LinesState) (before after : List ℕ) (answer : Result LineEnd LineFault) : Type 0 where
   pub means : (all : List ℕ) → mid.given ≡ old.given → HasTaken mid all → HasTaken new all × Means old new all before after answer
 

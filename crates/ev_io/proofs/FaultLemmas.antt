@@ -72,7 +72,7 @@ sound_further front pending n closed sound none short few small = λ place below
         subst (λ (i : ℕ). HasNoFault (front ++ pending) i) same
         (sound_at front pending (place - length front) closed (λ k l. none k (omega arith)) (few (omega arith)) (omega arith) (short_within front pending (place - length front) closed (omega arith)))
 
--- and in the line feed behind them
+-- and in the line feed after them
 pub sound_with_feed : (front pending : List ℕ) (n : ℕ) → IsClosed front → IsSoundUpTo (front ++ pending) (length front) → HasNoFeed pending n → get_or pending n 0 ≡ 10 → n ≤ MAX_LINE_BYTES → length (lines_of front) < MAX_LINES → length front + n < MAX_INPUT_BYTES → IsSoundUpTo (front ++ pending) (length front + n + 1)
 sound_with_feed front pending n closed sound none feed short few small = λ place below. here place below (cases_lt place (length front + n))
   where

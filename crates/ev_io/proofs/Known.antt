@@ -1,4 +1,4 @@
--- What a step of a read or a write does to bytes that are told.
+-- What a step of a read or a write does to bytes that are known.
 use Rattle.std.proofs.Common.{◌≡◌, ℕ, ◌+◌, ◌-◌, ◌<◌, ◌≤◌, min, List, [], ◌++◌, length, take, drop, length-drop, Option, None, Some, refl, sym, ap, ◌∙◌, append_assoc, arith}
 use Rattle.std.proofs.lemmas.List.{take-append-le, take-append-drop, take_rest, drop-drop, drop_all}
 use Rattle.std.proofs.Math.Seq.{take-add}

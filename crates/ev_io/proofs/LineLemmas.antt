@@ -62,11 +62,11 @@ onto_first-append b c cs others = by_test (eqb c 10) (lines_of cs)
     by_test false [] = refl
     by_test false (line ∷ lines) = refl
 
--- what is behind the first byte is closed, where something is
+-- what is after the first byte is closed, where something is
 closed_rest : (b c : ℕ) (cs : List ℕ) → IsClosed (b ∷ c ∷ cs) → IsClosed (c ∷ cs)
 closed_rest b c cs closed = λ k e. closed (suc k) (omega arith)
 
--- behind a closed front the lines go on
+-- after a closed prefix the lines go on
 pub lines_of-append : (front rest : List ℕ) → IsClosed front → lines_of (front ++ rest) ≡ lines_of front ++ lines_of rest
 lines_of-append [] rest closed = refl
 lines_of-append (b ∷ []) rest closed =
@@ -87,7 +87,7 @@ feeds_in-append (b ∷ bs) ys = by_test (feeds_in-append bs ys) (eqb b 10)
     by_test further true = omega (arith, further)
     by_test further false = further
 
--- none where none stands
+-- none where there is none
 pub feeds_in-none : (bs : List ℕ) (n : ℕ) → HasNoFeed bs n → feeds_in (take n bs) ≡ 0
 feeds_in-none bs zero none = refl
 feeds_in-none [] (suc n) none = refl

@@ -1,4 +1,4 @@
--- What stands next among the pending bytes, said of all bytes taken.
+-- What comes next among the pending bytes, said of all bytes taken.
 use Rattle.std.proofs.Common.{◌≡◌, ℕ, ◌+◌, ◌-◌, ◌<◌, ◌≤◌, ◌⊎◌, inl, inr, Bool, IsTrue, List, [], ◌∷◌, ◌++◌, length, take, drop, get_or, Option, None, refl, sym, ap, subst, ◌∙◌, append_assoc, length-append, length-take, add-one, arith}
 use Rattle.std.proofs.lemmas.List.{append-nil, take-append-drop, take_all, drop_all}
 use Rattle.std.proofs.Math.Seq.{take-append-add, drop-append-add, drop-append_seam, take-append_seam, take-length}
@@ -33,7 +33,7 @@ closed_going state bytes h going = here h.closed
     here (inl closed) = closed
     here (inr (ended, _)) = absurd (going ended)
 
--- bytes with no line feed and no fault behind the lines given
+-- bytes with no line feed and no fault after the lines given
 pub unfinished : (state : LinesState) (bytes : List ℕ) → HasTaken state bytes → FindsNext state None → IsUnfinished state.given state.ended bytes
 unfinished state bytes h (going, quiet) =
     let closed : IsClosed h.front = closed_going state bytes h going in
@@ -68,7 +68,7 @@ taken_more old new bytes more h pending count given first = record {
     here (inl same) (inr (ended, none)) = inr (subst (λ (s : LinesState). IsTrue s.ended × (s.pending ≡ [])) (sym same) (ended, none))
     here (inr going) (inr (ended, none)) = absurd (going ended)
 
--- the next line, and the lines behind it
+-- the next line, and the lines after it
 next_line : (taken given : ℕ) (pending : List ℕ) (ended : Bool) (n : ℕ) → IsLine taken given pending ended n → (lines_of pending ≡ take n pending ∷ lines_of (drop (n + 1) pending)) × (lines_of (take (n + 1) pending) ≡ take n pending ∷ [])
 next_line taken given pending ended n line = here line.ends
   where
@@ -90,7 +90,7 @@ some_pending : (taken : ℕ) (pending : List ℕ) (ended : Bool) (n : ℕ) → E
 some_pending taken pending ended n (inl (below, _, _)) = omega arith
 some_pending taken pending ended n (inr (_, last, one, _)) = omega arith
 
--- after a line was given: `new` has it behind it
+-- after a line was given: `new` has it after it
 pub line_given : (mid new : LinesState) (bytes : List ℕ) (n : ℕ) → (h : HasTaken mid bytes) → IsLine mid.taken mid.given mid.pending mid.ended n → new ≡ record mid { given = mid.given + 1; pending = drop (n + 1) mid.pending } → HasTaken new bytes
 line_given mid new bytes n h line same = subst (λ (s : LinesState). HasTaken s bytes) (sym same) taken
   where
@@ -126,7 +126,7 @@ line_given mid new bytes n h line same = subst (λ (s : LinesState). HasTaken s 
       sound = subst (λ (xs : List ℕ). IsSoundUpTo xs (length (h.front ++ take (n + 1) mid.pending))) (sym h.parts) (sound_now line.ends);
     }
 
--- what was told changes nothing of what was taken
+-- what was reported changes nothing of what was taken
 pub retold : (mid : LinesState) (fault : Option LineFault) (bytes : List ℕ) → HasTaken mid bytes → HasTaken (record mid { told = fault }) bytes
 retold mid fault bytes h = record { front = h.front; parts = h.parts; count = h.count; lines = h.lines; closed = h.closed; sound = h.sound }
 

@@ -1,4 +1,4 @@
--- What stands next in the bytes that were taken and aren't given yet, `pending`. Of all bytes
+-- What comes next in the bytes that were taken and aren't given yet, `pending`. Of all bytes
 -- `taken` were taken, and `given` lines were given.
 use Rattle.std.specs.Prelude.{◌≡◌, ℕ, ◌+◌, ◌-◌, ◌<◌, ◌≤◌, ◌⊎◌, Bool, IsTrue, List, [], length, slice_index, Option, None, Some}
 use Rattle.ev_io.specs.declared.limits.TheConstants.{MAX_LINE_BYTES, MAX_LINES, MAX_INPUT_BYTES}
@@ -14,11 +14,11 @@ pub record IsOpen (taken given : ℕ) (pending : List ℕ) : Type 0 where
   pub many : 0 < length pending → given < MAX_LINES
   pub large : taken ≤ MAX_INPUT_BYTES
 
--- behind n bytes a line ends, by its line feed or since no byte is left
+-- after n bytes a line ends, by its line feed or since no byte is left
 abbrev pub Ends : ℕ → List ℕ → Bool → ℕ → Type 0
 Ends taken pending ended n = ((n < length pending) × (slice_index pending n ≡ 10) × (taken + n < MAX_INPUT_BYTES + length pending)) ⊎ (IsTrue ended × (n ≡ length pending) × (0 < n) × (taken ≤ MAX_INPUT_BYTES))
 
--- the next line has n bytes and ends behind them, within the limits
+-- the next line has n bytes and ends after them, within the limits
 pub record IsLine (taken given : ℕ) (pending : List ℕ) (ended : Bool) (n : ℕ) : Type 0 where
   pub none : HasNoFeed pending n
   pub long : n ≤ MAX_LINE_BYTES
@@ -46,7 +46,7 @@ pub record IsLong (taken given : ℕ) (pending : List ℕ) : Type 0 where
   pub many : given < MAX_LINES
   pub small : taken + MAX_LINE_BYTES < MAX_INPUT_BYTES + length pending
 
--- what was found stands there; where nothing was, more bytes are wanted
+-- what was found is there; where nothing was, more bytes are wanted
 abbrev pub Finds : ℕ → ℕ → List ℕ → Bool → Option Found → Type 0
 Finds taken given pending ended (Some (found.Line n)) = IsLine taken given pending ended n
 Finds taken given pending ended (Some (found.Fault TooLong)) = IsLong taken given pending

@@ -1,4 +1,4 @@
--- Which fault of lines stands at which byte of an input. Bytes are counted from 0.
+-- Which fault of lines is at which byte of an input. Bytes are counted from 0.
 use Rattle.std.specs.Prelude.{◌≢◌, ℕ, ◌+◌, ◌<◌, ◌≤◌, List, length, take, slice_index}
 use Rattle.ev_io.specs.declared.limits.TheConstants.{MAX_LINE_BYTES, MAX_LINES, MAX_INPUT_BYTES}
 use Rattle.ev_io.specs.declared.faults.LineFault.{LineFault}
@@ -13,11 +13,11 @@ IsTooLarge place = MAX_INPUT_BYTES ≤ place
 abbrev pub IsTooMany : List ℕ → ℕ → Type 0
 IsTooMany bytes place = MAX_LINES ≤ feeds_in (take place bytes)
 
--- a byte above the most bytes of its line: neither it nor any of so many bytes before it is a line feed
+-- a byte above the most bytes of its line: neither it nor any of this many bytes before it is a line feed
 abbrev pub IsTooLong : List ℕ → ℕ → Type 0
 IsTooLong bytes place = (MAX_LINE_BYTES ≤ place) × ((k : ℕ) → place ≤ k + MAX_LINE_BYTES → k ≤ place → slice_index bytes k ≢ 10)
 
--- this fault stands at the byte: of those that do, too large goes first, then too many
+-- this fault is at the byte: of those that do, too large goes first, then too many
 abbrev pub StandsAt : List ℕ → ℕ → LineFault → Type 0
 StandsAt bytes place TooLarge = IsTooLarge place
 StandsAt bytes place TooMany = (¬ (IsTooLarge place)) × IsTooMany bytes place
@@ -25,15 +25,15 @@ StandsAt bytes place TooLong = (¬ (IsTooLarge place)) × (¬ (IsTooMany bytes p
 StandsAt bytes place Failed = ⊥
 StandsAt bytes place OutOfMemory = ⊥
 
--- no fault stands at the byte
+-- there is no fault at the byte
 abbrev pub HasNoFault : List ℕ → ℕ → Type 0
 HasNoFault bytes place = (¬ (IsTooLarge place)) × (¬ (IsTooMany bytes place)) × (¬ (IsTooLong bytes place))
 
--- no fault stands at any of the first n bytes
+-- there is no fault at any of the first n bytes
 abbrev pub IsSoundUpTo : List ℕ → ℕ → Type 0
 IsSoundUpTo bytes n = (place : ℕ) → place < n → HasNoFault bytes place
 
--- the first fault of the bytes, and where it stands
+-- the first fault of the bytes, and where it is
 pub record IsFirstFault (bytes : List ℕ) (place : ℕ) (fault : LineFault) : Type 0 where
   pub within : place < length bytes
   pub stands : StandsAt bytes place fault

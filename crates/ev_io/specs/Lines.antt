@@ -7,7 +7,7 @@ onto_first byte [] = (byte ∷ []) ∷ []
 onto_first byte (line ∷ lines) = (byte ∷ line) ∷ lines
 
 -- the lines, each closed by a line feed, which the last may lack. A line feed closes a line, which
--- is empty where no byte stands before it; no byte is no line.
+-- is empty where no byte comes before it; no byte is no line.
 abbrev pub lines_of : List ℕ → List (List ℕ)
 lines_of [] = []
 lines_of (byte ∷ bytes) = if byte == 10 then [] ∷ lines_of bytes else onto_first byte (lines_of bytes)

@@ -9,7 +9,7 @@ use Rattle.ev_io.specs.Outside.{Takes}
 use Rattle.ev_io.specs.Found.{IsOpen, Finds}
 
 -- how many bytes were taken and how many lines given, the bytes taken and not given yet, whether
--- the source gave its end, and the fault that is told from now on
+-- the source gave its end, and the fault that is reported from now on
 pub record LinesState : Type 0 where
   pub taken : ℕ
   pub given : ℕ
@@ -21,12 +21,12 @@ pub record LinesState : Type 0 where
 abbrev pub IsFresh : LinesState → Type 0
 IsFresh state = state ≡ record { taken = 0; given = 0; pending = []; ended = false; told = None }
 
--- what was found stands next in the bytes taken; where nothing was, more bytes are wanted
+-- what was found comes next in the bytes taken; where nothing was, more bytes are wanted
 abbrev pub FindsNext : LinesState → Option Found → Type 0
 FindsNext state next = Finds state.taken state.given state.pending state.ended next
 
 -- these are the bytes taken so far: first those of the lines given, `front`, which are closed but
--- for a last line at the end, and in which no fault stands, then those not given yet
+-- for a last line at the end, and in which there is no fault, then those not given yet
 pub record HasTaken (state : LinesState) (bytes : List ℕ) : Type 0 where
   pub front : List ℕ
   pub parts : bytes ≡ front ++ state.pending

@@ -10,7 +10,7 @@ last_count = 2 ^ 64 - 1
 abbrev pub raised : ℕ → ℕ
 raised count = min (count + 1) last_count
 
--- the count rose: it is greater than before, or stands at the last value of a counter
+-- the count rose: it is greater than before, or is at the last value of a counter
 abbrev pub Rose : ℕ → ℕ → Type 0
 Rose before after = (before < after) ⊎ (after ≡ last_count)
 
@@ -19,11 +19,11 @@ pub record ReadFails {S : Type 0} (ended : S → Bool) (faults : S → ℕ) (sou
   pub unended : ended source' ≡ ended source
   pub rose : Rose (faults source) (faults source')
 
--- told bytes gained a front of these bytes, and what isn't told stays untold
+-- known bytes gained a prefix of these bytes, and what isn't known stays unknown
 abbrev pub AppendsPrefix : Option (List ℕ) → Option (List ℕ) → List ℕ → Type 0
 AppendsPrefix before after bytes = (n : ℕ) × (n ≤ length bytes) × (after ≡ append_known before (take n bytes))
 
--- these bytes were taken: told bytes begin with them and lose exactly them, and what isn't told
--- stays untold
+-- these bytes were taken: known bytes begin with them and lose exactly them, and what isn't known
+-- stays unknown
 abbrev pub Takes : Option (List ℕ) → Option (List ℕ) → List ℕ → Type 0
 Takes before after bytes = before ≡ prepend_known bytes after

@@ -10,7 +10,7 @@ use Rattle.ev_io.specs.Lines.{lines_of, feeds_in}
 use Rattle.ev_io.specs.LineFaults.{IsSoundUpTo, IsFirstFault}
 use Rattle.ev_io.specs.LinesState.{LinesState, HasTaken}
 
--- of these bytes each line that is closed was given, no fault stands in them, and they go on
+-- of these bytes each line that is closed was given, there is no fault in them, and they go on
 pub record IsUnfinished (given : ℕ) (ended : Bool) (bytes : List ℕ) : Type 0 where
   pub goes_on : ¬ (IsTrue ended)
   pub closed : feeds_in bytes ≡ given
@@ -23,7 +23,7 @@ pub record GivesLine (old new : LinesState) (all text : List ℕ) : Type 0 where
   pub ends : (old.given < feeds_in all) ⊎ IsTrue new.ended
   pub untold : new.told ≡ None
 
--- each line was given, no fault stands in them, and the source gave its end
+-- each line was given, there is no fault in them, and the source gave its end
 pub record ReachesEnd (old new : LinesState) (all : List ℕ) : Type 0 where
   pub lines : length (lines_of all) ≡ new.given
   pub number : new.given ≡ old.given
@@ -31,13 +31,13 @@ pub record ReachesEnd (old new : LinesState) (all : List ℕ) : Type 0 where
   pub sound : IsSoundUpTo all (length all)
   pub untold : new.told ≡ None
 
--- the first fault stands in the line after those given, and is told from now on
+-- the first fault is in the line after those given, and is reported from now on
 pub record TellsFault (old new : LinesState) (all : List ℕ) (fault : LineFault) : Type 0 where
   pub first : (place : ℕ) × IsFirstFault all place fault × (feeds_in (take place all) ≡ new.given)
   pub number : new.given ≡ old.given
   pub told : new.told ≡ Some fault
 
--- a read failed before the next line's end and before a fault, and that is told from now on
+-- a read failed before the next line's end and before a fault, and that is reported from now on
 pub record FailsToRead (old new : LinesState) (all : List ℕ) : Type 0 where
   pub unfinished : IsUnfinished new.given new.ended all
   pub number : new.given ≡ old.given
@@ -66,7 +66,7 @@ pub record ReadsLine (old new : LinesState) (bytes more before after : List ℕ)
   pub means : Means old new (bytes ++ more) before after answer
   pub needed : (more ≡ []) ⊎ ((n : ℕ) × (n < length more) × (length more ≤ n + MAX_PIECE_BYTES) × IsUnfinished old.given old.ended (bytes ++ take n more))
 
--- where no fault was told yet, a call takes some bytes, and reads a line of whatever bytes were taken before and these
+-- where no fault was reported yet, a call takes some bytes, and reads a line of whatever bytes were taken before and these
 abbrev pub ReadsOn : {S : Type 0} → (S → Option (List ℕ)) → S → S → LinesState → LinesState → List ℕ → List ℕ → Result LineEnd LineFault → Type 0
 ReadsOn left source source' old new before after answer =
     old.told ≡ None → (more : List ℕ) × Takes (left source) (left source') more × ((bytes : List ℕ) → HasTaken old bytes → ReadsLine old new bytes more before after answer)
@@ -81,6 +81,6 @@ pub record LeavesOpen {S : Type 0} (ended : S → Bool) (source source' : S) (ol
   pub before : ¬ (IsTrue new.ended) → ¬ (IsTrue old.ended)
   pub unended : ¬ (IsTrue new.ended) → ended source' ≡ ended source
 
--- a read failed: one before, as is told ever after, or one of this call, as the count of faults shows
+-- a read failed: one before, as is reported ever after, or one of this call, as the count of faults shows
 abbrev pub HasFailed : {S : Type 0} → (S → ℕ) → S → S → LinesState → Type 0
 HasFailed faults source source' old = (old.told ≡ Some Failed) ⊎ Rose (faults source) (faults source')

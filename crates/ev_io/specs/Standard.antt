@@ -22,7 +22,7 @@ writer_of s = s.writer
 abbrev pub write_faults : {W : Type 0} → StdSink W → ℕ
 write_faults s = s.faults
 
--- the reader lost the bytes that a read gave, by its answer and the buffer behind it
+-- the reader lost the bytes that a read gave, by its answer and the buffer after it
 abbrev pub ReadsThrough : {R : Type 0} → (R → Option (List ℕ)) → StdSource R → StdSource R → Result ℕ Failed → List ℕ → Type 0
 ReadsThrough remaining old new answer buf = ReadConsumes (remaining (reader_of old)) (remaining (reader_of new)) answer buf
 

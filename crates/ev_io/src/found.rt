@@ -6,10 +6,10 @@ ghost use Rattle.ev_io.specs.Found.{Finds};
 use super::faults::LineFault;
 use super::limits::{MAX_INPUT_BYTES, MAX_LINE_BYTES, MAX_LINES};
 
-/// What stands next in the bytes taken.
+/// What comes next in the bytes taken.
 #[derive(Clone, Copy)]
 pub(crate) enum Found {
-    /// A line of so many bytes.
+    /// A line of this many bytes.
     Line(usize),
     /// A fault.
     Fault(LineFault),
@@ -17,7 +17,7 @@ pub(crate) enum Found {
     End,
 }
 
-/// What stands next in `pending`, the last of `taken` bytes, of which the first `searched` are no
+/// What comes next in `pending`, the last of `taken` bytes, of which the first `searched` are no
 /// line feeds, after `given` lines. None where more bytes are wanted.
 pub(crate) fn find_next(
     pending: &[u8],
@@ -56,7 +56,7 @@ pub(crate) fn find_next(
     }
 }
 
-// How many bytes stand before the first line feed: all where there is none.
+// How many bytes come before the first line feed: all where there is none.
 #[tactic(auto, using(crate::proofs::LineLemmas::found_further))]
 fn line_length(bytes: &[u8], searched: usize) -> usize
     requires within { searched ≤ length bytes.now }

@@ -82,7 +82,7 @@ impl Lines {
     /// After any answer but a line `out` is as before.
     ///
     /// # Errors
-    /// `TooLong`, `TooMany` and `TooLarge` where the first fault of the bytes taken stands in the
+    /// `TooLong`, `TooMany` and `TooLarge` where the first fault of the bytes taken is in the
     /// next line, and `Failed` where a read failed before: each call from then on answers the same.
     /// `OutOfMemory` where there is no memory: the next call goes on with the bytes taken.
     pub fn read_line<S: Source>(
@@ -95,13 +95,13 @@ impl Lines {
         ensures at_end { IsTrue self.new.ended → IsTrue self.old.ended ⊎ IsAtEnd (S.left source.new) }
         ensures at_most { IsWithin self.new }
 
-        // A fault is told ever after, and then nothing changes.
+        // A fault is reported ever after, and then nothing changes.
         ensures again { (fault : LineFault) → self.old.told ≡ Some fault → result ≡ Err fault }
         ensures again_self { (fault : LineFault) → self.old.told ≡ Some fault → self.new ≡ self.old }
         ensures again_source { (fault : LineFault) → self.old.told ≡ Some fault → source.new ≡ source.old }
         ensures again_out { (fault : LineFault) → self.old.told ≡ Some fault → out.new.items ≡ out.old.items }
 
-        // The source isn't touched where it isn't needed, nor behind its end, and its count rises where a read fails.
+        // The source isn't touched where it isn't needed, nor after its end, and its count rises where a read fails.
         ensures untouched { AsksWhereUnfinished source.old source.new self.old }
         ensures unended { LeavesOpen S.ended source.old source.new self.old self.new }
         ensures failed { result ≡ Err LineFault.Failed → HasFailed S.faults source.old source.new self.old }
@@ -124,7 +124,7 @@ impl Lines {
         }
     }
 
-    // What stands next in the bytes taken.
+    // What comes next in the bytes taken.
     #[tactic(auto, using(std::proofs::lemmas::List::take_rest))]
     fn look(&self) -> Option<Found>
         ensures found { FindsNext self.now result }
@@ -158,7 +158,7 @@ impl Lines {
         Ok(())
     }
 
-    // What stands next, of as many pieces as it takes.
+    // What comes next, of as many pieces as it takes.
     fn find<S: Source>(&mut self, source: &mut S) -> Result<Found, LineFault>
         requires { self.old.told ≡ None }
         ensures grows { (more : List ℕ) × Grows (S.left source.old) (S.left source.new) self.old self.new more }
@@ -222,7 +222,7 @@ impl Lines {
     }
 }
 
-// A buffer of so many bytes.
+// A buffer of this many bytes.
 fn buffer_of(alloc: Global, size: usize) -> Result<Vec<u8>, AllocError>
     ensures { IfOk result (λ buffer. vec_len buffer ≡ size) }
 {

@@ -8,7 +8,7 @@ use std::alloc::{AllocError, Global};
 use std::marker::Model;
 
 /// A sink that keeps in memory what is written, takes it in pieces, and fails at calls that are
-/// named beforehand and where its room is full. It tells what is written.
+/// named beforehand and where its room is full. It says what is written.
 #[derive(Drop)]
 pub struct MemSink {
     bytes: Vec<u8>,

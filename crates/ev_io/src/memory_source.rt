@@ -8,7 +8,7 @@ use super::outside::{Failed, Source};
 use std::marker::Model;
 
 /// A source over bytes in memory, which gives them in pieces and fails at calls that are named
-/// beforehand. It tells its bytes.
+/// beforehand. It says which bytes are left.
 #[derive(Drop)]
 pub struct MemSource {
     bytes: Vec<u8>,

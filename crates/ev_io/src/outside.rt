@@ -2,20 +2,20 @@ ghost use Rattle.std.specs.Prelude.{◌≡◌, ℕ, ◌<◌, ◌≤◌, ◌⊎�
 ghost use Rattle.std.specs.Io.KnownBytes.{prepend_known, append_known, IsAtEnd};
 ghost use Rattle.ev_io.specs.Outside.{Rose, AppendsPrefix};
 
-/// A read or a write that failed. It says no more: the count of faults tells that it happened.
+/// A read or a write that failed. It says no more: the count of faults shows that it happened.
 #[derive(Clone, Copy, Debug, PartialEq, Eq)]
 pub struct Failed;
 
-/// What bytes are read from. Each implementation may tell which bytes are left, and then goes on
-/// telling it; what isn't told stays untold.
+/// What bytes are read from. Each implementation may say which bytes are left, and then goes on
+/// saying it; what isn't known stays unknown.
 pub trait Source {
-    // the bytes not yet given, where they are told
+    // the bytes not yet given, where they are known
     ghost left: { Self → Option (List ℕ) };
 
     // whether it gave its end: a read with a buffer that isn't empty gave no byte
     ghost ended: { Self → Bool };
 
-    // how many faults there were; a counter that stands still at its last value
+    // how many faults there were; a counter that stops at its last value
     ghost faults: { Self → ℕ };
 
     /// Puts the next bytes into the front of `buf` and says how many. 0 for a buffer that isn't
@@ -23,7 +23,7 @@ pub trait Source {
     ///
     /// # Errors
     /// `Failed` where the outside failed: nothing was taken, and the count rose; nothing is promised
-    /// of `buf` then. An `Ok` leaves the count as it was, so the count tells whether any call failed.
+    /// of `buf` then. An `Ok` leaves the count as it was, so the count shows whether any call failed.
     fn read(&mut self, buf: &mut [u8]) -> Result<usize, Failed>
         ensures bound { IfOk result (λ n. n ≤ length buf.new) }
         ensures bytes { IfOk result (λ n. left self.old ≡ prepend_known (take n buf.new) (left self.new)) }
@@ -36,20 +36,20 @@ pub trait Source {
         ensures count { faults self.old ≤ faults self.new };
 }
 
-/// What bytes are written to. Each implementation may tell which bytes were written, and then goes
-/// on telling it; what isn't told stays untold.
+/// What bytes are written to. Each implementation may say which bytes were written, and then goes
+/// on saying it; what isn't known stays unknown.
 pub trait Sink {
-    // the bytes written so far, where they are told
+    // the bytes written so far, where they are known
     ghost written: { Self → Option (List ℕ) };
 
-    // how many faults there were; a counter that stands still at its last value
+    // how many faults there were; a counter that stops at its last value
     ghost faults: { Self → ℕ };
 
     /// Appends the first bytes of `bytes` and says how many: at least one where there is one.
     ///
     /// # Errors
     /// `Failed` where the outside failed: nothing was appended, and the count rose. An `Ok` leaves
-    /// the count as it was, so the count tells whether any call failed.
+    /// the count as it was, so the count shows whether any call failed.
     fn write(&mut self, bytes: &[u8]) -> Result<usize, Failed>
         ensures bound { IfOk result (λ n. n ≤ length bytes.now) }
         ensures some { IfOk result (λ n. 0 < length bytes.now → 0 < n) }

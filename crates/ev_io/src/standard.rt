@@ -5,7 +5,7 @@ ghost use Rattle.ev_io.specs.Standard.{reader_of, gave_end, read_faults, writer_
 use super::outside::{Failed, Sink, Source};
 use std::io::{Read, Write};
 
-/// A source over a reader, as standard input. It counts its faults and tells no bytes.
+/// A source over a reader, as standard input. It counts its faults, and doesn't say which bytes are left.
 #[derive(Drop)]
 pub struct StdSource<R> {
     reader: R,
@@ -13,7 +13,7 @@ pub struct StdSource<R> {
     faults: u64,
 }
 
-/// A sink over a writer, as standard output. It counts its faults and tells no bytes.
+/// A sink over a writer, as standard output. It counts its faults, and doesn't say which bytes were written.
 #[derive(Drop)]
 pub struct StdSink<W> {
     writer: W,

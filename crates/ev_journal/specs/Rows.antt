@@ -20,7 +20,7 @@ use Rattle.ev_types.specs.declared.journals.Row.{Row}
 use Rattle.ev_wire.specs.Requests.{version_members}
 use Rattle.ev_journal.specs.Rendering.{row_tree}
 
--- ---- an answer stands under these operations alone
+-- ---- an answer belongs to these operations alone
 
 abbrev pub operations_with : Answer → List Op
 operations_with Ignored = Connect ∷ Disconnect ∷ Response ∷ Health ∷ FetchTimeout ∷ DrainTimeout ∷ TtlExpired ∷ []

@@ -164,7 +164,7 @@ fn request_values(alloc: Global, requests: &[Request]) -> Result<Value, AllocErr
     Ok(Value::Array(values))
 }
 
-// What requests keep, which only reading them tells.
+// What requests keep, which only reading them shows.
 fn look_at_requests(requests: &[Request])
     ensures { All IsRequest requests.now }
 {

@@ -5,8 +5,8 @@
 //! - A row's line has the number of a row's type alone, so it can't say more than the type: numbers have 32 or 64
 //!   bits, generations count from 1, names have 1 to 512 bytes, a rule has 8 bits, a port and a status 16. Lists may
 //!   be in any order. A node's id and the message of a refusal may be empty. An actor that is no worker of the
-//!   script, and any actor under any operation, stand in rows; the finding judges them.
-//! - An answer stands under the operations of its row of the table in FORMATS.md alone. A text with another pairing
+//!   script, and any actor under any operation, are in rows; the finding judges them.
+//! - An answer belongs to the operations of its row of the table in FORMATS.md alone. A text with another pairing
 //!   is no row's.
 //! - Several rows can have one text: an empty nonce is written as none is, and versions are written as an object, in
 //!   the order of their names and each name once. The row that is meant has none in place of an empty nonce, and its

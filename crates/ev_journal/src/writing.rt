@@ -11,7 +11,7 @@ use ev_types::{Actor, Entry, Format, Op, Row};
 use serde_json::{Value, json};
 use std::alloc::{AllocError, Global};
 
-/// Writes the text of a journal of a format, for so many workers: the first line, a line an entry, and the end line
+/// Writes the text of a journal of a format, for this many workers: the first line, a line for each entry, and the end line
 /// with their number, each closed by a line feed.
 pub fn render_journal(
     alloc: Global,
@@ -38,7 +38,7 @@ pub fn write_first_line(alloc: Global, format: Format, workers: u32) -> Result<V
 }
 
 /// Writes the line of an entry, with the line feed that closes it: who did what, at which line and step of the
-/// script, and the answer, by the table of answers in docs/FORMATS.md. What the types of an entry keep is told with it:
+/// script, and the answer, by the table of answers in docs/FORMATS.md. What the types of an entry keep is said with it:
 /// the parts of its row are within bounds, and its line is UTF-8.
 #[tactic(auto, using(crate::proofs::FloatLemmas::entry_whole), unfolding(crate::specs::Rows::row_text))]
 pub fn write_line(alloc: Global, entry: &Entry) -> Result<Vec<u8>, AllocError>
@@ -68,7 +68,7 @@ pub fn write_row(alloc: Global, row: &Row) -> Result<Vec<u8>, AllocError>
     value.to_vec(alloc)
 }
 
-/// Writes the last line of a journal of so many entries, with the line feed that closes it.
+/// Writes the last line of a journal of this many entries, with the line feed that closes it.
 pub fn write_end_line(alloc: Global, entries: usize) -> Result<Vec<u8>, AllocError>
     ensures line { IfOk result (λ line. line.items ≡ line_text (end_tree entries)) }
 {

@@ -1,4 +1,4 @@
--- No line feed stands in the text of a canonical tree, so a line feed closes its line.
+-- No line feed is in the text of a canonical tree, so a line feed closes its line.
 use Rattle.std.proofs.Common.{◌≡◌, ◌≢◌, ℕ, zero, suc, ◌+◌, ◌/◌, ◌%◌, ◌⊎◌, inl, inr, Bool, true, false, cond, ◌||◌, ◌==◌, nat_lt, List, [], ◌∷◌, ◌++◌, decimal, codes, refl, ap, ◌∙◌, arith, ne_eqb, eqb-true}
 use Rattle.std.specs.Prelude.{⊤}
 use Rattle.std.specs.Char.{digit_char}

@@ -1,4 +1,4 @@
--- Two runs on one script whose rows tell of the same are equal: a row tells its operation, and the machine its answer.
+-- Two runs on one script whose rows record the same are equal: a row gives its operation, and the machine its answer.
 use Rattle.std.proofs.Common.{◌≡◌, List, [], ◌∷◌, ◌++◌, map, Option, Some, None, option_map, true, refl, sym, ap, ap₂, ◌∙◌, subst}
 use Rattle.ev_types.specs.Scripts.{ScriptParts, IsScript}
 use Rattle.ev_types.specs.declared.events.Answer.{Answer}
@@ -39,7 +39,7 @@ abbrev operation_in : Operation → Option Operation → Operation
 operation_in o None = o
 operation_in o (Some found) = found
 
--- rows that are meant as one tell of one operation
+-- rows that are meant as one record one operation
 same_operation : (script : ScriptParts) (entry other : Entry) → entry_told script (row_of entry) ≡ Some entry → entry_told script (row_of other) ≡ Some other
     → chosen_row (row_of entry) ≡ chosen_row (row_of other) → operation_of entry ≡ operation_of other
 same_operation script entry other one another meant =

@@ -1,4 +1,4 @@
--- The lines of a journal's text are the texts of its first line, its rows and its end line, so the text tells the rows.
+-- The lines of a journal's text are the texts of its first line, its rows and its end line, so the text determines the rows.
 use Rattle.std.proofs.Common.{◌≡◌, ℕ, suc, ◌^◌, ◌<◌, List, [], ◌∷◌, ◌++◌, length, map, Option, Some, None, option_and_then, true, codes, refl, sym, ap, ap₂, ◌∙◌, subst, arith, append_assoc, length-append}
 use Rattle.std.specs.List.{flat_map}
 use Rattle.serde_json.specs.Data.{Data}
@@ -137,7 +137,7 @@ abbrev number_in : Option ℕ → ℕ
 number_in None = 0
 number_in (Some n) = n
 
--- a first line tells its format
+-- a first line gives its format
 pub same_format : (format another : Format) (workers : ℕ) → workers < 2 ^ 64 → first_text format workers ≡ first_text another workers → format ≡ another
 same_format format another workers small e =
     let one : read (first_text format workers) ≡ Some (first_tree format workers) =

@@ -1,4 +1,4 @@
--- What the text of a journal tells. This project's own.
+-- What the text of a journal determines. This project's own.
 use Rattle.std.specs.Prelude.{◌≡◌, ℕ, ◌<◌, ◌^◌, true, List, ◌∷◌, map, All}
 use Rattle.ev_io.specs.Lines.{lines_of}
 use Rattle.ev_types.specs.Scripts.{ScriptParts, IsScript}
@@ -35,7 +35,7 @@ pub record ReadsAsJournal (format : Format) (workers : ℕ) (journal : List Entr
   pub lines : lines_of (rendering_of format workers journal) ≡ first_text format workers ∷ texts
   pub reads : IsJournalTo workers (first_text format workers) texts format (meant_rows journal) true
 
--- so it is for every journal whose entries have rows
+-- this holds for every journal whose entries have rows
 abbrev pub RendersJournals : Type 0
 RendersJournals = (format : Format) (workers : ℕ) (journal : List Entry) → workers < 2 ^ 64 → HaveRows journal → ReadsAsJournal format workers journal
 

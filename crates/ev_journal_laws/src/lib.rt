@@ -2,9 +2,9 @@
 //!
 //! # Choices
 //!
-//! - The laws on the text of whole journals stand in a crate of their own, which alone needs both the machine's laws
+//! - The laws on the text of whole journals are in a crate of their own, which alone needs both the machine's laws
 //!   and the reader of rows.
-//! - Two journals with one text are compared with their events, which the text doesn't have: a row tells its
+//! - Two journals with one text are compared with their events, which the text doesn't have: a row gives its
 //!   operation by its place in the script, and the machine the answer, so that an answer that is written as another
 //!   one would be is still the same.
 #![tactic(auto)]

@@ -160,7 +160,7 @@ operations_same (Settled closed version) = refl
 
 -- ---- rows
 
--- the answer that is meant stands under the same operations
+-- the answer that is meant belongs to the same operations
 pub answered_same : (op : Op) (answer : Answer) → is_answered_with op (chosen_answer answer) ≡ is_answered_with op answer
 answered_same op answer = ap (list_any (op_same op)) (operations_same answer)
 

@@ -113,7 +113,7 @@ reading_none now state rows untold none = record {
   still = λ bytes h end all. (refl, refl);
 }
 
--- the call, behind all that was taken before it
+-- the call, after all that was taken before it
 the_call : (before now after : Option (List ℕ)) (start old new : LinesState) (rows : List Row) (ended : Bool) (out text : List ℕ) (answer : Result LineEnd LineFault)
     → (r : IsReading before now start old rows ended) → (call : Reads now after old new out text answer) → (bytes : List ℕ) → HasTaken start bytes
     → ReadsLine old new (bytes ++ r.more) call.0 out text answer

@@ -45,7 +45,7 @@ anything : {A : Type 0} (o : Option A) → Kept o (λ _. ⊤)
 anything None = record { holds = tt }
 anything (Some a) = record { holds = tt }
 
--- whatever stands before, what f gives is kept
+-- whatever comes before, what f gives is kept
 kept_any : {A B : Type 0} (Q : B → Type 0) (f : A → Option B) → ((a : A) → Kept (f a) Q) → (o : Option A) → Kept (option_and_then f o) Q
 kept_any Q f each None = nothing Q
 kept_any Q f each (Some a) = each a

@@ -28,7 +28,7 @@ apart q k h e = true≢false (sym ((bytes_eq-Decides q k).1 e) ∙ h)
 other : (q k : List ℕ) (d : Data) (ms : Members) → bytes_eq q k ≡ false → get_member q (put k d ms) ≡ get_member q ms
 other q k d ms h = get_member-put_other q k d ms (apart q k h)
 
--- the member stands, or doesn't, as it did before
+-- the member is there, or isn't, as before
 abbrev Same : List ℕ → Members → Members → Type 0
 Same q new old = get_member q new ≡ get_member q old
 
@@ -54,7 +54,7 @@ past_error q None ms h = refl
 past_error q (Some message) ms h =
     other q (codes "errorDetail") (object (member (codes "code") (number (unsigned 13)) (member (codes "message") (string message) no_members))) ms h
 
--- ---- the member that is put, where none stood
+-- ---- the member that is put, where there was none
 
 nonce_read : (nonce : Option (List ℕ)) (ms : Members) → get_member (codes "responseNonce") ms ≡ None
     → or_default given_text None (get_member (codes "responseNonce") (with_nonce nonce ms)) ≡ Some (chosen_nonce nonce)

@@ -72,7 +72,7 @@ kind_named-url Eds = refl
 kind_named-url Lds = refl
 kind_named-url Rds = refl
 
--- a word that doesn't begin with the letter has no number behind it
+-- a word that doesn't begin with the letter has no number after it
 pub nothing_behind : (letter : ℕ) (word : List ℕ) → ((rest : List ℕ) → word ≡ letter ∷ rest → ⊥) → None ≡ number_behind letter word
 nothing_behind letter [] h = refl
 nothing_behind letter (x ∷ xs) h = rw (ne_eqb x letter (λ e. h xs (ap (λ y. y ∷ xs) e))) refl

@@ -1,4 +1,4 @@
--- The lines of a journal, and where they stop being one (kind 9). This project's own. Lines are told by their numbers,
+-- The lines of a journal, and where they stop being one (kind 9). This project's own. Lines are given by their numbers,
 -- counted from 1; `given` lines were given by the reader of lines, those of the script before the journal among them.
 use Rattle.std.specs.Prelude.{◌≡◌, ◌≢◌, ℕ, ◌+◌, ◌≤◌, ◌⊎◌, ⊤, Bool, true, false, IsTrue, List, [], ◌∷◌, ◌++◌, length, map, take, drop, All, Vec, Option, Some, None, Result, Ok, Err}
 use Rattle.std.specs.declared.alloc.Global.{Global}
@@ -26,11 +26,11 @@ use Rattle.ev_journal_read.specs.Reading.{IsNoRow}
 abbrev pub first_text : Format → ℕ → List ℕ
 first_text format workers = compact_text (first_tree format workers)
 
--- the text of the end line after so many rows
+-- the text of the end line after this many rows
 abbrev pub end_text : ℕ → List ℕ
 end_text rows = compact_text (end_tree rows)
 
--- the texts after a journal's first line: those of the rows, and of the end line where it stands
+-- the texts after a journal's first line: those of the rows, and of the end line where there is one
 abbrev pub texts_of : List Row → Bool → List (List ℕ)
 texts_of rows false = map row_text rows
 texts_of rows true = map row_text rows ++ end_text (length rows) ∷ []
@@ -45,13 +45,13 @@ pub record IsJournalTo (workers : ℕ) (first : List ℕ) (texts : List (List �
   pub meant : AreMeant rows
   pub lines : texts ≡ texts_of rows ended
 
--- after these rows, and after the end line or not, the text is in no place of a journal: nothing stands after the end
+-- after these rows, and after the end line or not, the text is in no place of a journal: nothing comes after the end
 -- line, and before it a row or the end line with the number of the rows
 abbrev pub IsMisplaced : List Row → Bool → List ℕ → Type 0
 IsMisplaced rows true text = ⊤
 IsMisplaced rows false text = IsNoRow text × (text ≢ end_text (length rows))
 
--- what is found of a first line: its format, or none where it is the first of no journal with so many workers
+-- what is found of a first line: its format, or none where it is the first of no journal with this many workers
 abbrev pub IsFirstAnswer : List ℕ → ℕ → Option Format → Type 0
 IsFirstAnswer first workers (Some format) = first ≡ first_text format workers
 IsFirstAnswer first workers None = (format : Format) → first ≢ first_text format workers
@@ -82,7 +82,7 @@ pub record IsRead (workers : ℕ) (first : List ℕ) (old new : LinesState) (byt
 
 -- ---- faults
 
--- the first line is the first of no journal with so many workers
+-- the first line is the first of no journal with this many workers
 pub record IsWrongFirst (workers : ℕ) (first : List ℕ) (old new : LinesState) (line kind : ℕ) : Type 0 where
   pub wrong : (format : Format) → first ≢ first_text format workers
   pub nothing : new ≡ old
@@ -102,7 +102,7 @@ pub record IsWrongLine (workers : ℕ) (first : List ℕ) (old new : LinesState)
   pub here : line ≡ new.given
   pub numbered : kind ≡ fault_number NotJournal
 
--- the input ends without the journal's end line: the fault is told one line above the last
+-- the input ends without the journal's end line: the fault is reported one line above the last
 pub record IsEndless (workers : ℕ) (first : List ℕ) (old new : LinesState) (bytes : List ℕ) (line kind : ℕ) : Type 0 where
   pub format : Format
   pub rows : List Row
@@ -121,7 +121,7 @@ LimitNumber limit.TooLarge kind = kind ≡ fault_number TooLarge
 LimitNumber limit.Failed kind = ⊥
 LimitNumber limit.OutOfMemory kind = ⊥
 
--- the first fault of the limits stands in the line after those given, which are a journal up to there
+-- the first fault of the limits is in the line after those given, which are a journal up to there
 pub record IsPastLimit (workers : ℕ) (first : List ℕ) (old new : LinesState) (bytes : List ℕ) (line kind : ℕ) : Type 0 where
   pub format : Format
   pub rows : List Row

@@ -18,11 +18,11 @@ use ev_types::{Format, Row};
 use std::alloc::{AllocError, Global};
 
 /// Reads the rows of a journal after its first line, whose text is `first`, to its end line, which is the last line of
-/// the input. The first line has to name so many workers.
+/// the input. The first line has to name this many workers.
 ///
 /// # Errors
 /// `Bad` with a line and its kind: kind 9 at the first line that is in no place of the journal, or one line above the
-/// last where the end line is missing; kinds 1 to 3 where a fault of the limits stands before. `Read` where a read failed
+/// last where the end line is missing; kinds 1 to 3 where a fault of the limits comes before. `Read` where a read failed
 /// before. `OutOfMemory` where there is no memory for the rows.
 pub fn read_rows<S: Source>(
     alloc: Global,
@@ -97,7 +97,7 @@ impl Body {
     }
 }
 
-// The format of a journal by its first line, where it is one for so many workers.
+// The format of a journal by its first line, where it is one for this many workers.
 fn format_of(alloc: Global, first: &[u8], workers: u32) -> Result<Option<Format>, AllocError>
     ensures { IfOk result (IsFirstAnswer first.now workers) }
 {
@@ -117,7 +117,7 @@ fn misplaced(line: u32) -> ScriptFault
     fault_at(line, FaultKind::NotJournal)
 }
 
-// How a fault of lines is told, where so many lines were given.
+// How a fault of lines is reported, where this many lines were given.
 fn script_fault(given: u32, fault: LineFault) -> ScriptFault
     requires { given < u32.MAX }
     ensures { result ≡ script_fault given fault }

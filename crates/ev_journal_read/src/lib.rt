@@ -8,11 +8,11 @@
 //! - What is proved beside is that a row's text reads back as its tree, for every tree whose numbers are whole and
 //!   below 2^64 and whose objects are sorted (`proofs/ReadBack.antt`), and the tree as the row. This takes lemmas of
 //!   the kit's JSON crates, so `json` is among the crate's own.
-//! - Reading stands above writing in a crate of its own, since `replay` needs writing alone.
+//! - Reading is above writing in a crate of its own, since `replay` needs writing alone.
 //! - An answer that is a tree is told apart by its members: `requests` (with `verdicts` or not), `version` (with
 //!   `closed` or not), `reaped`, else `result`.
-//! - Kind 9 at a line is told by the line's number as the reader of lines counts, with no place in bytes: within one
-//!   line a fault of the limits is told before the line's end is reached, and lines are looked at in their order, so
+//! - Kind 9 at a line is reported by the line's number as the reader of lines counts, with no place in bytes: within one
+//!   line a fault of the limits is reported before the line's end is reached, and lines are looked at in their order, so
 //!   the first by line and kind is the first by bytes.
 //! - `read_rows` takes the text of the first line and the number of workers, and answers the format with the rows. It
 //!   is tried as one of format 2 first.

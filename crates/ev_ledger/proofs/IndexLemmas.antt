@@ -190,7 +190,7 @@ open_at l w c es sorted =
     by None = refl
     by (Some m) = refl
 
--- the connections of ordered entries stand in order
+-- the connections of ordered entries are in order
 later : (e : (ℕ × ℕ) × (ℕ × Option ℕ)) (es : List ((ℕ × ℕ) × (ℕ × Option ℕ))) → AllByRecursion (λ y. key_order e.0 y ≡ Less) (keys_of es)
     → AllByRecursion (λ m. place_order (member_of e) m ≡ Less) (members_of es)
 later e [] all = tt

@@ -1,4 +1,4 @@
--- The open connections as the ledger has them: in one order, by worker and number, so that those of a worker stand together.
+-- The open connections as the ledger has them: in one order, by worker and number, so that those of a worker are together.
 use Rattle.std.specs.Prelude.{◌≡◌, ℕ, Bool, false, ⊤, ◌&&◌, ◌==◌, List, [], ◌∷◌, ◌++◌, length, filter, find, map, Option}
 use Rattle.std.specs.List.{list_any}
 use Rattle.std.specs.List.Sorted.{IsStrictlySortedBy}
@@ -14,7 +14,7 @@ use Rattle.ev_model.specs.Connections.{is_member, is_open}
 abbrev pub place_order : OpenMember → OpenMember → Ordering
 place_order one other = ordering_then (nat_cmp one.worker other.worker) (nat_cmp one.connection other.connection)
 
--- the first stands before the second, or they are of one worker and number
+-- the first comes before the second, or they are of one worker and number
 abbrev pub comes_before : OpenMember → OpenMember → Bool
 comes_before one other = is_le (place_order one other)
 
@@ -51,7 +51,7 @@ count_of number opened = length (filter (is_open_on number) opened)
 abbrev pub on_in : ℕ → ℕ → List OpenMember → Option (ℕ × Option ℕ)
 on_in worker connection members = option_map (λ (m : OpenMember). (m.listener, m.cluster)) (find (is_member worker connection) members)
 
--- a connection of this worker and number is among these, and stands on this listener
+-- a connection of this worker and number is among these, and is on this listener
 abbrev pub is_open_at : ℕ → ℕ → ℕ → List OpenMember → Bool
 is_open_at listener worker connection members =
     list_any (λ (m : OpenMember). is_member worker connection m && (m.listener == listener)) members
@@ -65,7 +65,7 @@ abbrev pub ArePlacesOn : ℕ → List OpenMember → List (ℕ × ℕ) → Type 
 ArePlacesOn listener members places =
     (worker connection : ℕ) → has_place worker connection places ≡ is_open_at listener worker connection members
 
--- the connections stand in the order of their workers and numbers, and no two have one
+-- the connections are in the order of their workers and numbers, and no two have one
 abbrev pub AreInOrder : List OpenMember → Type 0
 AreInOrder members = IsStrictlySortedBy place_order members
 

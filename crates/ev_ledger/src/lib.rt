@@ -2,7 +2,7 @@
 //!
 //! # Choices
 //!
-//! - The open connections stand in an ordered map by worker and number. So a worker's are listed from the least with
+//! - The open connections are in an ordered map by worker and number. So a worker's are listed from the least with
 //!   no sort and no second index, and the ledger's value is one list: that of the world, by worker and number. A
 //!   world's list is in the order of opening, which nothing asks for. The counts are an `indexmap` by number, with no
 //!   entry where nothing is open.

@@ -12,7 +12,7 @@ use std::collections::BTreeMap;
 /// 64 bits here, so that there is one above each.
 pub(crate) type Members = BTreeMap<(u64, u64), (Gen, Option<Gen>)>;
 
-/// Puts a connection among the others. Out of memory, they stay as they were.
+/// Adds a connection to the others. Out of memory, they stay as they were.
 pub(crate) fn put(
     members: &mut Members,
     place: (u64, u64),
@@ -39,7 +39,7 @@ pub(crate) fn take(members: &mut Members, place: (u64, u64)) -> Option<(Gen, Opt
     ensures left { SetsAt place None members.old.entries members.new.entries }
     ensures ordered { IsOrdered key_order members.old }
 {
-    // They stand in the order of their places.
+    // They are in the order of their places.
     let _ = members.len();
     members.remove(&place)
 }
@@ -49,7 +49,7 @@ pub(crate) fn found(members: &Members, place: (u64, u64)) -> Option<(Gen, Option
     ensures found { result ≡ lookup (is_at (key_order place)) members.now.entries }
     ensures ordered { IsOrdered key_order members.now }
 {
-    // They stand in the order of their places.
+    // They are in the order of their places.
     let _ = members.len();
     members.get(&place).copied()
 }
@@ -79,7 +79,7 @@ pub(crate) fn held(
     ensures held { IfOk result (λ held. held.items ≡ map held_at (filter (is_at_worker worker) members.now.entries)) }
     ensures ordered { IsOrdered key_order members.now }
 {
-    // They stand in the order of their places.
+    // They are in the order of their places.
     let _ = members.len();
     members
         .range((worker, 0)..(worker + 1, 0))

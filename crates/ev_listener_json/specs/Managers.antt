@@ -1,6 +1,6 @@
 -- HTTP connection managers
 -- (`envoy.extensions.filters.network.http_connection_manager.v3.HttpConnectionManager`): their routes come by
--- the route discovery service (`rds`), or stand in them (`route_config`).
+-- the route discovery service (`rds`), or are given in them (`route_config`).
 use Rattle.std.specs.Prelude.{ℕ, ◌||◌, ◌&&◌, List, [], ◌∷◌, Bool, not, if◌then◌else◌, codes}
 use Rattle.serde_json.specs.Data.{Data}
 use Rattle.ev_types.specs.declared.listeners.Serve.{Serve}
@@ -29,7 +29,7 @@ rds_source_of manager = inside (object_of (codes "config_source") (rds_of manage
 unfoldable pub route_name_of : Data → List ℕ
 route_name_of manager = given_or [] (text_of (codes "route_config_name") (rds_of manager))
 
--- the routes that stand in the manager: none where no `route_config` is given
+-- the routes given in the manager: none where no `route_config` is given
 unfoldable pub inline_of : Data → Data
 inline_of manager = inside (object_of (codes "route_config") manager)
 

@@ -1,4 +1,4 @@
--- What a filter chain's match asks of the connection's source, which no script tells: only whether it asks is read.
+-- What a filter chain's match asks of the connection's source, which no script says: only whether it asks is read.
 use Rattle.std.specs.Prelude.{ℕ, ◌||◌, ◌==◌, List, length, Bool, not, nat_lt, if◌then◌else◌, Option, Some, None, is_some, codes}
 use Rattle.std.specs.List.{list_all}
 use Rattle.std.specs.Str.{bytes_eq}

@@ -6,17 +6,17 @@
 //!   so a wrong form inside it isn't V6. As Envoy reads it, it is read but for its match.
 //! - Rules below V16 are looked for in all chains and all filters: of two chains of which one asks for routes by an
 //!   empty name the answer is V2.
-//! - A filter serves where it is worth something to serve: so V17 counts the filters that are, and no second test
-//!   stands beside it.
+//! - A filter serves where it is worth something to serve: so V17 counts the filters that are, and there is no second
+//!   test beside it.
 //! - What a chain serves and breaks is public (`inspect_chain`), so that a chain can be read by itself without a
-//!   change here. `read_chain` is the reader without V16, for chains that stand beside others and have a match.
+//!   change here. `read_chain` is the reader without V16, for chains that are beside others and have a match.
 //! - V17 is asked of each chain. Where there isn't exactly one chain, V16 is broken, so this shows only with one.
 //! - A `typed_config` that is absent or has no `@type` makes its filter one that is passed over; an `@type` that
 //!   isn't text is V6.
 //! - A chain without a filter that serves stands for a table with no hosts in the definition of the value; it breaks
 //!   V16 or V17, so this never shows.
 //! - A match with all its criteria is read by `inspect_filter_chain_match`. Of the source it keeps only whether it is
-//!   asked for, since no script tells where a connection comes from. A range that is none stands for all IPv4
+//!   asked for, since no script says where a connection comes from. A range that is none stands for all IPv4
 //!   addresses in the definition of the value; it breaks V16, so this never shows.
 //! - `source_ports` and `source_type` have readers here, since ev_tree has none for a list of numbers, nor this enum.
 //! - By the own rules a TCP proxy's other specifiers (`cluster_header` and the like) break V22 as in a route: it is the

@@ -27,7 +27,7 @@ fn has_star(name: &[u8]) -> bool
     name.iter().any(|byte| *byte == b'*')
 }
 
-// What stands after a leading `*.` that something follows.
+// What comes after a leading `*.` that something follows.
 fn after_star(name: &[u8]) -> &[u8]
     ensures { result.now ≡ after_star name.now }
 {

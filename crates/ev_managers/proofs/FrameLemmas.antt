@@ -103,7 +103,7 @@ statuses_leave kind status_of keeps (row ∷ rows) = by (kind_same row.kind kind
     by true of rest = λ i. record row { status = keeps row of i } ∷ rest i
     by false other rest = rest
 
--- rows of another kind behind them
+-- rows of another kind after them
 more_leave : (kind : Kind) (rows : List GenRow) (row : GenRow) → kind_same row.kind kind ≡ false → rows_of_kind kind (rows ++ row ∷ []) ≡ rows_of_kind kind rows
 more_leave kind rows row other =
     filter-append (λ (r : GenRow). kind_same r.kind kind) rows (row ∷ [])
@@ -247,7 +247,7 @@ module _ (other kind : Kind) (apart : IsApart other kind) where
       leaves_then kind world (with_removals other response world) _ (removals_leave response world)
       (items_leave (zip verdicts response.items) (with_removals other response world))
 
--- a row of a number that is found stands among those numbers
+-- a row of a number that is found is among those numbers
 found_among : (n : ℕ) (rows : List GenRow) → IsSome (row_in n rows) → is_among (numbers_of rows) n ≡ true
 found_among n [] there = absurd (false≢true there)
 found_among n (row ∷ rows) there = by (nat_eq n row.number) there (λ rest. found_among n rows rest)
@@ -430,7 +430,7 @@ keeps : (kind : Kind) (made : ℕ) (m : Manager) (before after : World) → IsMa
 keeps kind made m before after is has sound leaves same =
     stays m.state before after has sound (subst (λ (k : Kind). Leaves k before after) (sym is.rows) leaves) (same_results m.state before after same)
 
--- both stand for a world that one of them followed to, where the other sees nothing of it, and no number was drawn, or so many were
+-- both stand for a world that one of them followed to, where the other sees nothing of it, and no number was drawn, or this many were
 pub stand-with : (m : Managers) (kind : Kind) (own : Manager) (before after : World) → AreKept m → StandFor m before → StandsFor own.state after
     → after.made ≡ before.made → Leaves (others_of kind) before after → after.results ≡ before.results → StandFor (with_manager m kind own) after
 stand-with m Cds own before after kept stand has made leaves same =

@@ -51,7 +51,7 @@ retired-with m Lds own numbers told n =
 retired-with m Rds own numbers told n =
     told n ∙ (λ i. none-retired m.clusters.state.table.rows m.clusters.state.table.rows refl n i || has_retired n m.listeners.state.table.rows own.state.table.rows)
 
--- those that stood under a name that has come to its end
+-- those that were live under a name that has come to its end
 pub ended-are : (s : State) (name numbers : List ℕ) (warming active : Option ℕ) (after : List GenRow) → IsIndexed s
     → option_to_list warming ≡ numbers_where (warms name) s.table.rows → option_to_list active ≡ numbers_where (serves name) s.table.rows
     → after ≡ rows_ended s.kind name s.table.rows → numbers ≡ option_to_list warming ++ option_to_list active

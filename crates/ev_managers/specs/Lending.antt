@@ -7,6 +7,6 @@ use Rattle.ev_managers.specs.declared.managers.Managers.{Managers}
 use Rattle.ev_managers.specs.contracts.managers.Managers.{the_row}
 use Rattle.ev_managers.specs.Managers.{with_manager}
 
--- both end with the last value behind r for the manager of this kind
+-- both end with the last value after r for the manager of this kind
 abbrev pub LendsManager : MutBor Managers → Kind → MutBor Manager → Fml
 LendsManager m kind r = Lends the_row manager_row m r (with_manager m.now kind)

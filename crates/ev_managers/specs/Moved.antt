@@ -24,7 +24,7 @@ is_moved number before after = began_to_serve number before after || began_to_dr
 abbrev pub Grows : List ℕ → List ℕ → (ℕ → Bool) → Type 0
 Grows numbers more test = (number : ℕ) → is_among more number ≡ (is_among numbers number || test number)
 
--- the rows that began to drain are told to have retired, and these and those that came to serve, to have changed
+-- the rows that began to drain are reported to have retired, and these and those that came to serve, to have changed
 pub record TellsPromoted (before after : State) (moved more : Moved) : Type 0 where
   pub retired : Grows moved.retired more.retired (λ number. began_to_drain number before.table.rows after.table.rows)
   pub changed : Grows moved.changed more.changed (λ number. is_moved number before.table.rows after.table.rows)

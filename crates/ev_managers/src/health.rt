@@ -10,7 +10,7 @@ use std::sync::ledger::Ledger;
 
 impl Managers {
     /// A health result of a host of a cluster; of listeners there are none. Answers whether it is for a generation; where it is for
-    /// none, all stays as it was. Without memory nothing is promised.
+    /// none, all stays as it was. Out of memory, nothing is promised.
     pub fn health<L: Ledger>(
         &mut self,
         alloc: Global,

@@ -17,7 +17,7 @@ use ev_warming::Manager;
 use std::alloc::{AllocError, Global};
 use std::sync::ledger::Ledger;
 
-/// The cluster manager and the listener manager, and how many numbers were drawn for generations of both. After want of memory
+/// The cluster manager and the listener manager, and how many numbers were drawn for generations of both. Once out of memory,
 /// nothing is promised of them: their holder makes them anew, out of the journal.
 #[derive(Drop)]
 pub struct Managers {
@@ -70,7 +70,7 @@ impl Managers {
     }
 
     /// Each generation that is due serves, and the one that served its name before it drains. The ones that drain are put to those
-    /// that retired, and both to those that changed. Without memory nothing is promised.
+    /// that retired, and both to those that changed. Out of memory, nothing is promised.
     pub fn promote<L: Ledger>(
         &mut self,
         alloc: Global,
@@ -87,7 +87,7 @@ impl Managers {
         Ok(())
     }
 
-    /// Forgets what nobody needs any more. Without memory nothing is promised.
+    /// Forgets what nobody needs any more. Out of memory, nothing is promised.
     pub fn forget<L: Ledger>(
         &mut self,
         alloc: Global,

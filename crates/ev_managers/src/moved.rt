@@ -12,11 +12,11 @@ use std::alloc::{AllocError, Global};
 use std::sync::ledger::Ledger;
 
 /// What an event moves: which generations began to drain or were dropped, and of which a picture may show something else than before.
-/// A number is of one kind, so clusters and listeners stand in one list.
+/// A number is of one kind, so clusters and listeners are in one list.
 #[derive(Drop)]
 pub struct Moved {
     pub retired: Seq<Gen>,
-    /// A number may stand among these more than once.
+    /// A number may be among these more than once.
     pub changed: Seq<Gen>,
 }
 
@@ -42,7 +42,7 @@ impl Moved {
     }
 }
 
-/// Each generation of a manager that is due serves, and the one that served its name before it drains; both are told.
+/// Each generation of a manager that is due serves, and the one that served its name before it drains; both are reported.
 pub(crate) fn promote<L: Ledger>(
     manager: &mut Manager,
     alloc: Global,

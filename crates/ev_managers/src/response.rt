@@ -13,7 +13,7 @@ use std::sync::ledger::Ledger;
 
 impl Managers {
     /// A response of this kind, with the verdicts on its resources: removals first, then its resources in order. Answers
-    /// which generations retired. Without memory nothing is promised.
+    /// which generations retired. Out of memory, nothing is promised.
     pub fn respond<L: Ledger>(
         &mut self,
         alloc: Global,

@@ -15,7 +15,7 @@ use std::alloc::{AllocError, Global};
 use std::sync::ledger::Ledger;
 
 impl Managers {
-    /// Something came for a name of endpoints or of routes that a live generation depends on. Without memory nothing is promised.
+    /// Something came for a name of endpoints or of routes that a live generation depends on. Out of memory, nothing is promised.
     pub fn arrive<L: Ledger>(
         &mut self,
         alloc: Global,
@@ -37,7 +37,7 @@ impl Managers {
     }
 
     /// What a name of this kind stands for has come to its end: a cluster or listener goes as if it were removed, and endpoints or
-    /// routes become none, where the name is watched. Answers which generations retired. Without memory nothing is promised.
+    /// routes become none, where the name is watched. Answers which generations retired. Out of memory, nothing is promised.
     pub fn end<L: Ledger>(
         &mut self,
         alloc: Global,
@@ -122,7 +122,7 @@ fn none_of(alloc: Global, kind: Kind) -> Result<Arrival, AllocError>
     }
 }
 
-// The numbers of the generations that stood under a name.
+// The numbers of the generations that were live under a name.
 fn stood(alloc: Global, standing: Standing) -> Result<Seq<Gen>, AllocError>
     ensures { IfOk result (λ numbers. numbers ≡ option_to_list standing.warming ++ option_to_list standing.active) }
 {
@@ -132,7 +132,7 @@ fn stood(alloc: Global, standing: Standing) -> Result<Seq<Gen>, AllocError>
     Ok(numbers)
 }
 
-// Puts a number to the others, where there is one.
+// Adds a number to the others, where there is one.
 fn put_one(numbers: &mut Seq<Gen>, number: Option<Gen>) -> Result<(), AllocError>
     ensures { OnOk result (numbers.new ≡ numbers.old ++ option_to_list number) }
 {

@@ -37,7 +37,7 @@ twice_by : (same : Bool) (n : ℕ) → nat_le 2 (more_count same n) ≡ ((same &
 twice_by true n = grind (arith, common_steps)
 twice_by false n = refl
 
--- the names that stand at some resources, with one more
+-- the names that some resources have, with one more
 pub named_more : (items : List ItemParts) (i : ℕ) (item : ItemParts) (text : List ℕ) (old new : List ℕ → Bool)
     → i < length items → item ≡ get_or items i item → text ≡ item.name
     → ((q : List ℕ) → new q ≡ (bytes_eq text q || old q)) → ((q : List ℕ) → old q ≡ nat_le 1 (length (items_named q (take i items))))
@@ -55,7 +55,7 @@ at_same text q old = by (bytes_eq text q) (bytes_eq-Decides text q).0
     by true same = ap old (same refl)
     by false same = refl
 
--- the names that stand at two or more, with one more
+-- the names that two or more have, with one more
 pub twice_more : (items : List ItemParts) (i : ℕ) (item : ItemParts) (text : List ℕ) (named old new : List ℕ → Bool)
     → i < length items → item ≡ get_or items i item → text ≡ item.name
     → ((q : List ℕ) → new q ≡ ((bytes_eq text q && named text) || old q))

@@ -5,7 +5,7 @@ use Rattle.indexmap.specs.IndexSet.{IndexSet, contains}
 use Rattle.ev_types.specs.Items.{ItemParts, ResponseParts}
 use Rattle.ev_model.specs.Verdicts.{items_named, is_among}
 
--- the set has the names of which so many resources stand here, or more
+-- the set has the names that this many resources here have, or more
 abbrev pub HasNamed : ℕ → List ItemParts → (List ℕ → Bool) → Type 0
 HasNamed count items has = (name : List ℕ) → has name ≡ nat_le count (length (items_named name items))
 
@@ -13,7 +13,7 @@ HasNamed count items has = (name : List ℕ) → has name ≡ nat_le count (leng
 abbrev pub Puts : {S : Type 0} → IndexSet (List ℕ) S → IndexSet (List ℕ) S → List ℕ → Type 0
 Puts old new name = (other : List ℕ) → contains bytes_eq new other ≡ (bytes_eq name other || contains bytes_eq old other)
 
--- the name is put into the second set, which keeps its others, where it stands in the first
+-- the name is put into the second set, which keeps its others, where it is in the first
 abbrev pub PutsAgain : {S : Type 0} → IndexSet (List ℕ) S → IndexSet (List ℕ) S → IndexSet (List ℕ) S → List ℕ → Type 0
 PutsAgain first old new name =
     (other : List ℕ) → contains bytes_eq new other ≡ (bytes_eq name other && contains bytes_eq first name || contains bytes_eq old other)

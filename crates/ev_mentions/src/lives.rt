@@ -1,7 +1,7 @@
 use ev_types::{Content, Gen, Kind};
 use std::marker::Model;
 
-/// A live generation: one that warms or serves. Its name and content are borrowed from where they stand.
+/// A live generation: one that warms or serves. Its name and content are borrowed from where they are.
 #[derive(Drop)]
 pub struct LiveRow<'a> {
     /// `Cds` for a cluster, `Lds` for a listener.

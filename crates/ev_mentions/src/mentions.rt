@@ -66,7 +66,7 @@ impl<'a> Mentions<'a> {
         self.twice.contains(&NameKey::new(name))
     }
 
-    /// Whether the name stands among the removed names.
+    /// Whether the name is among the removed names.
     pub fn is_listed(&self, name: &str) -> bool
         ensures { result ≡ is_among name.now self.now.removed }
     {
@@ -74,7 +74,7 @@ impl<'a> Mentions<'a> {
         self.removed.contains(&NameKey::new(name))
     }
 
-    /// Whether the response removes the name: it stands among the removed names and at no resource. A name that stands in both
+    /// Whether the response removes the name: it is among the removed names and no resource has it. A name that is in both
     /// isn't removed.
     pub fn is_removed(&self, name: &str) -> bool
         ensures { result ≡ is_removed self.now name.now }
@@ -85,7 +85,7 @@ impl<'a> Mentions<'a> {
     }
 }
 
-// Notes which names stand at resources, and which at two or more.
+// Notes which names resources have, and which two or more have.
 fn note_all<'a>(
     items: &'a [Item],
     named: &mut IndexSet<NameKey<'a>>,

@@ -127,7 +127,7 @@ abbrev pub is_accept : Event → Bool
 is_accept (Accept ask) = true
 is_accept event = false
 
--- the version that a settle has told
+-- the version that a settle has reported
 abbrev pub version_settled : Answer → Option ℕ
 version_settled (Settled closed version) = Some version
 version_settled answer = None

@@ -20,11 +20,11 @@ use Rattle.ev_model.specs.Operations.{Operation, Deed, actor_same, is_settle, is
 abbrev pub row_of : Entry → Row
 row_of entry = record { actor = entry.actor; at = entry.at; step = entry.step; op = op_of entry.event; answer = entry.answer }
 
--- the row tells of this operation
+-- the row records this operation
 abbrev pub tells_of : Row → Operation → Bool
 tells_of row o = (row.at == o.at) && (row.step == o.step) && op_same row.op (op_of o.event)
 
--- the operation of the script that a row tells of
+-- the operation of the script that a row records
 abbrev pub operation_told : ScriptParts → Row → Option Operation
 operation_told script row = find (tells_of row) (operations_of script row.actor)
 
@@ -36,7 +36,7 @@ entry_told script row = option_map (λ o. entry_of o row.answer) (operation_told
 abbrev pub journal_told : ScriptParts → List Row → List Entry
 journal_told script rows = filter_map (entry_told script) rows
 
--- the operations of an actor that stand after all of its entries
+-- the operations of an actor that come after all of its entries
 abbrev pub operations_left : ScriptParts → List Entry → Actor → List Operation
 operations_left script journal actor =
     filter (λ o. list_all (λ done. is_earlier done o) (entries_of journal actor)) (operations_of script actor)
@@ -67,7 +67,7 @@ next_operations format script journal actor = take (passed format script journal
 abbrev pub is_unfinished : Format → ScriptParts → List Entry → Actor → Bool
 is_unfinished format script journal actor = nat_lt (passed format script journal actor) (length (operations_left script journal actor))
 
--- the row isn't the script's: it tells of no operation of its actor that may come next
+-- the row isn't the script's: it records no operation of its actor that may come next
 abbrev pub is_stray : Format → ScriptParts → List Entry → Row → Bool
 is_stray format script journal row = not (list_any (tells_of row) (next_operations format script journal row.actor))
 

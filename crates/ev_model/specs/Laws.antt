@@ -48,7 +48,7 @@ pub record Told : Type 0 where
 abbrev pub world_told : Told → ℕ → World
 world_told told k = world_at told.format told.workers told.node told.journal k
 
--- the entry stands at place k, from 0
+-- the entry is at place k, from 0
 abbrev pub IsEntryAt : Told → ℕ → Entry → Type 0
 IsEntryAt told k entry = slice_get told.journal k ≡ Some entry
 
@@ -276,7 +276,7 @@ pub record StandsAt (told : Told) (k number : ℕ) (kind : Kind) (name : List �
   pub named : row.name ≡ name
   pub stands : row.status ≡ status
 
--- between the places j and k stands a drain timeout of the name that was done
+-- between the places j and k there is a drain timeout of the name that was done
 pub record DrainsBetween (told : Told) (j k : ℕ) (name : List ℕ) : Type 0 where
   pub place : ℕ
   pub from : j ≤ place

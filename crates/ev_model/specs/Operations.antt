@@ -38,7 +38,7 @@ step_behind line step event = record { actor = line.actor; at = line.at; step = 
 abbrev pub last_settle : ScriptParts → ℕ → Operation
 last_settle script worker = record { actor = Worker worker; at = script.count + 1; step = 0; event = Settle }
 
--- the two are one actor
+-- the two are the same actor
 abbrev pub actor_same : Actor → Actor → Bool
 actor_same Stream Stream = true
 actor_same Health Health = true
@@ -89,12 +89,12 @@ abbrev pub is_since_settle : List Line → Line → Line → Bool
 is_since_settle lines line other =
     is_batched other.event && actor_same other.actor line.actor && nat_le other.at line.at && not (list_any (settles_between other line) lines)
 
--- so many accepts and closes a batch may have
+-- this many accepts and closes a batch may have
 abbrev pub batch_limit : ℕ
 batch_limit = 256
 
--- A batch is full at a line: it is an accept or close, and with it those since the worker's last settle line are so many.
--- A settle is forced after each full batch, so twice so many make a full batch again, and so on.
+-- A batch is full at a line: it is an accept or close, and with it those since the worker's last settle line are that many.
+-- A settle is forced after each full batch, so twice as many make a full batch again, and so on.
 abbrev pub is_full_at : List Line → Line → Bool
 is_full_at lines line = is_batched line.event && (length (filter (is_since_settle lines line) lines) % batch_limit == 0)
 
@@ -116,11 +116,11 @@ all_operations script = flat_map (line_operations script) script.lines ++ map (l
 abbrev pub operations_of : ScriptParts → Actor → List Operation
 operations_of script actor = filter (λ (o : Operation). actor_same o.actor actor) (all_operations script)
 
--- the first operation stands before the second, by line and step
+-- the first operation comes before the second, by line and step
 abbrev pub is_earlier : Operation → Operation → Bool
 is_earlier a b = nat_lt a.at b.at || ((a.at == b.at) && nat_lt a.step b.step)
 
--- a settle of the same actor stands between the two
+-- a settle of the same actor is between the two
 abbrev pub is_settle_between : Operation → Operation → Operation → Bool
 is_settle_between first last o = is_settle o.event && actor_same o.actor last.actor && is_earlier first o && is_earlier o last
 

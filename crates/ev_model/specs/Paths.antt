@@ -4,7 +4,7 @@ use Rattle.std.specs.Str.{bytes_eq}
 use Rattle.ev_types.specs.declared.routes.PathMatch.{PathMatch}
 use Rattle.ev_types.specs.declared.routes.PathMatch.TheVariants.{Prefix, Path, Separated}
 
--- the text begins with the front
+-- the text begins with the prefix
 abbrev pub begins_with : List ℕ → List ℕ → Bool
 begins_with text front = bytes_eq (take (length front) text) front
 

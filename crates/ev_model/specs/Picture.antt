@@ -153,7 +153,7 @@ shown_same a b = pointwise served_cluster_same a.clusters b.clusters && pointwis
 abbrev pub numbers_shown : Shown → List ℕ
 numbers_shown shown = map (λ (c : ServedCluster). c.number) shown.clusters ++ map (λ (l : ServedListener). l.number) shown.listeners
 
--- the number stands among these
+-- the number is among these
 abbrev pub has_number : ℕ → List ℕ → Bool
 has_number number numbers = list_any (λ n. n == number) numbers
 

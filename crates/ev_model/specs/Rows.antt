@@ -73,7 +73,7 @@ abbrev pub absent_names : Kind → ResponseParts → World → List (List ℕ)
 absent_names kind response world =
     filter (λ name. is_removed response name && is_watched (lives_of world) kind name) response.removed
 
--- a watched name of endpoints or routes that a response removes is told of; its value stays, and its version goes
+-- a watched name of endpoints or routes that a response removes is reported; its value stays, and its version goes
 abbrev pub with_absences : Kind → ResponseParts → World → World
 with_absences kind response world = record world {
   arrivals = world.arrivals ++ map (arrived world.made kind Absent) (absent_names kind response world);
@@ -125,7 +125,7 @@ with_content change (Good content) world = change content world
 with_content change (Bad rule) world = world
 with_content change Beat world = world
 
--- a watched name whose resource was refused is told of
+-- a watched name whose resource was refused is reported
 abbrev pub told_of_refusal : Kind → List ℕ → World → World
 told_of_refusal kind name world =
     if is_watched (lives_of world) kind name

@@ -26,7 +26,7 @@ RunsFrom format workers world (entry ∷ entries) =
     × (entry.answer ≡ (step format world entry.actor entry.event).1)
     × RunsFrom format workers (step format world entry.actor entry.event).0 entries
 
--- an accept or a close: it stands in a batch of its worker, which a settle ends
+-- an accept or a close: it is in a batch of its worker, which a settle ends
 abbrev pub is_batched : Event → Bool
 is_batched Connect = false
 is_batched Disconnect = false
@@ -46,7 +46,7 @@ abbrev pub GoesOnWith : Actor → List Entry → Type 0
 GoesOnWith actor [] = ⊥
 GoesOnWith actor (entry ∷ entries) = entry.actor ≡ actor
 
--- no batch is broken: directly after an accept or a close stands an entry of the same worker
+-- no batch is broken: directly after an accept or a close comes an entry of the same worker
 abbrev pub IsUnbroken : List Entry → Type 0
 IsUnbroken [] = ⊤
 IsUnbroken (entry ∷ entries) = (is_batched entry.event ≡ true → GoesOnWith entry.actor entries) × IsUnbroken entries

@@ -1,7 +1,7 @@
 -- Lists in order.
 use Rattle.std.specs.Prelude.{Bool, if◌then◌else◌, List, [], ◌∷◌}
 
--- an element goes before the first that it may stand before
+-- an element goes before the first that it may come before
 abbrev pub put_by : {A : Type 0} → (A → A → Bool) → A → List A → List A
 put_by may_precede one [] = one ∷ []
 put_by may_precede one (other ∷ others) =

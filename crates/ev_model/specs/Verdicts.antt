@@ -27,11 +27,11 @@ use Rattle.ev_model.specs.Watching.{is_by_name, is_watched}
 abbrev pub items_named : List ℕ → List ItemParts → List ItemParts
 items_named name items = filter (λ (item : ItemParts). bytes_eq item.name name) items
 
--- the name stands among these
+-- the name is among these
 abbrev pub is_among : List ℕ → List (List ℕ) → Bool
 is_among name names = list_any (λ n. bytes_eq n name) names
 
--- the name is removed: it stands in the list of removed names and at no item
+-- the name is removed: it is in the list of removed names and no item has it
 abbrev pub is_removed : ResponseParts → List ℕ → Bool
 is_removed response name = is_among name response.removed && (not (nat_le 1 (length (items_named name response.items))))
 
@@ -50,7 +50,7 @@ stale_rule kind lives versions item (Bad rule) = None
 stale_rule kind lives versions item Beat =
     if not (is_kept versions kind item.name item.version) && is_heard kind lives item.name then Some 1 else None
 
--- 4: the name stands twice in the response
+-- 4: the name occurs twice in the response
 abbrev pub twice_rule : ResponseParts → ItemParts → Option ℕ
 twice_rule response item = if nat_le 2 (length (items_named item.name response.items)) then Some 4 else None
 

@@ -1,5 +1,5 @@
 -- The versions that are kept, one for each kind and name. Source: the xDS transport protocol, incremental variant: a client
--- may tell the versions that it holds when a stream begins, and a resource may have a time to live, which a heartbeat of the
+-- may state the versions that it holds when a stream begins, and a resource may have a time to live, which a heartbeat of the
 -- version that is held renews. Whether a resource's life is bounded is a mark of its version: it goes with it.
 use Rattle.std.specs.Prelude.{ℕ, Bool, true, not, ◌&&◌, if◌then◌else◌, List, [], ◌∷◌, filter, map}
 use Rattle.std.specs.List.{list_any}
@@ -14,11 +14,11 @@ use Rattle.ev_types.specs.Kinds.{kind_same}
 abbrev pub is_version_of : Kind → List ℕ → KeptVersion → Bool
 is_version_of kind name kept = kind_same kept.kind kind && bytes_eq kept.name name
 
--- the first text stands before the second in the order of their bytes
+-- the first text comes before the second in the order of their bytes
 abbrev pub is_before : List ℕ → List ℕ → Bool
 is_before a b = is_lt (slice_cmp nat_cmp a b)
 
--- the versions with this one: in the place of the one that was kept for its kind and name, or among them by name
+-- the versions with this one: in place of the one that was kept for its kind and name, or among them by name
 abbrev pub with_version : KeptVersion → List KeptVersion → List KeptVersion
 with_version new [] = new ∷ []
 with_version new (kept ∷ others) =

@@ -62,7 +62,7 @@ is_timeout Bad = false
 is_timeout TimedOut = true
 is_timeout (Ended content) = false
 
--- the name was told of, by what came
+-- the name was reported, by what came
 abbrev pub is_told_by : List Arrived → Kind → List ℕ → Bool
 is_told_by arrivals kind name = list_any is_word (came_for arrivals kind name)
 
@@ -116,7 +116,7 @@ rows_in (Some (an_assignment rows)) = rows
 rows_in (Some (a_listener listener)) = []
 rows_in (Some (routes table)) = []
 
--- the hosts that stand in a cluster, or the value of its service, or none
+-- the hosts given in a cluster, or the value of its service, or none
 abbrev pub discovered : List Arrived → Discovery → List HostRowParts
 discovered arrivals (Static rows) = rows
 discovered arrivals (by_eds service limited fresh) = rows_in (value_by arrivals Eds service)

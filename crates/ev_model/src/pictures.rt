@@ -240,7 +240,7 @@ impl TryCopy for Picture {
 pub enum Taken {
     No,
     Yes,
-    /// That hangs on what no script tells.
+    /// That depends on what no script says.
     Undecided,
 }
 

@@ -40,7 +40,7 @@ any_unless p q other (x ∷ xs) so h =
     (λ more. or_right (q x || list_any q xs) other more) (any_unless p q other xs so rest))
     h
 
--- of two lists behind one another
+-- of two lists, one after the other
 pub any_behind : {X P : Type 0} (p : X → Bool) (xs ys : List X) → (list_any p xs ≡ true → P) → (list_any p ys ≡ true → P)
     → list_any p (xs ++ ys) ≡ true → P
 any_behind p xs ys first second h = or_so (list_any p xs) (list_any p ys) first second (sym (list_any-append p xs ys) ∙ h)
@@ -123,7 +123,7 @@ any_in_order p precedes (x ∷ xs) h =
     (or_so (p x) (list_any p xs) (λ first. or_left (p x) (list_any p (sorted_by precedes xs)) first)
     (λ rest. or_right (p x) (list_any p (sorted_by precedes xs)) (any_in_order p precedes xs rest)) h)
 
--- what passes a test and is kept stands among what a filter leaves
+-- what passes a test and is kept is among what a filter leaves
 pub any_passing : {X : Type 0} (p keeps : X → Bool) (xs : List X) → list_any (λ x. p x && keeps x) xs ≡ true → list_any p (filter keeps xs) ≡ true
 any_passing p keeps [] h = h
 any_passing p keeps (x ∷ xs) h =
@@ -151,7 +151,7 @@ any_either p q (x ∷ xs) within without h =
     (λ there. without (or_right (p x && not (q x)) (list_any (λ x. p x && not (q x)) xs) there)))
     h
 
--- what each element that passes tells
+-- what follows of each element that passes
 pub any_tells : {X : Type 0} (p : X → Bool) (told : Bool) (xs : List X) → ((x : X) → p x ≡ true → told ≡ true) → list_any p xs ≡ true → told ≡ true
 any_tells p told [] tells h = absurd (false≢true h)
 any_tells p told (x ∷ xs) tells h = or_so (p x) (list_any p xs) (tells x) (any_tells p told xs tells) h

@@ -54,13 +54,13 @@ batch_of_own os last =
     ap (λ b. is_batched o.event && actor_same o.actor last.actor && is_earlier o last && not b)
     (any_through (is_settle_between o last) (λ (p : Operation). actor_same p.actor last.actor) (λ p h. between_actor o last p h) os)))
 
--- each accept or close has a settle behind it
+-- each accept or close has a settle after it
 abbrev AreSettled : List Operation → Type 0
 AreSettled before =
     (o : Operation) → IsIn o before → is_batched o.event ≡ true
     → (settle : Operation) × IsIn settle before × (is_settle settle.event ≡ true) × (is_earlier o settle ≡ true)
 
--- what stands in the group of an actor's operations: these, the batch that is open, and those behind
+-- what is in the group of an actor's operations: these, the batch that is open, and those after it
 record IsGrouped (actor : Actor) (os before pending rest : List Operation) : Type 0 where
   all : before ++ (pending ++ rest) ≡ os
   rising : IsRising os
@@ -87,7 +87,7 @@ pub false_if : (b : Bool) → (b ≡ true → ⊥) → b ≡ false
 false_if true h = absurd (h refl)
 false_if false h = refl
 
--- what stands before the open batch is in no batch that ends behind it
+-- what comes before the open batch is in no batch that ends after it
 before_out : (actor : Actor) (os before pending rest : List Operation) (o : Operation) → IsGrouped actor os before pending (o ∷ rest)
     → (x : Operation) → IsIn x before → is_in_batch os o x ≡ false
 before_out actor os before pending rest o g x is = by_test (is_batched x.event) refl
@@ -106,12 +106,12 @@ before_out actor os before pending rest o g x is = by_test (is_batched x.event) 
         (ap not (any_at (is_settle_between x o) some.0 os there between))
     by_test false h = ap (λ b. b && actor_same x.actor o.actor && is_earlier x o && not (list_any (is_settle_between x o) os)) h
 
--- what stands behind isn't earlier
+-- what comes after isn't earlier
 pub not_before : (o : Operation) (rest : List Operation) → IsRising (o ∷ rest) → (x : Operation) → IsIn x (o ∷ rest) → is_earlier x o ≡ false
 not_before o rest rising x (inl e) = subst (λ y. is_earlier y o ≡ false) e (not_itself o)
 not_before o rest rising x (inr is) = not_back o x (at_in (Earlier o) x rest rising.0 is)
 
--- nor is what stands behind
+-- nor is what comes after
 behind_out : (os : List Operation) (o : Operation) (rest : List Operation) → IsRising (o ∷ rest)
     → (x : Operation) → IsIn x (o ∷ rest) → is_in_batch os o x ≡ false
 behind_out os o rest rising x is =
@@ -223,7 +223,7 @@ ended actor os before pending rest o g h = record {
         (some.0, in_front some.0 before (pending ++ o ∷ []) some.1, some.2, some.3)
     by_part x batch (inr later) = at_later x batch (in_parts x pending (o ∷ []) later)
 
--- where the last operation of all is no accept or close, the groups behind are what is left
+-- where the last operation of all is no accept or close, the groups after it are what is left
 grouped_by : (actor : Actor) (os before pending rest : List Operation) (o : Operation) (batched : Bool) → is_batched o.event ≡ batched
     → IsGrouped actor os before pending (o ∷ rest)
     → (IsGrouped actor os before (pending ++ o ∷ []) rest → flat_map (with_batch os) (filter (λ (p : Operation). not (is_batched p.event)) rest) ≡ (pending ++ o ∷ []) ++ rest)

@@ -48,7 +48,7 @@ use Rattle.ev_model_laws.proofs.VerdictLemmas.{fits, judged_by, verdict_fits}
 use Rattle.ev_model_laws.proofs.EventLemmas.{step-leads}
 use Rattle.ev_model_laws.proofs.PlaceLemmas.{take_one, IsAnswered, world_next}
 
--- it is one of endpoints or routes of a name that was told of, or one of clusters or listeners
+-- it is one of endpoints or routes of a name that was reported, or one of clusters or listeners
 abbrev IsVersionTold : List Entry → KeptVersion → Type 0
 IsVersionTold entries kept = is_by_name kept.kind ≡ true → was_told entries kept.kind kept.name ≡ true
 
@@ -298,7 +298,7 @@ answered_come entries kind response world so come =
     (recursion_from_All (λ (one : Verdict × ItemParts). (name : List ℕ) → is_word_on name one.0 one.1 ≡ true → told name ≡ true) judged words)
     (removals_come entries kind told response world so (λ name is. or_right (has_word_on name verdicts response.items) (is_removed response name) is) come)))
 
--- a bounded life is that of a version that is kept, so its name was told of
+-- a bounded life is that of a version that is kept, so its name was reported
 bounded_told : (entries : List Entry) (kind : Kind) (name : List ℕ) (world : World) → is_by_name kind ≡ true → is_bounded world.versions kind name ≡ true
     → ComesByEntries world entries → was_told entries kind name ≡ true
 bounded_told entries kind name world by_name bounded come =

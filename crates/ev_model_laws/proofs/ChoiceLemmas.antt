@@ -38,7 +38,7 @@ use Rattle.ev_model.specs.Choice.{listener_at, listener_for_every, listener_of_a
 use Rattle.ev_model.specs.Connections.{member_on, members_of}
 use Rattle.ev_model_laws.proofs.AnyLemmas.{or_so, any_only, any_left, any_mapped}
 
--- the number of a generation that is found stands among the numbers of all
+-- the number of a generation that is found is among the numbers of all
 found_number : {X : Type 0} (number_of : X → ℕ) (test : X → Bool) (xs : List X)
     → IfSome (find test xs) (λ x. has_number (number_of x) (map number_of xs) ≡ true)
 found_number number_of test [] = tt

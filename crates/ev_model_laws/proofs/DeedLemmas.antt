@@ -1,4 +1,4 @@
--- Deeds are done one after another: what is left behind some, which operation may come next, and when none is missing.
+-- Deeds are done one after another: what is left after some, which operation may come next, and when none is missing.
 use Rattle.std.proofs.Common.{◌≡◌, ◌⊎◌, inl, inr, ℕ, suc, ◌+◌, Bool, true, false, ◌&&◌, ◌||◌, if◌then◌else◌, nat_lt, List, [], ◌∷◌, ◌++◌, map, filter, length, take, refl, ap, sym, ◌∙◌, subst, append_assoc, arith}
 use Rattle.std.specs.Prelude.{IsTrue}
 use Rattle.std.specs.List.{AllByRecursion as ByRecursion, list_any, list_all, prefix_len}
@@ -17,12 +17,12 @@ use Rattle.ev_model_laws.proofs.RisingOperations.{Earlier, IsRising, not_back, n
 abbrev pub ops : List Deed → List Operation
 ops deeds = map (λ (d : Deed). d.operation) deeds
 
--- the actor rests behind these deeds, where it is said whether it did before
+-- the actor rests after these deeds, where it is said whether it did before
 abbrev pub rest_after : Bool → List Deed → Bool
 rest_after rests [] = rests
 rest_after rests (deed ∷ deeds) = rest_after deed.rests deeds
 
--- what stands behind all that are done
+-- what comes after all that are done
 abbrev pub left_by : List Operation → List Operation → List Operation
 left_by os done = filter (λ (o : Operation). list_all (λ (d : Operation). is_earlier d o) done) os
 
@@ -34,7 +34,7 @@ passed_by rests os = if rests then prefix_len (λ (o : Operation). is_settle o.e
 abbrev pub next_by : Bool → List Operation → List Operation
 next_by rests os = take (passed_by rests os + 1) os
 
--- the operation may come next: what stands before it may be passed over
+-- the operation may come next: what comes before it may be passed over
 pub record IsNext (rests : Bool) (os : List Operation) (o : Operation) : Type 0 where
   pub skipped : List Operation
   pub behind : List Operation
@@ -59,7 +59,7 @@ pub left_rises : (os done : List Operation) → IsRising os → IsRising (left_b
 left_rises os done rising =
     pairs_filter Earlier Earlier (λ (o : Operation). list_all (λ (d : Operation). is_earlier d o) done) os (λ a b p q e. e) rising
 
--- of rising operations those behind one are what stands later
+-- of rising operations those after one are what comes later
 later_is : (skipped behind : List Operation) (o : Operation) → IsRising (skipped ++ o ∷ behind)
     → filter (λ (p : Operation). is_earlier o p) (skipped ++ o ∷ behind) ≡ behind
 later_is skipped behind o rising =
@@ -70,7 +70,7 @@ later_is skipped behind o rising =
     ∙ ap (λ b. if b then o ∷ filter (λ (p : Operation). is_earlier o p) behind else filter (λ (p : Operation). is_earlier o p) behind) (not_itself o)
     ∙ filter_all (λ (p : Operation). is_earlier o p) behind (λ p is. at_in (Earlier o) p behind (pairs_back Earlier skipped (o ∷ behind) rising).0 is)
 
--- what is left behind the next one
+-- what is left after the next one
 pub left_next : (rests : Bool) (os done : List Operation) (o : Operation) → IsRising os → (next : IsNext rests (left_by os done) o)
     → left_by os (done ++ o ∷ []) ≡ next.behind
 left_next rests os done o rising next =
@@ -78,14 +78,14 @@ left_next rests os done o rising next =
     ∙ ap (filter (λ (p : Operation). is_earlier o p)) (sym next.whole)
     ∙ later_is next.skipped next.behind o (subst IsRising (sym next.whole) (left_rises os done rising))
 
--- the next one is done, and the others behind it
+-- the next one is done, and the others after it
 pub next_done : (rests : Bool) (skipped behind : List Operation) (deed : Deed) (deeds : List Deed)
     → ByRecursion (λ (p : Operation). IsTrue (is_settle p.event && rests)) skipped → AreDone deed.rests behind deeds
     → AreDone rests (skipped ++ deed.operation ∷ behind) (deed ∷ deeds)
 next_done rests [] behind deed deeds passes more = inl (refl, more)
 next_done rests (o ∷ skipped) behind deed deeds passes more = inr (passes.0, next_done rests skipped behind deed deeds passes.1 more)
 
--- the first of the deeds comes next, and the others are done behind it
+-- the first of the deeds comes next, and the others are done after it
 pub record IsNextDone (rests : Bool) (os : List Operation) (deed : Deed) (deeds : List Deed) : Type 0 where
   pub next : IsNext rests os deed.operation
   pub more : AreDone deed.rests next.behind deeds
@@ -126,7 +126,7 @@ one_more_done rests os deeds deed rising so_far next more done =
     (subst (λ ps. AreDone deed.rests ps more) (ap (left_by os) (ops_more deeds deed) ∙ left_next (rest_after rests deeds) os (ops deeds) deed.operation rising next)
     (subst (λ b. AreDone b (left_by os (ops (deeds ++ deed ∷ []))) more) (rest_more rests deeds deed) done)))))
 
--- of deeds that are done, what is left behind the first of them is done by the others
+-- of deeds that are done, what is left after the first of them is done by the others
 pub others_done : (rests : Bool) (os : List Operation) (deeds : List Deed) (deed : Deed) (more : List Deed) → IsRising os
     → AreDone (rest_after rests deeds) (left_by os (ops deeds)) (deed ∷ more)
     → AreDone (rest_after rests (deeds ++ deed ∷ [])) (left_by os (ops (deeds ++ deed ∷ []))) more

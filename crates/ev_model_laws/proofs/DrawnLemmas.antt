@@ -146,7 +146,7 @@ keeps_shown = record {
   tidied = λ world drawn. drawn;
 }
 
--- what pictures show, a new one behind them, is what the others show or what the new one does
+-- what pictures show, a new one after them, is what the others show or what the new one does
 pub published_with : {P : Type 0} (number : ℕ) (pictures : List Shown) (new : Shown)
     → (has_number number (flat_map numbers_shown pictures) ≡ true → P) → (is_shown number new ≡ true → P)
     → has_number number (flat_map numbers_shown (pictures ++ new ∷ [])) ≡ true → P
@@ -200,7 +200,7 @@ answers_reap = record {
   served = λ listener cluster host number. refl;
 }
 
--- what is named by a reaping is away behind it
+-- what is named by a reaping is gone after it
 abbrev AreAway : World × Answer → Type 0
 AreAway did = (number : ℕ) → has_number number (numbers_reaped did.1) ≡ true → IsAway number did.0
 
@@ -216,7 +216,7 @@ reaped_away format world rise number h =
       away (is_dead format world) number 0 world.rows world.made rise among,
     )
 
--- what an event reaps was drawn, and is no row's behind it
+-- what an event reaps was drawn, and is no row's after it
 pub step-reaped : (format : Format) (world : World) (actor : Actor) (event : Event) → IsNumbered world → AreAway (step format world actor event)
 step-reaped format world actor event rise = step-holds AreAway format world actor event (record {
   ignored = away_of_none (world, Ignored) (λ number. refl);

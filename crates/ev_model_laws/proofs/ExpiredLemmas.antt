@@ -104,7 +104,7 @@ kept_number number keeps (n ∷ ns) h =
     (λ gone. kept_number number keeps ns)
     h
 
--- a draining listener that is marked behind a reaping isn't dead
+-- a draining listener that is marked after a reaping isn't dead
 reaped_drains : (format : Format) (world : World) (number : ℕ) (name : List ℕ) → has_number number (without_dead format world).expired ≡ true
     → list_any (drains_as number name) world.rows ≡ true → list_any (drains_as number name) (without_dead format world).rows ≡ true
 reaped_drains format world number name marked drains =
@@ -125,7 +125,7 @@ reaped_drains format world number name marked drains =
     (λ without. any_passing (drains_as number name) (λ (row : GenRow). not (is_dead format world row)) world.rows without)
     drains
 
--- a draining listener that is marked behind an event still drains
+-- a draining listener that is marked after an event still drains
 pub step-drains : (format : Format) (world : World) (actor : Actor) (event : Event) (number : ℕ) (name : List ℕ)
     → list_any (drains_as number name) world.rows ≡ true → has_number number (step format world actor event).0.expired ≡ true
     → list_any (drains_as number name) (step format world actor event).0.rows ≡ true
@@ -175,7 +175,7 @@ moved_marks : (format : Format) (world : World) (actor : Actor) (event : Event) 
     → has_number number (step format world actor event).0.expired ≡ true → has_number number world.expired ≡ true
 moved_marks format world actor event number is h = sym (ap (has_number number) (same_expired format world actor event is)) ∙ h
 
--- a number that is marked behind an event was marked, or the event has marked it
+-- a number that is marked after an event was marked, or the event has marked it
 pub step-marks : (format : Format) (world : World) (actor : Actor) (event : Event) (number : ℕ)
     → has_number number (step format world actor event).0.expired ≡ true
     → (has_number number world.expired ≡ true) ⊎ IsMarked world event (step format world actor event) number

@@ -42,7 +42,7 @@ marks format world entries actor = map (deed_by format) (filter (λ (d : Deed). 
 abbrev pub start : ScriptParts → World
 start script = opening script.workers script.node
 
--- whether the actor rests behind the journal, and what is left of its operations
+-- whether the actor rests after the journal, and what is left of its operations
 abbrev pub rests_at : Format → ScriptParts → List Entry → Actor → Bool
 rests_at format script journal actor = rest_after (eased format true) (marks format (start script) journal actor)
 

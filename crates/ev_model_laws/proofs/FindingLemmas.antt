@@ -25,12 +25,12 @@ use Rattle.ev_model_laws.proofs.DeedLemmas.{ops, left_by, none_done, ended_done,
 use Rattle.ev_model_laws.proofs.FindingDeeds.{eased, marks, start, rests_at, left_at, unfinished_is, fits_done, done_fits, ends_as}
 use Rattle.ev_model_laws.proofs.FindingRows.{AreJoined, IsSoFar, more_so_far, IsAhead, ahead_entry, ahead_none, ahead_more, told_more}
 
--- the element behind a front
+-- the element after a prefix
 got_behind : {X : Type 0} (xs : List X) (x : X) (ys : List X) → slice_get (xs ++ x ∷ ys) (length xs) ≡ Some x
 got_behind [] x ys = refl
 got_behind (first ∷ xs) x ys = got_behind xs x ys
 
--- what is found at a place is found of its row, behind the rows before it
+-- what is found at a place is found of its row, after the rows before it
 at_place : (format : Format) (script : ScriptParts) (before : List Row) (row : Row) (after : List Row)
     → finding_at format script (before ++ row ∷ after) (length before) ≡ row_finding format script (journal_told script before) (length before + 1) row
 at_place format script before row after =

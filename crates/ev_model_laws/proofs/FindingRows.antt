@@ -1,4 +1,4 @@
--- One row more: what a row that may come next tells of, and that nothing is found of the rows of a run.
+-- One row more: what a row that may come next records, and that nothing is found of the rows of a run.
 use Rattle.std.proofs.Common.{◌≡◌, inl, inr, ℕ, ◌==◌, Bool, true, false, not, ◌&&◌, ◌||◌, if◌then◌else◌, nat_lt, List, [], ◌∷◌, ◌++◌, map, Option, Some, None, refl, ap, sym, ◌∙◌, subst, append-nil}
 use Rattle.std.specs.Prelude.{⊤, find, option_map, unwrap_or}
 use Rattle.std.specs.List.{last_or, list_any, cons_option}
@@ -27,7 +27,7 @@ use Rattle.ev_model_laws.proofs.RisingOperations.{Earlier, IsRising, not_itself,
 use Rattle.ev_model_laws.proofs.DeedLemmas.{ops, rest_after, left_by, next_by, IsNext, IsFound, IsDoneTo, one_more_done, others_done, done_next, next_found, found_next}
 use Rattle.ev_model_laws.proofs.FindingDeeds.{eased, deed_at, marks, start, rests_at, left_at, marks_append, marks_own, marks_other, next_is}
 
--- what it is that a row tells of an operation
+-- what it is that a row records an operation
 record IsTold (row : Row) (o : Operation) : Type 0 where
   at : row.at ≡ o.at
   step_same : row.step ≡ o.step
@@ -50,7 +50,7 @@ tells_itself entry =
     let word : op_same (op_of entry.event) (op_of entry.event) ≡ true = (op_decides (op_of entry.event) (op_of entry.event)).1 refl in
     simp (at, steps, word) refl
 
--- two that a row tells of are at one place
+-- two that a row records are at one place
 at_one_place : (row : Row) (a b : Operation) → tells_of row a ≡ true → tells_of row b ≡ true → is_earlier a b ≡ false
 at_one_place row a b one other =
     let here : IsTold row a = told row a one in
@@ -66,7 +66,7 @@ find_by : (row : Row) (x o : Operation) (os : List Operation) (tells : Bool) →
 find_by row x o os true h never e = absurd (never h)
 find_by row x o os false h never e = e
 
--- of rising operations a row tells of one alone
+-- of rising operations a row records one alone
 find_told : (row : Row) (o : Operation) (os : List Operation) → IsRising os → IsIn o os → tells_of row o ≡ true → find (tells_of row) os ≡ Some o
 find_told row o [] rising is h = absurd is
 find_told row o (x ∷ os) rising (inl e) h =
@@ -226,7 +226,7 @@ more_so_far format script kept rows number row so_far none =
     } in
     subst (IsSoFar format script (rows ++ row ∷ [])) (sym (told_more script rows row journal (entry_of r.o row.answer) refl r.is_entry)) more
 
--- behind an accept or close goes an entry of its actor
+-- after an accept or close goes an entry of its actor
 abbrev pub Follows : Option Entry → List Entry → Type 0
 Follows None entries = ⊤
 Follows (Some before) entries = is_batched before.event ≡ true → GoesOnWith before.actor entries
@@ -240,7 +240,7 @@ breaks_none None entry entries follows = refl
 breaks_none (Some before) entry entries follows =
     breaks_by (is_batched before.event) (actor_same entry.actor before.actor) (λ h. (actor_decides entry.actor before.actor).1 (follows h))
 
--- what is left of a run behind these entries: it goes on as the machine does, and each actor's deeds are done of what is left
+-- what is left of a run after these entries: it goes on as the machine does, and each actor's deeds are done of what is left
 pub record IsAhead (format : Format) (script : ScriptParts) (before after : List Entry) : Type 0 where
   pub run : RunsFrom format script.workers (world_after format (start script) before) after
   pub follows : Follows (last_or None before) after
@@ -292,7 +292,7 @@ ahead_none format script kept before entry after number ahead =
     ap (λ b. if b then Some (NotTheScript number) else (if is_illegal format script before (row_of entry) then Some (IllegalAt number) else None)) stray
     ∙ ap (λ b. if b then Some (IllegalAt number) else None) legal
 
--- the deeds of one actor ahead, behind the next entry
+-- the deeds of one actor ahead, after the next entry
 ahead_by : (format : Format) (script : ScriptParts) → IsScript script → (before : List Entry) (entry : Entry) (after : List Entry) (actor : Actor) (same : Bool)
     → actor_same entry.actor actor ≡ same
     → AreDone (rests_at format script before actor) (left_at format script before actor) (marks format (world_after format (start script) before) (entry ∷ after) actor)
@@ -324,7 +324,7 @@ ahead_by format script kept before entry after actor false h done =
     (subst (AreDone (rests_at format script before actor) (left_at format script before actor))
     (marks_other format (world_after format (start script) before) entry after actor h) done)
 
--- so the run goes on behind it
+-- so the run goes on after it
 pub ahead_more : (format : Format) (script : ScriptParts) → IsScript script → (before : List Entry) (entry : Entry) (after : List Entry)
     → IsAhead format script before (entry ∷ after) → IsAhead format script (before ++ entry ∷ []) after
 ahead_more format script kept before entry after ahead =

@@ -44,7 +44,7 @@ made_numbered : (entries : List Entry) (number : ℕ) → made_of entries number
 made_numbered entries zero = refl
 made_numbered entries (suc place) = refl
 
--- what stands at a place stands there with more behind
+-- what is at a place is there with more after it
 pub get_first : {X : Type 0} (xs ys : List X) (place : ℕ) (x : X) → slice_get xs place ≡ Some x → slice_get (xs ++ ys) place ≡ Some x
 get_first [] ys place x there = absurd (cc)
 get_first (first ∷ xs) ys zero x there = there

@@ -201,7 +201,7 @@ module _ (world : World) (served : UsesServed world) where
       (λ is_still. open_served number (any_left (is_open_on number) (λ (m : OpenMember). not (is_closing world.expired worker m)) world.opened is_still))
       used
 
--- a worker is one of so many
+-- a worker is one of this many
 abbrev pub IsKnown : ℕ → Actor → Type 0
 IsKnown workers Stream = ⊤
 IsKnown workers health_checker = ⊤

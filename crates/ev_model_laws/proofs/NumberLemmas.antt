@@ -36,7 +36,7 @@ filter-rise test low [] high rise = rise
 filter-rise test low (row ∷ rows) high rise =
     kept-rise (test row) low row (filter test rows) high rise.0 (filter-rise test row.number rows high rise.1)
 
--- a row of the next number goes behind
+-- a row of the next number goes last
 added-rise : (low : ℕ) (rows : List GenRow) (new : GenRow) (high : ℕ) → new.number ≡ high + 1
     → RiseWithin low (numbers rows) high → RiseWithin low (numbers (rows ++ new ∷ [])) (high + 1)
 added-rise low [] new high is rise = (omega arith, omega arith)

@@ -233,7 +233,7 @@ step-hides format world actor event number none = step-holds (HidesAway world nu
   settled = λ worker is. of_no_version world number (settle worker world) refl;
 })
 
--- what was reaped is away at each later place
+-- what was reaped is gone at each later place
 away_later : (told : Told) (j k number : ℕ) → Runs told → j < k → k ≤ length told.journal → Reaps told j number → IsAway number (world_told told k)
 away_later told j k number run lt le reaps =
     let world : World = world_told told j in

@@ -45,7 +45,7 @@ open_parts actor connection number member h =
       (numbers_decide member.connection connection).0 (second_so (actor_same actor (Worker member.worker)) (member.connection == connection) both),
     )
 
--- behind what was done the connection is open, or the event has closed it
+-- after what was done the connection is open, or the event has closed it
 abbrev pub IsOpenOrClosed : Actor → Event → Actor → ℕ → ℕ → World × Answer → Type 0
 IsOpenOrClosed maker event actor connection number did =
     ((actor_same maker actor && closes_connection connection event did.1) ≡ true)

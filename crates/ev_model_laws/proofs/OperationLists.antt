@@ -47,7 +47,7 @@ in_filter_by p x y ys true h more (inl e) = (inl e, sym (ap p e) ∙ h)
 in_filter_by p x y ys true h more (inr is) = let m : IsIn x ys × (p x ≡ true) = more is in (inr m.0, m.1)
 in_filter_by p x y ys false h more is = let m : IsIn x ys × (p x ≡ true) = more is in (inr m.0, m.1)
 
--- what a filter keeps stands in the list and passes
+-- what a filter keeps is in the list and passes
 pub in_filter : {X : Type 0} (p : X → Bool) (x : X) (xs : List X) → IsIn x (filter p xs) → IsIn x xs × (p x ≡ true)
 in_filter p x [] is = absurd is
 in_filter p x (y ∷ ys) is = in_filter_by p x y ys (p y) refl (λ i. in_filter p x ys i) is

@@ -83,7 +83,7 @@ shown_serves number world h =
     (map (λ (l : ServedListener). l.number) (shown_of world).listeners)
     (clusters_serve number world) (listeners_serve number world (is_serving world.phase)) h
 
--- a picture behind the others changes none of them
+-- a picture after the others changes none of them
 pub shown_with : (P : Shown → Type 0) (pictures : List Shown) (new : Shown) (version : ℕ)
     → P (slice_index_or pictures version nothing_shown) → P new → P (slice_index_or (pictures ++ new ∷ []) version nothing_shown)
 shown_with P [] new zero old one = one

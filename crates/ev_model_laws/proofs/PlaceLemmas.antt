@@ -48,7 +48,7 @@ entry_answered told k entry run there =
     answered_from told.format told.workers (opening told.workers told.node) told.journal k entry run there in
     record { may = both.0; answer = both.1 }
 
--- the world behind an entry is that to which its event leads
+-- the world after an entry is that to which its event leads
 pub world_next : (told : Told) (k : ℕ) (entry : Entry) → IsEntryAt told k entry
     → world_told told (k + 1) ≡ (step told.format (world_told told k) entry.actor entry.event).0
 world_next told k entry there =

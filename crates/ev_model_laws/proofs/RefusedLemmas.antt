@@ -266,7 +266,7 @@ first_left Eds name before names w left = left
 first_left Lds name before names w left = record { rows = left.rows; version = left.version; value = left.value; arrivals = left.arrivals; results = left.results }
 first_left Rds name before names w left = left
 
--- the name stands at a resource of the response, so its removals leave it
+-- a resource of the response has the name, so its removals leave it
 module _ (name : List ℕ) (response : ResponseParts) (stands : is_removed response name ≡ false) where
   not_removed : (of kind : Kind) (row : List ℕ) → (kind_same of kind && bytes_eq row name) ≡ true → (kind_same of kind && is_removed response row) ≡ false
   not_removed of kind row is =

@@ -1,4 +1,4 @@
--- Why a script has one replay, and why it holds each actor's operations. In the order of a replay an accept or close stands in
+-- Why a script has one replay, and why it holds each actor's operations. In the order of a replay an accept or close is in
 -- a batch of its actor, which another operation ends.
 use Rattle.std.proofs.Common.{◌≡◌, inl, inr, ℕ, Bool, true, false, not, List, [], ◌∷◌, ◌++◌, map, filter, refl, ap, sym, ◌∙◌, subst}
 use Rattle.std.specs.Prelude.{⊤}
@@ -24,7 +24,7 @@ abbrev Begins : Actor → List Operation → Type 0
 Begins actor [] = ⊥
 Begins actor (o ∷ os) = o.actor ≡ actor
 
--- directly behind each accept or close stands an operation of its actor
+-- directly after each accept or close comes an operation of its actor
 abbrev AreUnbroken : List Operation → Type 0
 AreUnbroken [] = ⊤
 AreUnbroken (o ∷ os) = (is_batched o.event ≡ true → Begins o.actor os) × AreUnbroken os

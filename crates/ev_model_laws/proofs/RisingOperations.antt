@@ -14,7 +14,7 @@ use Rattle.ev_types.specs.declared.events.Line.{Line}
 use Rattle.ev_model.specs.Operations.{Operation, line_operation, step_behind, last_settle, actor_same, actor_decides, is_automatic, is_full_at, line_operations, all_operations, operations_of, is_earlier}
 use Rattle.ev_model_laws.proofs.OperationLists.{Pairs, at_in, each_in, each_append, pairs_append, pairs_filter}
 
--- the first stands before the second
+-- the first comes before the second
 abbrev pub Earlier : Operation → Operation → Type 0
 Earlier a b = is_earlier a b ≡ true
 
@@ -45,7 +45,7 @@ not_itself_by m k = grind (arith, nat_tests)
 pub not_itself : (a : Operation) → is_earlier a a ≡ false
 not_itself a = not_itself_by a.at a.step
 
--- where it is of one actor, the first stands before the second
+-- where it is of one actor, the first comes before the second
 abbrev EarlierOfOne : Operation → Operation → Type 0
 EarlierOfOne a b = actor_same a.actor b.actor ≡ true → is_earlier a b ≡ true
 

@@ -32,7 +32,7 @@ use Rattle.ev_model.specs.Picture.{is_shown}
 use Rattle.ev_model.specs.Dead.{shown_at}
 use Rattle.ev_model_laws.proofs.WatchedLemmas.{opens_watched, step-watched}
 
--- who may make an event is no worker, or one of so many
+-- who may make an event is no worker, or one of this many
 pub may_known : (workers : ℕ) (actor : Actor) (event : Event) → MayMake workers actor event → IsKnown workers actor
 may_known workers Stream event may = tt
 may_known workers health_checker event may = tt

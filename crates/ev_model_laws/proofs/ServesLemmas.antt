@@ -206,7 +206,7 @@ tidied_serves before world within number h =
     ((numbers_decide row.number number).0 (first_so (row.number == number) (is_active row.status) found.2))
     (serves_or before world row within found.1 serves (promoted_served_or_ready world row found.1 serves))
 
--- so it is behind any event
+-- this holds after any event
 pub step-serves : (format : Format) (world : World) (actor : Actor) (event : Event) → ServesNow world (step format world actor event).0
 step-serves format world actor event =
     let same : ServesWithin world world = λ number h. h in

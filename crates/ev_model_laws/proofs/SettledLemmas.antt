@@ -106,7 +106,7 @@ settle_holds world actor settler is worker lt =
     set_by world.held settler worker (last_version world) (settler == worker) refl lt
     ∙ ap (λ (a : Actor). unwrap_or (cond (actor_same a (Worker worker)) (Some (last_version world)) None) (version_held world worker)) (sym is)
 
--- what each worker holds behind an event is the version on which it settles by it, or what it held
+-- what each worker holds after an event is the version on which it settles by it, or what it held
 pub step-settled : (format : Format) (world : World) (actor : Actor) (event : Event) → HoldsBy world actor (step format world actor event)
 step-settled format world actor event = step-holds (HoldsBy world actor) format world actor event (record {
   ignored = unsettled world actor (world, Ignored) refl refl;

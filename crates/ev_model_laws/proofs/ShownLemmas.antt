@@ -36,7 +36,7 @@ next_behind : (pictures : List Shown) (new : Shown) (version number : ℕ)
 next_behind pictures new version number (inl old) = inl old
 next_behind pictures new version number (inr is) = inr (ap suc is.0, is.1)
 
--- a picture behind others is the one of the next version
+-- a picture after the others is the one of the next version
 shown_behind : (pictures : List Shown) (new : Shown) (version number : ℕ) → is_shown number (slice_index_or (pictures ++ new ∷ []) version nothing_shown) ≡ true
     → (is_shown number (slice_index_or pictures version nothing_shown) ≡ true) ⊎ ((version ≡ length pictures) × (is_shown number new ≡ true))
 shown_behind [] new zero number h = inr (refl, h)

@@ -138,7 +138,7 @@ result_same arrivals rows results row host there live among =
     (ap (λ t. has_host t (assignment_by arrivals row.content)) ((host_decides r.host host).0 (second_so (r.number == row.number) (host_same r.host host) h)) ∙ among))
     results
 
--- the hosts of a list stand in it
+-- the hosts of a list are in it
 own_host : (hosts : List HostRowParts) (h : HostRowParts) → Contains hosts h → has_host h.host hosts ≡ true
 own_host hosts h there =
     any_at (λ (other : HostRowParts). host_same other.host h.host) hosts h there ((host_decides h.host h.host).1 refl)

@@ -1,4 +1,4 @@
--- Lists under the tests of tidying: what holds of what each element that they contain tells, and filters one after another.
+-- Lists under the tests of tidying: what holds of what each element that they contain gives, and filters one after another.
 use Rattle.std.proofs.Common.{◌≡◌, Bool, true, false, ◌&&◌, ◌||◌, List, [], ◌∷◌, map, filter, refl, ap, ◌∙◌}
 use Rattle.std.specs.List.{All, AllByRecursion as ByRecursion, Contains, list_any, list_all}
 use Rattle.std.proofs.lemmas.List.Elements.{All-contains_itself, All-weaker, recursion_from_All}

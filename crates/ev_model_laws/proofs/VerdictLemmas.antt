@@ -1,4 +1,4 @@
--- What verdicts are given: which fit a kind, and that the resources of a name that stands twice are all refused.
+-- What verdicts are given: which fit a kind, and that the resources of a name that occurs twice are all refused.
 use Rattle.std.proofs.Common.{◌≡◌, ℕ, ◌≤◌, ◌+◌, inl, inr, zero, suc, Bool, true, false, not, cond, List, [], ◌∷◌, length, Option, Some, None, refl, ap, ◌∙◌, arith}
 use Rattle.std.specs.Prelude.{nat_le, slice_get}
 use Rattle.std.specs.List.{AllByRecursion as ByRecursion, zip}
@@ -119,7 +119,7 @@ rule_refuses None kind lives versions item (Some m) (Some s) (Some o) n is of =
     (λ le. cond_both (nat_le s m) (Some s) (Some m) (λ (r : Option ℕ). None ≡ r → ⊥) (λ le e. cc) (λ gt e. cc))
     (λ gt. cond_both (nat_le s o) (Some s) (Some o) (λ (r : Option ℕ). None ≡ r → ⊥) (λ le e. cc) (λ gt e. cc)) of)
 
--- where a name stands twice in a response, its resources are refused
+-- where a name occurs twice in a response, its resources are refused
 twice_refused : (kind : Kind) (response : ResponseParts) (versions : List KeptVersion) (name : List ℕ)
     → nat_le 2 (length (items_named name response.items)) ≡ true
     → (lives : List Live) (item : ItemParts) → IsRefusedOf name (verdict_of kind response lives versions item, item)
@@ -150,7 +150,7 @@ named_at name (first ∷ items) (suc place) item there is =
       | inr other ↦ omega (arith, more, named_count name first items false other)
     ]
 
--- a name that stands at a resource isn't removed
+-- a name that a resource has isn't removed
 pub stands_unremoved : (response : ResponseParts) (place : ℕ) (item : ItemParts) → slice_get response.items place ≡ Some item
     → is_removed response item.name ≡ false
 stands_unremoved response place item there =
@@ -167,7 +167,7 @@ none_named name (verdict ∷ verdicts) (item ∷ items) none =
       | inr other ↦ (λ h. absurd (both_ways (bytes_eq item.name name) other h), none_named name verdicts items (omega (arith, none, named_count name item items false other)))
     ]
 
--- where a name stands once, and its resource is refused, each of its resources is
+-- where a name occurs once, and its resource is refused, each of its resources is
 once_refused : (name : List ℕ) (verdicts : List Verdict) (items : List ItemParts) (place rule : ℕ) (item : ItemParts)
     → length (items_named name items) ≤ 1 → slice_get verdicts place ≡ Some (Refused rule) → slice_get items place ≡ Some item → item.name ≡ name
     → ByRecursion (IsRefusedOf name) (zip verdicts items)

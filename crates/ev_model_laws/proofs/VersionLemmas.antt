@@ -1,5 +1,5 @@
--- Of each kind and name at most one version is kept, and the versions stand in the order of their names: a new one takes the
--- place of that of its kind and name, or stands before the first whose name is greater.
+-- Of each kind and name at most one version is kept, and the versions are in the order of their names: a new one takes the
+-- place of that of its kind and name, or comes before the first whose name is greater.
 use Rattle.std.proofs.Common.{◌≡◌, ℕ, ◌≤◌, Bool, true, false, cond, List, [], ◌∷◌, map, filter, refl, sym, ap, Ordering, Less, Equal, Greater, ◌∙◌, subst, le_trans, arith}
 use Rattle.std.specs.Bool.{Decides}
 use Rattle.std.specs.List.{AllByRecursion as ByRecursion}
@@ -67,7 +67,7 @@ left_by_name test (kept ∷ others) by_name =
     (λ passes. (all_left (λ (other : KeptVersion). is_before other.name kept.name ≡ false) test others by_name.0, left_by_name test others by_name.1))
     (λ fails. left_by_name test others by_name.1)
 
--- a new version takes the first one's place, or stands before it, or behind it
+-- a new version takes the first one's place, or comes before it, or after it
 module _ (P : List KeptVersion → Type 0) (new kept : KeptVersion) (others : List KeptVersion) where
   pub placed : (is_version_of new.kind new.name kept ≡ true → P (new ∷ others))
       → (is_before new.name kept.name ≡ true → P (new ∷ kept ∷ others))
@@ -138,7 +138,7 @@ is_of_same kind name one other first second =
     let of_other : (other.kind ≡ one.kind) × (other.name ≡ one.name) = (version_decides one.kind one.name other).0 second in
     (version_decides kind name other).1 (of_other.0 ∙ of_one.0, of_other.1 ∙ of_one.1)
 
--- a version in front of which one of this kind and name goes is not of this kind and name, nor is one behind it
+-- a version before which one of this kind and name goes is not of this kind and name, nor is one after it
 not_of_both : (kind : Kind) (name : List ℕ) (new kept other : KeptVersion) → is_version_of kind name new ≡ true
     → is_before new.name kept.name ≡ true → is_before other.name kept.name ≡ false → is_version_of kind name other ≡ false
 not_of_both kind name new kept other is before behind =

@@ -1,4 +1,4 @@
--- What came for names is kept only of names that are watched, and a version of endpoints or routes only of one that was told of.
+-- What came for names is kept only of names that are watched, and a version of endpoints or routes only of one that was reported.
 use Rattle.std.proofs.Common.{◌≡◌, ℕ, ◌+◌, Bool, true, false, ◌&&◌, cond, List, [], ◌∷◌, ◌++◌, map, filter, refl, sym, ap, ◌∙◌, subst, not}
 use Rattle.std.specs.List.{All, AllByRecursion as ByRecursion, fold, zip, list_any}
 use Rattle.std.specs.Str.{bytes_eq}
@@ -63,7 +63,7 @@ is_word_for kind name a = (kind_same a.kind kind && bytes_eq a.name name) && is_
 heard_is : (arrivals : List Arrived) (kind : Kind) (name : List ℕ) → is_told_by arrivals kind name ≡ list_any (is_word_for kind name) arrivals
 heard_is arrivals kind name = any_of_map is_word (λ (a : Arrived). a.arrival) (λ (a : Arrived). kind_same a.kind kind && bytes_eq a.name name) arrivals
 
--- a name that was told of is told of when more came
+-- a name that was reported is reported when more came
 heard_more : (arrivals more : List Arrived) (kind : Kind) (name : List ℕ) → is_told_by arrivals kind name ≡ true → is_told_by (arrivals ++ more) kind name ≡ true
 heard_more arrivals more kind name h =
     heard_is (arrivals ++ more) kind name ∙ any_first (is_word_for kind name) arrivals more (sym (heard_is arrivals kind name) ∙ h)

@@ -112,7 +112,7 @@ pub record AreMade (world : World) (entries : List Entry) : Type 0 where
   pub rows : All (λ (row : GenRow). made_of entries row.number ≡ Some (made_as row)) world.rows
   pub drawn : length (made_rows entries) ≡ world.made
 
--- one of these entries has told of the name: by a resource that was kept or refused, or by its removal
+-- one of these entries has reported the name: by a resource that was kept or refused, or by its removal
 abbrev pub was_told : List Entry → Kind → List ℕ → Bool
 was_told entries kind name = list_any (λ (entry : Entry). tells_of_name kind name entry.event entry.answer) entries
 
@@ -141,7 +141,7 @@ pub record ComesByEntries (world : World) (entries : List Entry) : Type 0 where
   pub arrivals : All (λ (a : Arrived). IsTrue (has_come_by entries a)) world.arrivals
   pub versions : All (λ (kept : KeptVersion). is_by_name kept.kind ≡ true → IsTrue (was_told entries kept.kind kept.name)) world.versions
 
--- what came for names is kept only of names that are watched, and a version of endpoints or routes only of one that was told of
+-- what came for names is kept only of names that are watched, and a version of endpoints or routes only of one that was reported
 pub record KeepsWatched (world : World) : Type 0 where
   pub arrivals : All (λ (a : Arrived). IsTrue (is_watched (lives_of world) a.kind a.name)) world.arrivals
   pub versions : All (λ (kept : KeptVersion). is_by_name kept.kind ≡ true → IsTrue (is_told world kept.kind kept.name)) world.versions

@@ -1,4 +1,4 @@
--- Of each kind and name at most one version is kept, and the versions stand in the order of their names.
+-- Of each kind and name at most one version is kept, and the versions are in the order of their names.
 use Rattle.std.specs.Prelude.{◌≡◌, ℕ, ◌≤◌, false, List, [], ◌∷◌, length, filter, ⊤}
 use Rattle.std.specs.List.{AllByRecursion}
 use Rattle.ev_types.specs.declared.contents.Kind.{Kind}
@@ -12,12 +12,12 @@ use Rattle.ev_model.specs.Versions.{is_version_of, is_before}
 use Rattle.ev_model.specs.Step.{step}
 use Rattle.ev_model.specs.Runs.{world_after}
 
--- no version's name is before the name of a version in front of it
+-- no version's name is before the name of a version that precedes it
 abbrev pub AreByName : List KeptVersion → Type 0
 AreByName [] = ⊤
 AreByName (kept ∷ others) = AllByRecursion (λ (other : KeptVersion). is_before other.name kept.name ≡ false) others × AreByName others
 
--- of each kind and name there is at most one version, and the versions stand in the order of their names
+-- of each kind and name there is at most one version, and the versions are in the order of their names
 pub record AreKeptOnce (versions : List KeptVersion) : Type 0 where
   pub once : (kind : Kind) (name : List ℕ) → length (filter (is_version_of kind name) versions) ≤ 1
   pub by_name : AreByName versions

@@ -1,4 +1,4 @@
--- A batch stands before the settle that ends it, and what it opened keeps its generation until it is closed.
+-- A batch comes before the settle that ends it, and what it opened keeps its generation until it is closed.
 use Rattle.std.specs.Prelude.{◌≡◌, List, [], ◌∷◌, codes}
 use Rattle.ev_types.specs.declared.contents.Kind.TheVariants.{Cds, Lds}
 use Rattle.ev_types.specs.declared.events.Answer.TheVariants.{Done, Moved, Replied, Version, Reaped}

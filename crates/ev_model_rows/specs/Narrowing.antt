@@ -11,7 +11,7 @@ use Rattle.ev_model.specs.declared.pictures.ServedChain.{ServedChain}
 use Rattle.ev_model.specs.Narrowing.{Incoming, chains_left}
 use Rattle.ev_model_rows.specs.Words.{no_criteria}
 
--- a chain that forwards to a cluster, by whose name it is told from others
+-- a chain that forwards to a cluster, by whose name it is distinguished from others
 abbrev pub chain : List ℕ → FilterChainMatch → ServedChain
 chain name criteria = record { criteria = criteria; routing = Tcp (One name) }
 

@@ -258,7 +258,7 @@ abbrev pub lines_from : ℕ → List Deed → List Line
 lines_from at [] = []
 lines_from at (deed ∷ deeds) = record { at = at; actor = deed.actor; event = deed.event } ∷ lines_from (at + 1) deeds
 
--- a script of these deeds for so many workers and a node; the header is its first line
+-- a script of these deeds for this many workers and a node; the header is its first line
 abbrev pub script_with : ℕ → Bool → List ℕ → List Deed → ScriptParts
 script_with workers auto node deeds =
     record { workers = workers; auto = auto; profile = Own; node = node; lines = lines_from 2 deeds; count = length deeds + 1 }
@@ -267,7 +267,7 @@ script_with workers auto node deeds =
 abbrev pub script_of : List Deed → ScriptParts
 script_of deeds = script_with 1 false (codes "warmgate") deeds
 
--- where an entry stands in its script, and its answer
+-- where an entry is in its script, and its answer
 abbrev pub told : Entry → ℕ × Answer
 told entry = (entry.at, entry.answer)
 

@@ -1,5 +1,5 @@
 //! Worked rows of the flat machine. Each function does nothing; its contract says that a replay by the machine's definitions
-//! gives the answers and the pictures of the row, as they stand in `specs/`, and is proved by computing both sides.
+//! gives the answers and the pictures of the row, as they are in `specs/`, and is proved by computing both sides.
 #![tactic(auto)]
 
 mod rows;

@@ -56,7 +56,7 @@ pub fn no_hosts()
     ensures pictures { NoHostsPictures }
 {}
 
-/// A batch stands before the settle that ends it, and what it opened keeps its generation until it is closed. It does nothing.
+/// A batch comes before the settle that ends it, and what it opened keeps its generation until it is closed. It does nothing.
 pub fn late_batch()
     ensures answers { LateBatchAnswers }
     ensures pictures { LateBatchPictures }

@@ -1,4 +1,4 @@
--- Two lists of names in order with the same names are one, and what stands among them.
+-- Two lists of names in order with the same names are equal, and what is among them.
 use Rattle.std.proofs.Common.{◌≡◌, ◌∙◌, ℕ, ◌+◌, ◌<◌, length, take, get_or, Bool, true, false, cond, not, ◌&&◌, ◌||◌, List, [], ◌∷◌, ◌++◌, map, filter, refl, sym, ap, subst}
 use Rattle.std.specs.declared.alloc.Global.{Global}
 use Rattle.std.specs.BTreeMap.{is_at}
@@ -27,7 +27,7 @@ use Rattle.ev_model.specs.Watching.{sorted_names}
 use Rattle.ev_indexes.proofs.SortLemmas.{sorted-unique, sorted_by-dedup}
 use Rattle.ev_names.specs.Names.{IsInOrder, with_name, with_names, without_name}
 
--- ---- what stands among sorted names
+-- ---- what is among sorted names
 
 or_turn : (a b c : Bool) → (a || (b || c)) ≡ (b || (a || c))
 or_turn true true c = refl
@@ -60,13 +60,13 @@ module _ {X : Type 0} (p : X → Bool) (same : X → X → Bool) (alike : (x y :
   any_dedup [] = refl
   any_dedup (x ∷ xs) = any_dedup_from x xs
 
--- a name stands among sorted ones where it stands among them
+-- a name is among sorted ones where it is among them
 pub among_sorted : (names : List (List ℕ)) (name : List ℕ) → is_among name (sorted_names names) ≡ is_among name names
 among_sorted names name =
     any_dedup (λ n. bytes_eq n name) bytes_eq (λ x y is. ap (λ n. bytes_eq n name) (sym ((bytes_decide x y).0 is))) (sorted_by is_before names)
     ∙ any_sorted (λ n. bytes_eq n name) is_before names
 
--- a name that stands among those that fail a test
+-- a name that is among those that fail a test
 among_failing : (test : List ℕ → Bool) (names : List (List ℕ)) (name : List ℕ) → is_among name (filter (λ n. not (test n)) names) ≡ (is_among name names && not (test name))
 among_failing test [] name = refl
 among_failing test (first ∷ names) name = by (bytes_eq first name) refl (test first) refl (among_failing test names name)
@@ -87,7 +87,7 @@ among_failing test (first ∷ names) name = by (bytes_eq first name) refl (test 
     by false isnt true passes rest = rest
     by false isnt false fails rest = ap (λ b. b || is_among name (filter (λ n. not (test n)) names)) isnt ∙ rest
 
--- a name that stands among those that aren't among the others
+-- a name that is among those that aren't among the others
 pub among_other : (others names : List (List ℕ)) (name : List ℕ) → is_among name (other_than others names) ≡ (is_among name names && not (is_among name others))
 among_other others names name = among_failing (λ n. is_among n others) names name
 
@@ -119,7 +119,7 @@ all_among P (first ∷ names) each = (
   all_among P names (λ name there. each name (ap (λ b. bytes_eq first name || b) there ∙ or_true (bytes_eq first name))),
 )
 
--- two lists in order of the same names are one
+-- two lists in order of the same names are equal
 pub same-names : (xs ys : List (List ℕ)) → IsInOrder xs → IsInOrder ys → ((name : List ℕ) → is_among name xs ≡ is_among name ys) → xs ≡ ys
 same-names xs ys first second same =
     sorted-unique (slice_cmp nat_cmp) nat_list_cmp_total xs ys first second (record {
@@ -132,7 +132,7 @@ same-names xs ys first second same =
 turned : (a b : List ℕ) → bytes_eq a b ≡ bytes_eq b a
 turned a b = both_ways (bytes_eq a b) (bytes_eq b a) (λ h. (bytes_decide b a).1 (sym ((bytes_decide a b).0 h))) (λ h. (bytes_decide a b).1 (sym ((bytes_decide b a).0 h)))
 
--- a text that a set of strings has stands among their texts
+-- a text that a set of strings has is among their texts
 pub among_keys : (name : List ℕ) (keys : List (String Global)) → list_any (is_at (λ k. slice_cmp nat_cmp name (string_bytes k))) keys ≡ is_among name (map string_bytes keys)
 among_keys name [] = refl
 among_keys name (key ∷ keys) = λ i. (is_eq-slice_cmp name (string_bytes key) ∙ turned name (string_bytes key)) i || among_keys name keys i

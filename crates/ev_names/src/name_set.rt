@@ -39,7 +39,7 @@ impl NameSet {
         }
     }
 
-    /// Puts a name among the others.
+    /// Adds a name to the others.
     ///
     /// # Errors
     /// `AllocError` where there is no memory for it; the names stay as they were then.
@@ -51,7 +51,7 @@ impl NameSet {
         Ok(())
     }
 
-    /// Puts names among the others.
+    /// Adds names to the others.
     ///
     /// # Errors
     /// `AllocError` where there is no memory for them all; some may be there then.
@@ -123,7 +123,7 @@ impl NameSet {
         Ok(values)
     }
 
-    // Puts a name after the values, where it isn't in the set.
+    // Appends a name to the values, where it isn't in the set.
     fn push_other(
         &self,
         alloc: Global,

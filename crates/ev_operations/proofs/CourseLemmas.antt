@@ -82,7 +82,7 @@ both_so true true c h e = ap (λ d. d && true) (sym e)
 both_so true false c h e = cc
 both_so false b c h e = cc
 
--- where the row doesn't tell of what ends the search, it tells of none that may come next
+-- where the row doesn't record what ends the search, it records none that may come next
 take_more : {X : Type 0} (n : ℕ) (x : X) (xs : List X) → take (n + 1) (x ∷ xs) ≡ x ∷ take n xs
 take_more n x xs = let more : n + 1 ≡ suc n = omega arith in ap (λ m. take m (x ∷ xs)) more
 
@@ -109,7 +109,7 @@ false_so true true c h e = cc
 false_so true false c h e = sym e
 false_so false b c h e = refl
 
--- what stands at a place and behind it
+-- what is at a place and after it
 at_place : (dues : List Due) (place : ℕ) (due other : Due) → place < length dues → due ≡ get_or dues place other → drop place dues ≡ due ∷ drop (place + 1) dues
 at_place dues place due other below is = at_drop_more (λ (ds : List Due). ds) dues place other below ∙ ap (λ d. d ∷ drop (place + 1) dues) (sym is)
 
@@ -131,7 +131,7 @@ all_put : (P : Operation → Type 0) (os : List Operation) (o : Operation) → B
 all_put P [] o all is = (is, tt)
 all_put P (p ∷ os) o all is = (all.0, all_put P os o all.1 is)
 
--- a walk through the course has come to a place: before it stand settles alone that may be left out, and the row tells of none of them
+-- a walk through the course has come to a place: before it come settles alone that may be left out, and the row records none of them
 pub record IsPassed (script : ScriptParts) (row : Row) (course : Course) (os : List Operation) (place : ℕ) : Type 0 where
   pub left : List Operation
   pub due : AreDue script row.actor (drop place course.dues) left

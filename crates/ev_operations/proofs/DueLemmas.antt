@@ -22,7 +22,7 @@ use Rattle.ev_operations.specs.Dues.{AreDue, at_line, dues_at, last_dues, makes_
 use Rattle.ev_operations.specs.declared.due.Due.{Due}
 use Rattle.ev_operations.specs.declared.due.Due.TheVariants.{Publish, Reap, Settle, LastSettle}
 
--- so many lines were gone through: what is due is what the actor does at them, and so many of its accepts and closes wait
+-- this many lines were gone through: what is due is what the actor does at them, and this many of its accepts and closes wait
 pub record AreDueSoFar (script : ScriptParts) (actor : Actor) (dues : List Due) (waiting place : ℕ) : Type 0 where
   pub due : AreDue script actor dues (made_by actor (flat_map (line_operations script) (take place script.lines)))
   pub counted : waiting ≡ length (lines_since actor (take place script.lines)) % 256
@@ -188,7 +188,7 @@ module _ (script : ScriptParts) (kept : IsScript script) (actor : Actor) (dues :
       few = few;
     }
 
--- the settles behind the last line
+-- the settles after the last line
 settles_apart : (script : ScriptParts) (actor : Actor) (start n : ℕ) → ((worker : ℕ) → start ≤ worker → worker < start + n → actor_same (Worker worker) actor ≡ false)
     → made_by actor (map (last_settle script) (range_with_len start n)) ≡ []
 settles_apart script actor start zero apart = refl
@@ -257,7 +257,7 @@ last_due script Timer = ap (map Some) (sym (settles_apart script Timer 0 script.
 last_due script Main = ap (map Some) (sym (settles_apart script Main 0 script.workers (λ worker from below. refl)))
 last_due script (Worker worker) = last_by script worker (nat_lt worker script.workers) refl
 
--- behind the last line
+-- after the last line
 pub all_due : (script : ScriptParts) (actor : Actor) (dues : List Due) (waiting place : ℕ) → take place script.lines ≡ script.lines → AreDueSoFar script actor dues waiting place
     → AreDue script actor (dues ++ last_dues script.workers actor) (operations_of script actor)
 all_due script actor dues waiting place all was =

@@ -1,4 +1,4 @@
--- The seats of actors, and how far each has come behind an entry more.
+-- The seats of actors, and how far each has come after an entry more.
 use Rattle.std.proofs.Common.{◌≡◌, ◌<◌, ◌≤◌, ◌+◌, ◌⊎◌, inl, inr, ℕ, zero, suc, Bool, true, false, ◌&&◌, List, [], ◌∷◌, ◌++◌, filter, drop, length, nat_lt, Some, slice_get, refl, ap, sym, ◌∙◌, subst, arith}
 use Rattle.std.specs.Prelude.{IsTrue, slice_set}
 use Rattle.std.specs.List.{list_all, list_any, AllByRecursion as ByRecursion}
@@ -28,7 +28,7 @@ use Rattle.ev_operations.specs.declared.course.Course.{Course}
 use Rattle.ev_operations.specs.declared.courses.Courses.{Courses}
 use Rattle.ev_operations.specs.declared.courses.Found.{Found}
 
--- two actors of one seat are one
+-- two actors of one seat are the same
 same_worker : (a b : ℕ) → 4 + a ≡ 4 + b → a ≡ b
 same_worker a b is = omega arith
 
@@ -122,7 +122,7 @@ begun_come format script actor course begun = record {
   rests = begun.rests;
 }
 
--- so many have a seat, and each has come so far
+-- this many have a seat, and each has come so far
 pub record AreSeated (format : Format) (script : ScriptParts) (journal : List Entry) (count : ℕ) (seats : List Course) : Type 0 where
   pub seated : length seats ≡ count
   pub each : (actor : Actor) (course : Course) → slice_get seats (seat_of actor) ≡ Some course → HasCome format script journal actor course
@@ -257,7 +257,7 @@ stray_seated script journal row courses course come seated none =
     ap (λ rests. list_any (tells_of row) (next_of rests (operations_left script journal row.actor))) (sym has.rests)
     ∙ none (operations_left script journal row.actor) has.due
 
--- behind the entry of what was found
+-- after the entry of what was found
 module _ (script : ScriptParts) (kept : IsScript script) (journal : List Entry) (row : Row) (before : Courses) (found : Found) (rests : Bool)
     (come : HaveCome script journal before) (is : IsFound script journal row before found)
     (marked : rests ≡ may_leave_out before.format script (journal ++ entry_of is.operation row.answer ∷ []) row.actor) where

@@ -17,7 +17,7 @@ use Rattle.ev_operations.specs.declared.course.Course.{Course}
 use Rattle.ev_operations.specs.declared.courses.Courses.{Courses}
 use Rattle.ev_operations.specs.declared.courses.Found.{Found}
 
--- the row tells of what is due
+-- the row records what is due
 abbrev pub tells_due : ScriptParts → Row → Due → Bool
 tells_due script row due = unwrap_or (option_map (tells_of row) (operation_due script row.actor due)) false
 
@@ -45,7 +45,7 @@ pub record HasCome (format : Format) (script : ScriptParts) (journal : List Entr
   pub due : AreDue script actor (drop course.place course.dues) (operations_left script journal actor)
   pub rests : course.rests ≡ may_leave_out format script journal actor
 
--- at this place of a course stands what the row tells of, and it comes next of these operations
+-- at this place of a course is what the row records, and it comes next of these operations
 pub record IsFoundAt (script : ScriptParts) (row : Row) (course : Course) (os : List Operation) (place : ℕ) : Type 0 where
   pub due : Due
   pub there : slice_get course.dues place ≡ Some due
@@ -68,7 +68,7 @@ pub record HaveCome (script : ScriptParts) (journal : List Entry) (courses : Cou
   pub each : (actor : Actor) (course : Course) → slice_get courses.seats.items (seat_of actor) ≡ Some course
       → HasCome courses.format script journal actor course
 
--- at the seat of the row's actor stands what the row tells of, and it comes next after the journal
+-- at the seat of the row's actor is what the row records, and it comes next after the journal
 pub record IsFound (script : ScriptParts) (journal : List Entry) (row : Row) (courses : Courses) (found : Found) : Type 0 where
   pub seat : found.seat ≡ seat_of row.actor
   pub course : Course

@@ -27,11 +27,11 @@ operation_due script actor LastSettle = Some (record { actor = actor; at = scrip
 abbrev pub AreDue : ScriptParts → Actor → List Due → List Operation → Type 0
 AreDue script actor dues operations = map (operation_due script actor) dues ≡ map Some operations
 
--- the accept or close is one more than so many that wait, and makes the batch full
+-- the accept or close is one more than this many that wait, and makes the batch full
 abbrev pub makes_full : Line → ℕ → Bool
 makes_full line waiting = is_batched line.event && (waiting + 1 == batch_limit)
 
--- what the actor of a line is to do at it, where so many of its accepts and closes wait
+-- what the actor of a line is to do at it, where this many of its accepts and closes wait
 abbrev pub dues_at : Bool → ℕ → Line → ℕ → List Due
 dues_at auto place line waiting =
     by_line place ∷ (if auto && is_automatic line.actor then Publish place ∷ Reap place ∷ []
@@ -43,7 +43,7 @@ waiting_after line waiting =
     if is_batched line.event then (if makes_full line waiting then 0 else waiting + 1)
     else (if is_settle line.event then 0 else waiting)
 
--- what an actor is to do after the last line, where there are so many workers: each of these settles
+-- what an actor is to do after the last line, where there are this many workers: each of these settles
 abbrev pub last_dues : ℕ → Actor → List Due
 last_dues workers Stream = []
 last_dues workers Health = []

@@ -41,7 +41,7 @@ impl Course {
         })
     }
 
-    /// The place of what a row tells of, where it may come next: settles alone stand before it, and these may be left out.
+    /// The place of what a row records, where it may come next: settles alone come before it, and these may be left out.
     pub(crate) fn find(&self, script: &Script, row: &Row) -> Option<usize>
         ensures there { IfSome result (λ place. place < length self.now.dues) }
         ensures found { IfSome result (λ place. (os : List Operation)

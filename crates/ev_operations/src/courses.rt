@@ -20,7 +20,7 @@ pub struct Courses {
     pub seats: Vec<Course>,
 }
 
-/// What a row tells of: the seat of its actor, and the place in its course.
+/// What a row records: the seat of its actor, and the place in its course.
 #[derive(Clone, Copy, Debug)]
 pub struct Found {
     pub seat: usize,
@@ -58,7 +58,7 @@ impl Courses {
         Ok(Courses { format, seats })
     }
 
-    /// What a row tells of, where it may come next for its actor.
+    /// What a row records, where it may come next for its actor.
     pub fn find(&self, script: &Script, row: &Row) -> Option<Found>
         ensures found { IfSome result (λ found. (journal : List Entry) → HaveCome script.now journal self.now
             → IsFound script.now journal row.now self.now found) }

@@ -30,7 +30,7 @@ pub fn operations(alloc: Global, script: &Script, actor: Actor) -> Result<Seq<Du
     Ok(dues)
 }
 
-// Whether the two are one actor.
+// Whether the two are the same actor.
 fn is_same(one: Actor, other: Actor) -> bool
     ensures { result ≡ actor_same one other }
 {
@@ -44,7 +44,7 @@ fn is_same(one: Actor, other: Actor) -> bool
     }
 }
 
-// What the line's actor is to do at it, where so many of its accepts and closes wait.
+// What the line's actor is to do at it, where this many of its accepts and closes wait.
 fn put_line(
     dues: &mut Seq<Due>,
     auto: bool,
@@ -75,7 +75,7 @@ fn is_followed(auto: bool, actor: Actor) -> bool
     auto && matches!(actor, Actor::Stream | Actor::Health | Actor::Timer)
 }
 
-// Whether an accept or close makes the batch full, where so many wait before it.
+// Whether an accept or close makes the batch full, where this many wait before it.
 fn makes_full(line: &Line, waiting: u32) -> bool
     requires few { waiting < batch_limit }
     ensures { result ≡ makes_full line.now waiting }

@@ -5,7 +5,7 @@ ghost use Rattle.ev_operations.specs.Courses.{is_left, is_settle_due, tells_due}
 use crate::due::Due;
 use ev_types::{Event, Op, Row, Script};
 
-/// Whether a row tells of what is due.
+/// Whether a row records what is due.
 pub(crate) fn tells(script: &Script, row: &Row, due: Due) -> bool
     ensures { result ≡ tells_due script.now row.now due }
 {
@@ -31,14 +31,14 @@ pub(crate) fn tells(script: &Script, row: &Row, due: Due) -> bool
     }
 }
 
-// Whether a row stands at this line and step and has this word.
+// Whether a row is at this line and step and has this word.
 fn is_told(row: &Row, at: u32, step: u32, op: Op) -> bool
     ensures { result ≡ ((row.now.at == at) && (row.now.step == step) && op_same row.now.op op) }
 {
     row.at == at && row.step == step && is_same_word(row.op, op)
 }
 
-// Whether the two are one word.
+// Whether the two are the same word.
 fn is_same_word(one: Op, other: Op) -> bool
     ensures { result ≡ op_same one other }
 {

@@ -18,7 +18,7 @@ pub record PicturesParts : Type 0 where
   pub last : Picture
   pub held : List Picture
 
--- nothing was published, and each of so many workers holds the empty picture
+-- nothing was published, and each of this many workers holds the empty picture
 abbrev pub opening_pictures : ℕ → PicturesParts
 opening_pictures workers = record { last = empty_picture; held = replicate workers empty_picture }
 

@@ -2,8 +2,8 @@
 //!
 //! # Choices
 //!
-//! - A publication is told by its changes, and the next snapshot is made of the last one. So the last picture doesn't
-//!   stand beside its snapshot as data. The contract doesn't ask that the changes lead to what workers may serve: it
+//! - A publication is described by its changes, and the next snapshot is made of the last one. So the last picture doesn't
+//!   are kept beside its snapshot as data. The contract doesn't ask that the changes lead to what workers may serve: it
 //!   says what holds where they do, and the proxy proves that they do.
 //! - A world's pictures are a history, of which only the last and those that workers hold are kept. So `StandsFor`
 //!   also says that each version held was published: a later picture then doesn't change what it shows.

@@ -34,7 +34,7 @@ impl Model for Pictures {
 }
 
 impl Pictures {
-    /// Nothing was published, and each of so many workers holds the empty picture.
+    /// Nothing was published, and each of this many workers holds the empty picture.
     pub fn new(alloc: Global, workers: u32) -> Result<Pictures, AllocError>
         ensures empty { IfOk result (λ pictures. pictures ≡ opening_pictures workers) }
         ensures world { IfOk result (λ pictures. (node : List ℕ) → StandsFor pictures (opening workers node)) }
@@ -159,7 +159,7 @@ impl Pictures {
     }
 }
 
-// The snapshot for each of so many workers.
+// The snapshot for each of this many workers.
 #[tactic(auto, using(crate::proofs::WorldLemmas::one_more))]
 fn held_by_all(
     alloc: Global,

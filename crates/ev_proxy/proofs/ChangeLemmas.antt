@@ -1,4 +1,4 @@
--- What a publication makes of the last picture: where each change tells what is found of its number, and of all other numbers the same is
+-- What a publication makes of the last picture: where each change says what is found of its number, and of all other numbers the same is
 -- found as before, that is what is found.
 use Rattle.std.proofs.Common.{◌≡◌, ◌∙◌, ℕ, Bool, true, false, not, ◌||◌, ◌==◌, cond, List, [], ◌∷◌, Option, Some, None, find, filter, map, refl, sym, ap}
 use Rattle.std.proofs.Math.Bool.{or-false}
@@ -39,7 +39,7 @@ module _ {X C : Type 0} (name : X → List ℕ) (number : X → ℕ) (changed : 
     (done : (xs : List X) → put [] xs ≡ xs)
     (gone : (c : C) (cs : List C) (xs : List X) → served c ≡ None → put (c ∷ cs) xs ≡ put cs xs)
     (came : (c : C) (cs : List C) (x : X) (xs : List X) → served c ≡ Some x → put (c ∷ cs) xs ≡ put cs (put_in name number x xs)) where
-  -- each of these tells what is found of its number
+  -- each of these says what is found of its number
   abbrev pub TellAll : List X → List C → Type 0
   TellAll ys cs = AllByRecursion (λ c. served c ≡ numbered name number ys (changed c)) cs
 

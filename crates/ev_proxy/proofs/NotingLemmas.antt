@@ -1,4 +1,4 @@
--- The generations that an event retired are noted, and what holds generations then stands for the world behind it.
+-- The generations that an event retired are noted, and what holds generations then stands for the world after it.
 use Rattle.std.proofs.Common.{◌≡◌, ℕ, Bool, true, false, not, ◌&&◌, ◌||◌, ◌==◌, cond, nat_eq, List, [], ◌∷◌, ◌++◌, Option, None, Some, refl, sym, ap, subst, ◌∙◌, arith}
 use Rattle.std.specs.Cmp.{first_so}
 use Rattle.std.specs.List.{list_any, IsDistinct, AllByRecursion}
@@ -38,7 +38,7 @@ numbered [] apart = tt
 numbered (row ∷ rows) apart =
     (none_of row.number rows (IsDistinct-head nat_eq row.number (numbers_of rows) apart), numbered rows (IsDistinct-tail nat_eq row.number (numbers_of rows) apart))
 
--- so it is at every world between two events
+-- this holds at every world between two events
 pub at-numbered : (s : _) (world : World) → ManagesAt s world → AreNumbered world.rows
 at-numbered s world at = numbered world.rows at.follows.sound.table.apart
 
@@ -51,7 +51,7 @@ over_same : (found : Option GenRow) → is_over found ≡ over_there found
 over_same None = refl
 over_same (Some row) = refl
 
--- what is told, as what holds generations takes it
+-- what is reported, as what holds generations takes it
 pub ceased_all : (retired : List ℕ) (before after : World) → HaveCeased retired before after → CeaseBetween retired before.rows after.rows
 ceased_all retired before after ceased = record {
   told = λ number.
@@ -96,7 +96,7 @@ all_among P (n ∷ numbers) so = (
     or_later true is = refl
     or_later false is = is
 
--- what holds generations, once those that retired are noted, stands for the world behind the event
+-- what holds generations, once those that retired are noted, stands for the world after the event
 pub noted_stand : (first second : HoldersParts) (retired : List ℕ) (before after : World)
     → second ≡ record first { drain = noted_each after.rows retired first.drain }
     → HoldsFor first before → AreNumbered before.rows → AreNumbered after.rows → HoldTheSame before after → HaveCeased retired before after

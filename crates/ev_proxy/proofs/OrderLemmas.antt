@@ -1,4 +1,4 @@
--- Lists in the order of their elements' names, whose numbers differ: two that find the same by number are one, and what changes by
+-- Lists in the order of their elements' names, whose numbers differ: two that find the same by number are equal, and what changes by
 -- number is put to its place.
 use Rattle.std.proofs.Common.{◌≡◌, ◌∙◌, ℕ, Bool, true, false, not, ◌||◌, ◌==◌, cond, List, [], ◌∷◌, Option, Some, None, Ordering, find, filter, refl, sym, ap, subst, arith}
 use Rattle.std.proofs.Math.Bool.{or-false, or-true}
@@ -14,7 +14,7 @@ use Rattle.std.proofs.lemmas.Map.Text.{is_eq-slice_cmp}
 use Rattle.ev_model.specs.Sorted.{put_by, sorted_by}
 use Rattle.ev_model.specs.Versions.{is_before}
 
--- a name that stands before another isn't behind it, and isn't the same
+-- a name that comes before another isn't after it, and isn't the same
 less_is : (r : Ordering) → is_lt r ≡ true → r ≡ Less
 less_is Less h = refl
 less_is Equal h = absurd (false≢true h)
@@ -32,7 +32,7 @@ not_same a b h = sym (is_eq-slice_cmp a b) ∙ ap is_eq (before_less a b h)
 pub not_same_back : (a b : List ℕ) → is_before a b ≡ true → bytes_eq b a ≡ false
 not_same_back a b h = sym (is_eq-slice_cmp b a) ∙ ap is_eq (nat_list_cmp_total.antisymm b a ∙ ap ordering_reverse (before_less a b h))
 
--- of two names that differ, one stands before the other
+-- of two names that differ, one comes before the other
 pub turns : (a b : List ℕ) → is_before a b ≡ false → bytes_eq a b ≡ false → is_before b a ≡ true
 turns a b h k = by (slice_cmp nat_cmp a b) refl h (is_eq-slice_cmp a b ∙ k)
   where
@@ -94,12 +94,12 @@ module _ {X : Type 0} (name : X → List ℕ) (number : X → ℕ) where
   abbrev pub numbered : List X → ℕ → Option X
   numbered xs n = find (λ x. number x == n) xs
 
-  -- this element stands before another one, and has another number
+  -- this element comes before another one, and has another number
   pub record StandsBefore (x y : X) : Type 0 where
     pub names : is_before (name x) (name y) ≡ true
     pub numbers : (number x == number y) ≡ false
 
-  -- each stands before all behind it
+  -- each comes before all after it
   abbrev pub AreInOrder : List X → Type 0
   AreInOrder [] = Unit {0}
   AreInOrder (x ∷ xs) = AllByRecursion (StandsBefore x) xs × AreInOrder xs
@@ -147,7 +147,7 @@ module _ {X : Type 0} (name : X → List ℕ) (number : X → ℕ) where
   all_sorted P [] all = tt
   all_sorted P (x ∷ xs) all = all_put P x (sorted_by (λ y z. is_before (name y) (name z)) xs) all.0 (all_sorted P xs all.1)
 
-  -- what differs stands in order once it is sorted
+  -- what differs is in order once it is sorted
   pub sorted_order : (xs : List X) → AllDiffer xs → AreInOrder (sorted_by (λ y z. is_before (name y) (name z)) xs)
   sorted_order [] differ = tt
   sorted_order (x ∷ xs) differ =
@@ -187,7 +187,7 @@ module _ {X : Type 0} (name : X → List ℕ) (number : X → ℕ) where
   pub own_found : (x : X) (xs : List X) → numbered (x ∷ xs) (number x) ≡ Some x
   own_found x xs = ap (λ t. cond t (Some x) (numbered xs (number x))) (own_number (number x))
 
-  -- and none behind it
+  -- and none after it
   none_behind : (x : X) (xs : List X) (n : ℕ) → AllByRecursion (StandsBefore x) xs → (number x == n) ≡ true → numbered xs n ≡ None
   none_behind x xs n before is =
       none_found (λ y. number y == n) xs
@@ -197,7 +197,7 @@ module _ {X : Type 0} (name : X → List ℕ) (number : X → ℕ) where
   some_same : (x y : X) → Some x ≡ Some y → x ≡ y
   some_same x y e = cc e
 
-  -- of two lists that find the same, the first elements are one
+  -- of two lists that find the same, the first elements are equal
   heads : (x y : X) (xs ys : List X) → AllByRecursion (StandsBefore x) xs → AllByRecursion (StandsBefore y) ys
       → ((n : ℕ) → numbered (x ∷ xs) n ≡ numbered (y ∷ ys) n) → x ≡ y
   heads x y xs ys first second same =
@@ -211,7 +211,7 @@ module _ {X : Type 0} (name : X → List ℕ) (number : X → ℕ) where
           absurd (false≢true (sym (not_behind (name x) (name y) (all_found (StandsBefore x) (λ z. number z == number y) xs y first f).names)
           ∙ (all_found (StandsBefore y) (λ z. number z == number x) ys x second e).names))
 
-  -- two lists in order that find the same by number are one
+  -- two lists in order that find the same by number are equal
   pub same_lists : (xs ys : List X) → AreInOrder xs → AreInOrder ys → ((n : ℕ) → numbered xs n ≡ numbered ys n) → xs ≡ ys
   same_lists [] [] first second same = refl
   same_lists [] (y ∷ ys) first second same = absurd (cc (same (number y) ∙ own_found y ys))

@@ -22,7 +22,7 @@ use Rattle.ev_state.specs.States.{over_in, where_over, without_over}
 use Rattle.ev_retirement.specs.Holders.{AreNumbered}
 use Rattle.ev_proxy.specs.Proxies.{AreRowsOf, rows_gone, without_each}
 
--- no number stands twice
+-- no number occurs twice
 abbrev AreApart : List ℕ → Type 0
 AreApart [] = ⊤
 AreApart (number ∷ numbers) = (has_number number numbers ≡ false) × AreApart numbers
@@ -144,7 +144,7 @@ module _ (dead : GenRow → Bool) where
   all_found over rows apart [] all = tt
   all_found over rows apart (n ∷ numbers) all = (found_over over n rows apart all.0, all_found over rows apart numbers all.1)
 
--- each number of a list stands in it
+-- each number of a list is in it
 own : (n : ℕ) → (n == n) ≡ true
 own n = grind (arith, nat_tests)
 

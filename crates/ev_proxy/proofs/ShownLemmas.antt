@@ -99,7 +99,7 @@ numbers_same : {C : Type 0} (changed : C → ℕ) (make : ℕ → C) → ((n : �
 numbers_same changed make same [] = refl
 numbers_same changed make same (n ∷ numbers) = λ i. same n i ∷ numbers_same changed make same numbers i
 
--- and tell what is found of them
+-- and say what is found of them
 all_tell : {C : Type 0} (P : C → Type 0) (make : ℕ → C) → ((n : ℕ) → P (make n)) → (numbers : List ℕ) → AllByRecursion P (map make numbers)
 all_tell P make each [] = tt
 all_tell P make each (n ∷ numbers) = (each n, all_tell P make each numbers)

@@ -78,6 +78,6 @@ numbers_reaped format world (Accept ask) = []
 numbers_reaped format world (Close connection) = []
 numbers_reaped format world Settle = []
 
--- exactly the rows of these numbers, in their order, each as it stands among the others
+-- exactly the rows of these numbers, in their order, each as it is among the others
 abbrev pub AreRowsOf : List ℕ → List GenRow → List GenRow → Type 0
 AreRowsOf numbers rows taken = map Some taken ≡ map (λ number. row_in number rows) numbers

@@ -30,7 +30,7 @@ impl Changed {
         }
     }
 
-    /// Puts these to them. Without memory nothing is promised.
+    /// Puts these to them. Out of memory, nothing is promised.
     pub(crate) fn put_all(&mut self, numbers: &[Gen]) -> Result<(), AllocError>
         ensures { OnOk result ((n : ℕ) → is_among self.new n ≡ (is_among self.old n || is_among numbers.now n)) }
     {

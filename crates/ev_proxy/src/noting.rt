@@ -58,7 +58,7 @@ pub(crate) fn remove_each(state: &mut State, numbers: &[Gen], deferred: &mut Def
     }
 }
 
-// Puts a row, where there is one, after those that are deferred.
+// Appends a row, where there is one, to those that are deferred.
 fn defer(deferred: &mut Deferred, row: Option<GenRow>)
     requires room { 0 < deferred.old.1 }
     ensures rows { deferred.new.0 ≡ deferred.old.0 ++ option_to_list row }

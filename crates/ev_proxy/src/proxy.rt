@@ -41,7 +41,7 @@ pub struct Proxy {
 }
 
 impl Proxy {
-    /// Nothing is known yet, and each of so many workers holds the empty picture.
+    /// Nothing is known yet, and each of this many workers holds the empty picture.
     pub fn new(alloc: Global, workers: u32, node: &Text) -> Result<Proxy, AllocError>
         ensures at { IfOk result (λ p. IsAt p (opening workers node.now)) }
         ensures deferred { IfOk result (λ p. p.deferred.0 ≡ []) }
@@ -57,8 +57,8 @@ impl Proxy {
     }
 
     /// What an event does, and its answer: one step of the machine, by the rules of a journal's format. What only a worker does is
-    /// ignored where another actor brings it. The rows of the generations that it reaped are deferred, and no others. Without
-    /// memory nothing is promised.
+    /// ignored where another actor brings it. The rows of the generations that it reaped are deferred, and no others. Out of
+    /// memory, nothing is promised.
     pub fn step(
         &mut self,
         alloc: Global,
@@ -144,7 +144,7 @@ impl Proxy {
     }
 
     /// Takes over what a worker did since it settled. The world is then the one after these entries. The deferred rows stay as
-    /// they were; without memory nothing else is promised.
+    /// they were; out of memory, nothing else is promised.
     pub fn take_batch(&mut self, batch: &Batch) -> Result<(), AllocError>
         ghost here: { World }
         requires at { IsAt self.old here }
@@ -157,7 +157,7 @@ impl Proxy {
     }
 
     /// A worker settles: it takes over the last snapshot, and its connections on listeners whose drain timeout came are closed.
-    /// The deferred rows stay as they were; without memory nothing else is promised.
+    /// The deferred rows stay as they were; out of memory, nothing else is promised.
     pub fn settle(&mut self, alloc: Global, worker: u32) -> Result<Settled, AllocError>
         ghost here: { World }
         requires at { IsAt self.old here }

@@ -56,14 +56,14 @@ batch_stepped format workers number picture (line ∷ lines) last world own run 
   batch_stepped format workers number picture lines last (step format world (Worker number) line.event).0 own run.2,
 )
 
--- the batch and the settle behind it are a run from the world in which the worker works
+-- the batch and the settle after it are a run from the world in which the worker works
 batch_runs : (parts : JournalParts) (worker : WorkerParts) (at n : ℕ) → WorksIn worker (world_now parts) → worker.number < parts.workers
     → RunsFrom parts.format parts.workers (world_now parts) (entries_made worker ++ settle_made worker at n parts ∷ [])
 batch_runs parts worker at n works below =
     runs_append parts.format parts.workers (world_now parts) (entries_made worker) (settle_made worker at n parts ∷ [])
     (works.made.answers parts.format parts.workers (world_now parts) below works.has) (below, refl, tt)
 
--- with them the registry stands where the worker has settled
+-- with them the registry is where the worker has settled
 settles_in : (picture : Picture) (proxy : Proxy) (parts : JournalParts) (worker : WorkerParts) (at n : ℕ) → IsRun parts.format parts.workers parts.node parts.journal
     → HaveStepped parts.format parts.workers (opening parts.workers parts.node) parts.journal
     → WorksIn worker (world_now parts) → worker.number < parts.workers
@@ -80,7 +80,7 @@ settles_in picture proxy parts worker at n run stepped works below latest led =
     (latest ∙ ap last_picture (sym more))
     (subst (IsAt proxy) (sym more) led)
 
--- the settle that was told is the machine's
+-- the settle that was reported is the machine's
 pub is_entered : (parts given : JournalParts) (pushed : List Entry) (worker : WorkerParts) (at n : ℕ) (closed : List ℕ) (version : ℕ) → given ≡ parts
     → pushed ≡ parts.journal ++ (entries_made worker ++ settle_told worker.number at n closed version ∷ [])
     → (settle worker.number (world_behind worker given)).1 ≡ Settled closed version

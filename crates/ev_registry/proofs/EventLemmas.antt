@@ -33,7 +33,7 @@ main_alone workers actor (Accept ask) main may = absurd (no_worker workers actor
 main_alone workers actor (Close connection) main may = absurd (no_worker workers actor main may)
 main_alone workers actor Settle main may = refl
 
--- an event of a worker: it is one of so many workers, and the event brings no resource
+-- an event of a worker: it is one of this many workers, and the event brings no resource
 pub record IsWorkers (workers number : ℕ) (event : Event) : Type 0 where
   pub within : number < workers
   pub items : items_in event ≡ 0

@@ -23,14 +23,14 @@ use Rattle.ev_run_laws.proofs.NumberLemmas.{entry_made as entry_draws}
 use Rattle.ev_registry.proofs.EventLemmas.{main_alone}
 use Rattle.ev_registry.specs.Registries.{DefersReaped, MayStep, HaveStepped, StandsFor}
 
--- a run, and one that goes on from the world behind it
+-- a run, and one that goes on from the world after it
 pub runs_append : (format : Format) (workers : ℕ) (world : World) (entries more : List Entry) → RunsFrom format workers world entries
     → RunsFrom format workers (world_after format world entries) more → RunsFrom format workers world (entries ++ more)
 runs_append format workers world [] more run rest = rest
 runs_append format workers world (entry ∷ entries) more run rest =
     (run.0, run.1, runs_append format workers (step format world entry.actor entry.event).0 entries more run.2 rest)
 
--- steps, and more from the world behind them
+-- steps, and more from the world after them
 pub stepped_append : (format : Format) (workers : ℕ) (world : World) (entries more : List Entry) → HaveStepped format workers world entries
     → HaveStepped format workers (world_after format world entries) more → HaveStepped format workers world (entries ++ more)
 stepped_append format workers world [] more had rest = rest
@@ -73,7 +73,7 @@ starts picture proxy format workers node kept journal given run stepped same is 
 pub at_but : (p : Proxy) (deferred : List GenRow × ℕ) (world : World) → IsAt p world → IsAt (record p { deferred = deferred }) world
 at_but p deferred world at = record { managed = at.managed; held = at.held; shown = at.shown }
 
--- more entries behind, at whose world what is known is
+-- more entries come after, and what is known is at their world
 pub goes_on : (picture : Picture) (proxy : Proxy) (parts : JournalParts) (more : List Entry) → IsRun parts.format parts.workers parts.node parts.journal
     → HaveStepped parts.format parts.workers (opening parts.workers parts.node) parts.journal
     → RunsFrom parts.format parts.workers (world_now parts) more → IsUnbroken more → HaveStepped parts.format parts.workers (world_now parts) more
@@ -143,7 +143,7 @@ draws parts now pushed entry event view pushes same =
     (subst (λ n. (world_after parts.format begun (parts.journal ++ entry ∷ [])).made ≤ (world_now parts).made + n) same
     (entry_draws parts.format begun parts.journal entry)))
 
--- the rows that it reaped wait behind those that waited
+-- the rows that it reaped wait after those that waited
 pub defers : (parts now given : JournalParts) (event : Event) (waiting before taken after : List GenRow) → parts ≡ now → given ≡ parts → waiting ≡ before
     → after ≡ waiting ++ taken → AreRowsOf (numbers_reaped given.format (world_now given) event) (world_now given).rows taken → DefersReaped event now before after
 defers parts now given event waiting before taken after view same was is told =

@@ -18,7 +18,7 @@ one_shown : (f : GenRow → ViewRow) (found : Option GenRow) → option_to_list 
 one_shown f None = refl
 one_shown f (Some row) = refl
 
--- behind those of the first numbers
+-- after those of the first numbers
 pub shown_more : (world : World) (n : ℕ) (before after : List ViewRow) → before ≡ map (view_row world) (rows_numbered n world.rows)
     → after ≡ before ++ option_to_list (option_map (view_row world) (row_numbered (n + 1) world.rows))
     → after ≡ map (view_row world) (rows_numbered (n + 1) world.rows)

@@ -19,8 +19,8 @@ use Rattle.ev_actors.specs.Journals.{JournalParts, world_now}
 use Rattle.ev_proxy.specs.declared.proxy.Proxy.{Proxy}
 use Rattle.ev_proxy.specs.Proxies.{IsAt, numbers_reaped}
 
--- what contracts see of a registry: what was done, the rows that reapings removed, until they are taken, and whether want of memory cut the
--- last event off, so that what is known has to be made anew
+-- what contracts see of a registry: what was done, the rows that reapings removed, until they are taken, and whether the last event ran
+-- out of memory, so that what is known has to be made anew
 pub record RegistryParts : Type 0 where
   pub journaled : JournalParts
   pub deferred : List GenRow
@@ -49,10 +49,10 @@ pub record StandsFor (is_lost : Bool) (picture : Picture) (proxy : Proxy) (parts
   pub latest : picture ≡ last_picture (world_now parts)
   pub at : is_lost ≡ false → IsAt proxy (world_now parts)
 
--- behind the rows that waited stand those of these numbers, in their order, each as it stands among the others
+-- after the rows that waited come those of these numbers, in their order, each as it is among the others
 abbrev pub AreDeferred : List ℕ → List GenRow → List GenRow → List GenRow → Type 0
 AreDeferred numbers rows before after = map Some after ≡ map Some before ++ map (λ number. row_in number rows) numbers
 
--- behind the rows that waited stand those of the generations that the event destroys in the world that a journal has led to
+-- after the rows that waited come those of the generations that the event destroys in the world that a journal has led to
 abbrev pub DefersReaped : Event → JournalParts → List GenRow → List GenRow → Type 0
 DefersReaped event parts before after = AreDeferred (numbers_reaped parts.format (world_now parts) event) (world_now parts).rows before after

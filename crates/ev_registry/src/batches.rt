@@ -10,7 +10,7 @@ use ev_worker::{BatchLine, Settled, Worker};
 use std::alloc::{AllocError, Global};
 use std::mem::drop;
 
-// Enters what a worker did and its settle behind a journal, all at once: out of memory, the journal stays as it was.
+// Appends what a worker did, and its settle, to a journal, all at once: out of memory, the journal stays as it was.
 pub(crate) fn enter_batch(
     journal: &mut Vec<Entry>,
     alloc: Global,

@@ -25,7 +25,7 @@ pub(crate) fn entry_of(
     })
 }
 
-// Enters what was done behind a journal, and puts the rows that it reaped behind those that wait. Out of memory, both stay as they were.
+// Appends what was done to a journal, and puts the rows that it reaped after those that wait. Out of memory, both stay as they were.
 pub(crate) fn enter(
     journal: &mut Vec<Entry>,
     deferred: &mut Deferred,

@@ -24,8 +24,8 @@ use std::marker::Model;
 use std::mem::{drop, replace};
 use std::sync::Arc;
 
-/// What is known, and the journal of what was done: a run of the machine. Where want of memory cut an event off, what is known counts as
-/// lost, and is made anew out of the journal with the next event; the last picture and the rows that wait to be dropped stand beside it,
+/// What is known, and the journal of what was done: a run of the machine. Where an event ran out of memory, what is known counts as
+/// lost, and is made anew out of the journal with the next event; the last picture and the rows that wait to be dropped are kept beside it,
 /// and stay.
 #[derive(Drop)]
 pub struct Registry {
@@ -97,7 +97,13 @@ impl Registry {
             journal: journal.as_slice(),
         };
         let proxy = make_anew(alloc, past)?;
-        let latest = proxy.snapshot()?;
+        let latest = match proxy.snapshot() {
+            Ok(latest) => latest,
+            Err(error) => {
+                drop(proxy);
+                return Err(error);
+            }
+        };
         Ok(Registry {
             alloc,
             format,
@@ -111,8 +117,8 @@ impl Registry {
         })
     }
 
-    /// What is known, as it is shown: the generations by number, each with how many connections are open on it. There is none where want
-    /// of memory cut the last event off, and else there is one. It costs look-ups of each number that was drawn.
+    /// What is known, as it is shown: the generations by number, each with how many connections are open on it. There is none where the
+    /// last event ran out of memory, and otherwise there is one. It costs look-ups of each number that was drawn.
     pub fn view(&self, alloc: Global) -> Result<Option<View>, AllocError>
         ensures shown { IfOk result (λ view. IfSome view (λ v. v ≡ view_of (world_now self.now.journaled))) }
         ensures lost { IfOk result (λ view. is_none view ≡ self.now.is_lost) }
@@ -142,7 +148,7 @@ impl Journaled for Registry {
             ≡ with_entry (entry_made actor at step event.now self.old.journaled) self.old.journaled) }
         ensures drawn { OnOk result ((world_now self.new.journaled).made ≤
             (world_now self.old.journaled).made + items_in event.now) }
-        // What a reaping names waits behind the rows that waited, each row as the world had it; no other event puts a row there.
+        // What a reaping names waits after the rows that waited, each row as the world had it; no other event puts a row there.
         ensures deferred { OnOk result (DefersReaped event.now self.old.journaled self.old.deferred self.new.deferred) }
         ensures err { OnErr result (self.new.journaled ≡ self.old.journaled) }
         ensures kept { OnErr result (self.new.deferred ≡ self.old.deferred) }

@@ -1,6 +1,6 @@
 use ev_types::{Entry, Format, Text};
 
-/// What led to what is known: entries, by the rules of a format, for so many workers.
+/// What led to what is known: entries, by the rules of a format, for this many workers.
 #[derive(Clone, Copy)]
 pub(crate) struct Past<'a> {
     pub(crate) format: Format,

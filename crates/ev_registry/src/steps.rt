@@ -94,7 +94,7 @@ pub(crate) fn step_after(
     proxy.step(alloc, past.format, actor, event)
 }
 
-// What a worker did since it settled, after what was done, and its settle behind.
+// What a worker did since it settled, after what was done, and then its settle.
 pub(crate) fn settle_after(
     proxy: &mut Proxy,
     alloc: Global,

@@ -9,7 +9,7 @@ use ev_proxy::Proxy;
 use ev_types::{Gen, GenRow, Kind, Name, Phase, RowStatus, Seq, TryCopy};
 use std::alloc::{AllocError, Global};
 
-/// A generation, how it stands, and how many connections are open on it.
+/// A generation, its status, and how many connections are open on it.
 #[derive(Drop)]
 pub struct ViewRow {
     pub kind: Kind,
@@ -40,7 +40,7 @@ pub(crate) fn rows_of(alloc: Global, proxy: &Proxy) -> Result<Seq<ViewRow>, Allo
     Ok(rows)
 }
 
-// Puts the generation of a number, where there is one, behind the others.
+// Appends the generation of a number, where there is one, to the others.
 fn put_row(
     rows: &mut Seq<ViewRow>,
     alloc: Global,

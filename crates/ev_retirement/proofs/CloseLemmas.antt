@@ -90,7 +90,7 @@ module _ (worker : ℕ) (expired : List ℕ) where
       by true false false h is rest = simp is rest
       by false s t h is rest = rest
 
-  -- connections of one worker stand in the order of their numbers
+  -- connections of one worker are in the order of their numbers
   abbrev IsOf : OpenMember → Type 0
   IsOf m = (m.worker == worker) ≡ true
 

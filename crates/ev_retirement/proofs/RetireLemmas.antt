@@ -219,7 +219,7 @@ find_retired n expired (row ∷ rows) apart = by (is_retired row) (n == row.numb
 find_of : (n : ℕ) (expired : List ℕ) (rows : List GenRow) → AreNumbered rows → find (is_numbered n) (retired_of expired rows) ≡ found_in expired (row_in n rows)
 find_of n expired rows apart = find_sorted n (map (retired_in expired) (filter is_retired rows)) ∙ find_retired n expired rows apart
 
--- the first, and else the second
+-- the first, and otherwise the second
 abbrev or_else : Option Retired → Option Retired → Option Retired
 or_else None other = other
 or_else (Some row) other = Some row

@@ -21,7 +21,7 @@ is_under kept version number = is_in (lookup (nat_eq version) kept) number
 abbrev pub HasSome : BTreeSet ℕ → Type 0
 HasSome numbers = (number : ℕ) × (contains nat_cmp numbers number ≡ true)
 
--- no version stands there with no generation under it
+-- no version is there with no generation under it
 abbrev pub HasNoEmpty : AsideKept → Type 0
 HasNoEmpty kept = (version : ℕ) (numbers : BTreeSet ℕ) → lookup (nat_eq version) kept ≡ Some numbers → HasSome numbers
 

@@ -12,7 +12,7 @@ use Rattle.ev_retirement.specs.declared.asking.Asking.{Asking}
 use Rattle.ev_retirement.specs.Asking.{AreKept}
 use Rattle.ev_retirement.specs.Holders.{HoldersParts}
 
--- the connection stands on a listener whose drain timeout came
+-- the connection is on a listener whose drain timeout came
 abbrev pub closes : List Retired → ℕ × ℕ → Bool
 closes drain held = is_expired drain held.1
 
@@ -84,7 +84,7 @@ abbrev pub Leaves : ℕ → List ℕ → Closing → Closing → Type 0
 Leaves worker numbers before after =
     (w connection : ℕ) → is_found after w connection ≡ (not ((w == worker) && has_number connection numbers) && is_found before w connection)
 
--- each of these connections that stands on a listener whose drain timeout came is looked at
+-- each of these connections that is on a listener whose drain timeout came is looked at
 abbrev pub AreFound : Closing → List Retired → List OpenMember → Type 0
 AreFound closing drain opened =
     AllByRecursion (λ (m : OpenMember). is_expired drain m.listener ≡ true → is_found closing m.worker m.connection ≡ true) opened

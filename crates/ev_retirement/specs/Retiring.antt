@@ -24,7 +24,7 @@ is_dropped Active = false
 is_dropped Draining = false
 is_dropped Dropped = true
 
--- the rows stand in the order of their numbers, and no two have one
+-- the rows are in the order of their numbers, and no two have one
 abbrev pub AreInOrder : List Retired → Type 0
 AreInOrder [] = ⊤
 AreInOrder (row ∷ rows) = AllByRecursion (λ (other : Retired). row.number < other.number) rows × AreInOrder rows

@@ -69,7 +69,7 @@ impl Aside {
     }
 }
 
-/// Puts a number among the others. Out of memory, they stay as they were.
+/// Adds a number to the others. Out of memory, they stay as they were.
 pub(crate) fn put(numbers: &mut BTreeSet<Gen>, number: Gen) -> Result<(), AllocError>
     ensures put { OnOk result (contains nat_cmp numbers.new number ≡ true) }
     ensures kept { HoldsMore (contains nat_cmp numbers.old) (contains nat_cmp numbers.new) }

@@ -12,7 +12,7 @@ use ev_types::Gen;
 use std::alloc::{AllocError, Global};
 use std::collections::BTreeSet;
 
-/// Which connections the next settles look at, by worker and number: each that stands on a listener whose drain timeout came is among
+/// Which connections the next settles look at, by worker and number: each that is on a listener whose drain timeout came is among
 /// them. Another one does no harm. A worker's number has 64 bits here, so that there is one above each.
 #[derive(Drop)]
 pub(crate) struct Closing {
@@ -71,7 +71,7 @@ impl Closing {
     }
 }
 
-// Puts a place among the others. Out of memory, they stay as they were.
+// Adds a place to the others. Out of memory, they stay as they were.
 fn put(places: &mut BTreeSet<(u64, u64)>, place: (u64, u64)) -> Result<(), AllocError>
     ensures put { OnOk result (contains key_order places.new place ≡ true) }
     ensures kept { HoldsMore (contains key_order places.old) (contains key_order places.new) }
@@ -92,7 +92,7 @@ fn numbers_in(
     ensures numbers { IfOk result (λ numbers. numbers.items ≡ numbers_at worker places.now.keys) }
     ensures ordered { IsOrdered key_order places.now }
 {
-    // They stand in order.
+    // They are in order.
     let _ = places.len();
     places
         .range((worker, 0)..(worker + 1, 0))
@@ -149,7 +149,7 @@ pub(crate) fn enter_where_expired(
     Ok(())
 }
 
-/// The numbers of a worker's connections that stand on listeners whose drain timeout came, from the least. It looks at no other
+/// The numbers of a worker's connections that are on listeners whose drain timeout came, from the least. It looks at no other
 /// connection than those that are to be looked at.
 pub(crate) fn numbers_closing(
     alloc: Global,
@@ -162,13 +162,13 @@ pub(crate) fn numbers_closing(
     ensures apart { AreApart ledger.now }
     ensures numbers { IfOk result (λ numbers. numbers.items ≡ numbers_closing drain.now (held_of worker ledger.now)) }
 {
-    // They stand in order, and no two are of one number.
+    // They are in order, and no two are of one number.
     let _ = ledger.on(worker, 0);
     let found = closing.numbers(alloc, worker)?;
     those_closing(alloc, ledger, drain, worker, found.as_slice())
 }
 
-// Of these numbers those of a worker's connections that stand on such listeners.
+// Of these numbers those of a worker's connections that are on such listeners.
 fn those_closing(
     alloc: Global,
     ledger: &Ledger,
@@ -185,7 +185,7 @@ fn those_closing(
         .collect(alloc)
 }
 
-// Whether a worker's connection stands on a listener whose drain timeout came.
+// Whether a worker's connection is on a listener whose drain timeout came.
 fn closes(ledger: &Ledger, drain: &Drain, worker: u32, conn: u64) -> bool
     ensures { result ≡ closes_at worker ledger.now drain.now conn }
 {

@@ -49,7 +49,7 @@ impl Model for Holders {
 }
 
 impl Holders {
-    /// Nothing was published, no connection is open, and no generation drains; each of so many workers holds the empty picture.
+    /// Nothing was published, no connection is open, and no generation drains; each of this many workers holds the empty picture.
     pub fn new(alloc: Global, workers: u32) -> Result<Holders, AllocError>
         ensures world { IfOk result (λ holders. (node : List ℕ) → StandsFor holders (opening workers node)) }
     {
@@ -80,7 +80,7 @@ impl Holders {
     }
 
     /// The drain timeout of a listener's old generations: it came for those of this name that drain. It answers whether there
-    /// was one for which it hadn't come; where there was none, the machine ignores it, and else the world is to be tidied. Out
+    /// was one for which it hadn't come; where there was none, the machine ignores it, and otherwise the world is to be tidied. Out
     /// of memory, all stays as it was.
     pub fn drain_timeout(&mut self, alloc: Global, name: &Name) -> Result<bool, AllocError>
         ensures answer { IfOk result (AnswersTimeout name.now self.old) }

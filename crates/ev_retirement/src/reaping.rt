@@ -87,7 +87,7 @@ fn set_aside(
     }
 }
 
-// Puts a number after the others, where it is one of those wanted.
+// Appends a number to the others, where it is one of those wanted.
 fn push_where(numbers: &mut Vec<Gen>, number: Gen, wanted: bool) -> Result<(), AllocError>
     ensures { OnOk result (numbers.new.items ≡ numbers.old.items ++ (if wanted then number ∷ [] else [])) }
 {

@@ -1,4 +1,4 @@
--- Texts that were seen before, and texts that stand in a list twice.
+-- Texts that were seen before, and texts that occur in a list twice.
 use Rattle.std.proofs.Common.{◌≡◌, ℕ, List, [], ◌∷◌, Bool, true, false, ◌||◌, cond, refl, ap, ◌∙◌, sym}
 use Rattle.std.specs.List.{list_any}
 use Rattle.std.specs.Str.{bytes_eq}

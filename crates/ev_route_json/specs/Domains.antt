@@ -1,15 +1,15 @@
--- Domains that stand twice.
+-- Domains that occur twice.
 use Rattle.std.specs.Prelude.{◌≡◌, ℕ, ◌||◌, List, [], ◌∷◌, ◌++◌, map, Bool, false, String, string_bytes}
 use Rattle.std.specs.List.{list_any, flat_map}
 use Rattle.std.specs.Str.{bytes_eq, str_to_ascii_lowercase}
 use Rattle.ev_types.specs.declared.routes.VirtualHost.{VirtualHost}
 
--- a text stands in the list twice
+-- a text occurs in the list twice
 abbrev pub has_repeat : List (List ℕ) → Bool
 has_repeat [] = false
 has_repeat (text ∷ texts) = list_any (bytes_eq text) texts || has_repeat texts
 
--- a domain stands twice among all hosts of a table, ASCII letters taken as lower case
+-- a domain occurs twice among all hosts of a table, ASCII letters taken as lower case
 abbrev pub repeats_domain : List VirtualHost → Bool
 repeats_domain hosts = has_repeat (map str_to_ascii_lowercase (flat_map (λ host. host.domains) hosts))
 

@@ -11,7 +11,7 @@ use Rattle.ev_tree.specs.Forms.{is_wrong, is_given, field_of}
 abbrev pub any_given : List (List ℕ) → Data → Bool
 any_given names tree = list_any (λ name. is_given (field_of name tree)) names
 
--- one of these fields stands in both spellings
+-- one of these fields is given in both spellings
 abbrev pub any_doubled : List (List ℕ) → Data → Bool
 any_doubled names tree = list_any (λ name. is_wrong (field_of name tree)) names
 

@@ -79,7 +79,7 @@ target_broken tree = either_broken (any_broken entry_broken (entries_of tree)) (
   v24 = is_given (object_of (codes "weighted_clusters") tree) && not (has_weight (clusters_of tree));
 })
 
--- the weighted clusters, where they have weights, and else the one cluster
+-- the weighted clusters, where they have weights, and otherwise the one cluster
 abbrev pub target_with : List WeightedCluster → List ℕ → Target
 target_with clusters cluster = if has_weight clusters then Weighted clusters else One cluster
 

@@ -5,7 +5,7 @@ use ev_types::{Text, VirtualHost};
 use std::alloc::{AllocError, Global};
 use std::collections::BTreeSet;
 
-/// Whether a domain stands twice among all hosts of a route configuration, ASCII letters taken as lower
+/// Whether a domain occurs twice among all hosts of a route configuration, ASCII letters taken as lower
 /// case. It takes n log n steps for n domains.
 pub fn repeats_domain(alloc: Global, hosts: &[VirtualHost]) -> Result<bool, AllocError>
     ensures { IfOk result (λ repeats. repeats ≡ repeats_domain hosts.now) }
@@ -33,7 +33,7 @@ fn push_in_lowercase(
     Ok(())
 }
 
-// Whether a text stands in the list twice.
+// Whether a text occurs in the list twice.
 fn has_repeat(alloc: Global, texts: Vec<String>) -> Result<bool, AllocError>
     ensures { IfOk result (λ repeats. repeats ≡ has_repeat (map string_bytes texts.items)) }
 {

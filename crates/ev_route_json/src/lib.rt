@@ -3,15 +3,15 @@
 //!
 //! # Choices
 //!
-//! - The loop over the parts of a list (`Inspect`, `inspect_all`) stands here and not in ev_tree: a trait can be
+//! - The loop over the parts of a list (`Inspect`, `inspect_all`) is here and not in ev_tree: a trait can be
 //!   written only for a type of the crate that has the one or the other, and the parts are types of ev_types.
 //!   ev_listener_json has loops of its own, since what it reads of a filter is no type of its own.
 //! - The value of a reading is a total function of the tree, so that a rule can be stated without it: weights that no
 //!   pick can be taken of stand for the single cluster, a status outside 200 to 599 for 0. It shows only where no
 //!   rule is broken.
-//! - A target's rules hold in a route only where `route` is given, and a config source's only where what it stands in
+//! - A target's rules hold in a route only where `route` is given, and a config source's only where what it is in
 //!   is.
-//! - The same name may stand twice among weighted clusters, and two virtual hosts may have the same name.
+//! - The same name may occur twice among weighted clusters, and two virtual hosts may have the same name.
 //! - A domain is compared by its bytes, ASCII letters as lower case; other letters stay as they are.
 //! - `read_routes` and `read_target` have no condition on the value.
 //! - Each part has a definition by this project's own rules, one as Envoy reads it where that differs, and one that takes

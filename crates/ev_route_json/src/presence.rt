@@ -15,7 +15,7 @@ pub struct Presence {
     pub given: bool,
     /// One of them is given and isn't an empty array.
     pub filled: bool,
-    /// One of them stands in both spellings.
+    /// One of them is given in both spellings.
     pub doubled: bool,
 }
 

@@ -307,7 +307,7 @@ fn has_weight(clusters: &[WeightedCluster]) -> bool
     1 <= sum && sum <= MAX_WEIGHT_SUM
 }
 
-// The weighted clusters, where they have weights, and else the one cluster.
+// The weighted clusters, where they have weights, and otherwise the one cluster.
 fn make_target(
     alloc: Global,
     clusters: Vec<WeightedCluster>,

@@ -52,7 +52,7 @@ rest_of_others number since all own (more, goes_on) =
     sym (filter-append (λ (c : ℕ × List Entry). c.0 == number) since more) ∙ ap (commits_by number) (sym goes_on) ∙ own in
     (more, goes_on, no_more (commits_by number since) (commits_by number more) both)
 
--- the operations are still done behind it
+-- the operations are still done after it
 pub ended_stays : (script : ScriptParts) (actor : Actor) (before after : JournalParts) → GrowsByOthers (seat_of actor) before after
     → HasEnded script actor before → HasEnded script actor after
 ended_stays script actor before after grows ended = record {

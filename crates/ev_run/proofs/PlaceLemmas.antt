@@ -10,7 +10,7 @@ use Rattle.ev_fits.proofs.BeginLemmas.{next_of}
 use Rattle.ev_run.specs.Playing.{EachAt, IsTask}
 use Rattle.ev_run.specs.declared.player.Task.TheVariants.{Worker}
 
--- so it is with each of these, by its place behind the first ones
+-- this holds for each of these, by its place after the first ones
 abbrev pub EachFrom : {X : Type 0} → ℕ → List X → (ℕ → X → Type 0) → Type 0
 EachFrom {X} first xs P = (k : ℕ) (d : X) → k < length xs → P (first + k) (get_or xs k d)
 
@@ -112,7 +112,7 @@ module _ {A X : Type 0} where
       (one_returns total bs passes R Q Q_after a x
       (subst (λ (z : A). AreReturning total (z ∷ bs) passes R Q) (sym isa) was) weaker give))
 
--- a worker that has done nothing yet is a task behind those of the main side
+-- a worker that has done nothing yet is a task after those of the main side
 pub worker_ready : (script : ScriptParts) (parts : JournalParts) (number : ℕ) (worker : WorkerParts) → parts ≡ nothing_done script → number < script.workers
     → HasBegun number (last_picture (world_now parts)) worker → IsTask script (4 + number) (Worker worker)
 worker_ready script parts number worker none within begun =
@@ -136,7 +136,7 @@ ok_then (Err e) P fine holds = absurd (never fine)
     never : true ≡ false → ⊥
     never h = cc
 
--- within a list what stands at a place needs no other
+-- within a list what is at a place needs no other
 pub get_any : {X : Type 0} (xs : List X) (k : ℕ) (d e : X) → k < length xs → get_or xs k d ≡ get_or xs k e
 get_any [] k d e below = absurd (none k below)
   where

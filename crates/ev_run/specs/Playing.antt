@@ -31,7 +31,7 @@ IsTask script seat (Worker worker) =
     (worker.number < script.workers) × (seat_of (by_worker worker.number) ≡ seat)
     × HasBegun worker.number (last_picture (world_now (nothing_done script))) worker
 
--- so it is with each of these, by its place
+-- this holds for each of these, by its place
 abbrev pub EachAt : {X : Type 0} → (ℕ → X → Type 0) → List X → Type 0
 EachAt {X} P xs = (k : ℕ) (d : X) → k < length xs → P k (get_or xs k d)
 

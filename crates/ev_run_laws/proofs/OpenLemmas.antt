@@ -46,7 +46,7 @@ only_at : {X : Type 0} (x y : X) (k : ℕ) → k < 1 → get_or (x ∷ []) k y �
 only_at x y zero lt at = at
 only_at x y (suc k) lt at = absurd (omega arith)
 
--- what a filter leaves stood there before, and passes
+-- what a filter leaves was there before, and passes
 left_parts : {X : Type 0} (keeps : X → Bool) (xs : List X) (x : X) → Contains (filter keeps xs) x → Contains xs x × (keeps x ≡ true)
 left_parts keeps xs x there = (
   All-contains (Contains xs) (filter keeps xs) x (All-filter keeps (Contains xs) xs (All-contains_itself xs)) there,
@@ -160,7 +160,7 @@ pub record OpensNow (maker : Actor) (event : Event) (answer : Answer) (m : OpenM
   pub names : names_row m.listener answer ≡ true
   pub of : connection_of event ≡ Some m.connection
 
--- where each connection comes from that is open behind an event
+-- where each connection comes from that is open after an event
 abbrev pub ComesFrom : World → Actor → Event → World × Answer → Type 0
 ComesFrom world maker event did =
     (m : OpenMember) → Contains did.0.opened m → StaysOpen world maker event did.1 m ⊎ OpensNow maker event did.1 m
@@ -291,7 +291,7 @@ module _ (world : World) (once : IsOpenOnce world.opened) where
   none_closed maker event did none same m there =
       stays maker event did.1 m (none m did.1) (subst (λ (opened : List OpenMember). Contains opened m) same there)
 
-  -- where the connections come from that are open behind an event
+  -- where the connections come from that are open after an event
   step-from : (format : Format) (maker : Actor) (event : Event) → ComesFrom world maker event (step format world maker event)
   step-from format maker Connect = managed_from format maker Connect refl (λ m answer. refl)
   step-from format maker Disconnect = managed_from format maker Disconnect refl (λ m answer. refl)

@@ -10,7 +10,7 @@ use Rattle.ev_model.specs.Runs.{world_after}
 abbrev pub row_numbered : ℕ → List GenRow → Option GenRow
 row_numbered number rows = find (λ (row : GenRow). number == row.number) rows
 
--- the rows of the first so many numbers, in their order
+-- the rows of the first n numbers, in their order
 abbrev pub rows_numbered : ℕ → List GenRow → List GenRow
 rows_numbered zero rows = []
 rows_numbered (suc n) rows = rows_numbered n rows ++ option_to_list (row_numbered (suc n) rows)

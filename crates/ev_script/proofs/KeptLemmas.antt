@@ -26,7 +26,7 @@ use Rattle.ev_script.specs.Asks.{conn_in, ask_in}
 use Rattle.ev_script.specs.WorkerLines.{worker_in, worker_line, accept_line, close_line, settle_line}
 use Rattle.ev_script.specs.Lines.{line_of, line_by, main_side_line}
 
--- the actor may make the event, where the worker that it is is one of so many
+-- the actor may make the event, where the worker that it is is one of this many
 abbrev pub MayMakeIn : Actor → Event → Type 0
 MayMakeIn actor event = (workers : ℕ) → ((worker : ℕ) → worker_of actor ≡ Some worker → worker < workers) → MayMake workers actor event
 

@@ -1,4 +1,4 @@
--- The first fault of the limits, behind lines that were read, is the first of the input; and where the last line given ends.
+-- The first fault of the limits, after lines that were read, is the first of the input; and where the last line given ends.
 use Rattle.std.proofs.Common.{◌≡◌, ℕ, zero, suc, ◌+◌, ◌-◌, ◌<◌, ◌≤◌, Bool, true, false, cond, List, [], ◌∷◌, ◌++◌, length, take, get_or, eqb, eq-eqb, IsTrue, refl, sym, ap, subst, ◌∙◌, ◌⊎◌, inl, inr, arith, append-nil, length-append}
 use Rattle.std.proofs.Math.ListN.{get_or-append}
 use Rattle.std.proofs.lemmas.List.{take_all, take-append-le}
@@ -41,7 +41,7 @@ nothing_before_limit forms input settings place other NoSuchWorker sound within 
 nothing_before_limit forms input settings place other NoByte sound within read s h = let none : length input.bytes ≡ 0 = ap length s.1 in omega arith
 nothing_before_limit forms input settings place other NotJournal sound within read s h = let here : other ≡ length input.bytes = s.2 in omega arith
 
--- at its place the kinds that are looked at before don't stand
+-- at its place there is none of the kinds that are looked at before
 least_limit : (forms : LineForms) (input : Input) (place : ℕ) (fault : LineFault) (kind k : FaultKind) → StandsAt input.bytes place fault → Tells fault kind → Stands forms input place k → fault_order kind ≤ fault_order k
 least_limit forms input place limit.TooLarge kind k stands tells s = let same : fault_order kind ≡ 0 = ap fault_order tells in omega arith
 least_limit forms input place limit.TooMany kind TooLarge stands tells s = absurd (stands.0 s.1)
@@ -65,7 +65,7 @@ least_limit forms input place limit.TooLong kind NotJournal stands tells s = let
 least_limit forms input place limit.Failed kind k stands tells s = absurd stands
 least_limit forms input place limit.OutOfMemory kind k stands tells s = absurd stands
 
--- a fault of the limits stands as its kind
+-- a fault of the limits is one of its kind
 limit_stands : (forms : LineForms) (input : Input) (place : ℕ) (fault : LineFault) (kind : FaultKind) → place < length input.bytes → StandsAt input.bytes place fault → Tells fault kind → Stands forms input place kind
 limit_stands forms input place limit.TooLong kind within stands tells = subst (Stands forms input place) (sym tells) (within, stands.2)
 limit_stands forms input place limit.TooMany kind within stands tells = subst (Stands forms input place) (sym tells) (within, stands.1)

@@ -15,7 +15,7 @@ feeds_up_to (b ∷ bs) (suc p) (suc q) h = by_test (eqb b 10) (feeds_up_to bs p 
     by_test true k = omega arith
     by_test false k = k
 
--- before a place behind a line feed there are more than before it
+-- before a place after a line feed there are more than before it
 pub feeds_below : (bs : List ℕ) (p q : ℕ) → p < q → p < length bs → get_or bs p 0 ≡ 10 → feeds_in (take p bs) < feeds_in (take q bs)
 feeds_below bs p zero h within e = absurd (omega arith)
 feeds_below [] p (suc q) h within e = absurd (omega arith)

@@ -90,7 +90,7 @@ later_same xs ys place h later =
     let same : feeds_in (take place (xs ++ ys)) ≡ feeds_in (take place xs) = index_same xs ys place h in
     omega arith
 
--- a fault of the bytes taken stands in the whole input
+-- a fault of the bytes taken is in the whole input
 pub stands_more : (forms : LineForms) (xs ys : List ℕ) (ended audit : Bool) (place : ℕ) (kind : FaultKind) → Stands forms (part xs audit) place kind → Stands forms (whole xs ys ended audit) place kind
 stands_more forms xs ys ended audit place TooLong s =
     let within : place < length xs = s.0 in

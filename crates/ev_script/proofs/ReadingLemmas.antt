@@ -63,7 +63,7 @@ prepend_known-append xs ys (Some zs) = ap Some (sym (append_assoc xs ys zs))
 takes_both : (before now after : Option (List ℕ)) (taken more : List ℕ) → Takes before now taken → Takes now after more → Takes before after (taken ++ more)
 takes_both before now after taken more e f = e ∙ ap (prepend_known taken) f ∙ prepend_known-append taken more after
 
--- ---- the lines behind the header
+-- ---- the lines after the header
 
 given_now : {A : Type 0} (forms : LineForms) (keeps : Profile → ℕ → Data → A → Type 0) (audit : Bool) (before now : Option (List ℕ)) (old new : LinesState) (settings : Settings) (heading : List ℕ) (kept : List A) (more out text : List ℕ) → (r : IsReading forms keeps audit before now old settings heading kept) → ReadsLine old new r.bytes more out text (Ok Line) → IsGiven forms (input_of audit new (r.bytes ++ more)) settings old.given text
 given_now forms keeps audit before now old new settings heading kept more out text r reads = given_line forms audit settings old new r.bytes more out text reads r.read

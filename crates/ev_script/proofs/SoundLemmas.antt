@@ -12,7 +12,7 @@ use Rattle.ev_script.specs.Content.{is_above, IsLineOf}
 use Rattle.ev_script.specs.ReadLines.{AreRead}
 use Rattle.ev_script.proofs.ContentLemmas.{first_is}
 
--- neither a fault of its content stands where a line ends, nor does a journal begin there
+-- there is no fault of its content where a line ends, nor does a journal begin there
 pub record IsSoundAt (forms : LineForms) (input : Input) (place : ℕ) : Type 0 where
   pub json : ¬ (Stands forms input place NotJson)
   pub header : ¬ (Stands forms input place NotHeader)

@@ -136,7 +136,7 @@ pub record IsUnknownWorker (forms : LineForms) (input : Input) (named : Option (
 
 -- ---- faults
 
--- a fault of this kind stands at the place
+-- a fault of this kind is at the place
 abbrev pub Stands : LineForms → Input → ℕ → FaultKind → Type 0
 Stands forms input place TooLong = (place < length input.bytes) × IsTooLong input.bytes place
 Stands forms input place TooMany = (place < length input.bytes) × IsTooMany input.bytes place
@@ -149,12 +149,12 @@ Stands forms input place NoByte = IsTrue input.ended × (input.bytes ≡ []) × 
 Stands forms input place NotJournal =
     IsTrue input.audit × IsTrue input.ended × (place ≡ length input.bytes) × ((start : ℕ) → ¬ (BeginsJournal input start))
 
--- the first fault: no other stands at an earlier place, or at its place with a kind that is looked at before
+-- the first fault: no other is at an earlier place, or at its place with a kind that is looked at before
 pub record IsFirstFault (forms : LineForms) (input : Input) (place : ℕ) (kind : FaultKind) : Type 0 where
   pub stands : Stands forms input place kind
   pub first : (other : ℕ) (kind_there : FaultKind) → Stands forms input other kind_there → (place < other) ⊎ ((place ≡ other) × (fault_order kind ≤ fault_order kind_there))
 
--- the line that a fault is told with, counted from 1: its own, and for a journal that is missing the one above the last
+-- the line that a fault is reported with, counted from 1: its own, and for a journal that is missing the one above the last
 abbrev pub fault_line : Input → ℕ → FaultKind → ℕ
 fault_line input place TooLong = index_at input place + 1
 fault_line input place TooMany = index_at input place + 1
@@ -175,6 +175,6 @@ pub record IsFaultOf (forms : LineForms) (input : Input) (line number : ℕ) : T
   pub told : line ≡ fault_line input place kind
   pub numbered : number ≡ fault_number kind
 
--- no fault stands anywhere
+-- there is no fault anywhere
 abbrev pub HasNoFault : LineForms → Input → Type 0
 HasNoFault forms input = (place : ℕ) (kind : FaultKind) → ¬ (Stands forms input place kind)

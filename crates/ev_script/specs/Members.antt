@@ -35,7 +35,7 @@ has_only names (object members) = names_only names members
 abbrev pub whole_within : ℕ → ℕ → Data → Option ℕ
 whole_within low high tree = option_and_then (λ n. if nat_le low n && nat_le n high then Some n else None) (option_and_then as_u64 (as_number tree))
 
--- a text of so many bytes
+-- a text of this many bytes
 abbrev pub text_within : ℕ → ℕ → Data → Option (List ℕ)
 text_within low high tree = option_and_then (λ text. if nat_le low (length text) && nat_le (length text) high then Some text else None) (as_str tree)
 

@@ -21,7 +21,7 @@ use Rattle.ev_script.specs.ReadLines.{AreRead, AreKept}
 abbrev pub input_of : Bool → LinesState → List ℕ → Input
 input_of audit state bytes = record { bytes = bytes; ended = state.ended; audit = audit }
 
--- how a fault of lines is told, where so many lines were given
+-- how a fault of lines is reported, where this many lines were given
 abbrev pub script_fault : ℕ → LineFault → ScriptFault
 script_fault given limit.TooLong = Bad (given + 1) 1
 script_fault given limit.TooMany = Bad (given + 1) 2
@@ -29,21 +29,21 @@ script_fault given limit.TooLarge = Bad (given + 1) 3
 script_fault given limit.Failed = Read
 script_fault given limit.OutOfMemory = OutOfMemory
 
--- a fault is the first of the bytes taken, before any journal; a failed read is told where they have none, and no journal
+-- a fault is the first of the bytes taken, before any journal; a failed read is reported where they have none, and no journal
 -- begins, and go on
 abbrev pub IsTold : LineForms → Input → ScriptFault → Type 0
 IsTold forms input (Bad line kind) = IsFaultOf forms input line kind
 IsTold forms input Read = HasNoFault forms input × (¬ (IsTrue input.ended)) × ((start : ℕ) → ¬ (BeginsJournal input start))
 IsTold forms input OutOfMemory = ⊤
 
--- the input is no audit's, was read to its end, has no fault and so many lines
+-- the input is no audit's, was read to its end, has no fault and this many lines
 pub record IsWhole (forms : LineForms) (input : Input) (count : ℕ) : Type 0 where
   pub script : input.audit ≡ false
   pub ended : IsTrue input.ended
   pub sound : HasNoFault forms input
   pub lines : length (lines_of input.bytes) ≡ count
 
--- after so many lines the journal begins, by a line of this text, and no fault stands up to that line's end
+-- after this many lines the journal begins, by a line of this text, and there is no fault up to that line's end
 pub record IsUpToJournal (forms : LineForms) (input : Input) (count : ℕ) (text : List ℕ) : Type 0 where
   pub place : ℕ
   pub begins : BeginsJournal input place

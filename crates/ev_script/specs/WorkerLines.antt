@@ -1,4 +1,4 @@
--- The lines of the workers. Each has a member `worker`, below 2^32; whether the script has so many
+-- The lines of the workers. Each has a member `worker`, below 2^32; whether the script has that many
 -- workers is another question.
 use Rattle.std.specs.Prelude.{ℕ, List, [], ◌∷◌, codes, Option, Some, option_map, option_and_then}
 use Rattle.serde_json.specs.Data.{Data}

@@ -17,7 +17,7 @@
 //! - The kinds of faults are an enum, `FaultKind`, with `number` for the number that is printed. The definition of a
 //!   fault has a fact for each kind, and the first fault is the least of all by its place, and at one place by
 //!   `fault_order`.
-//! - A place is a byte, or the end of the input after the last byte. Kinds 1, 2 and 3 stand at the byte that goes
+//! - A place is a byte, or the end of the input after the last byte. Kinds 1, 2 and 3 are at the byte that goes
 //!   above the limit, by ev_io's own facts; kinds 4 to 7 at the byte that ends their line.
 //! - Which lines there are is an argument of the definition of a fault (`LineForms`): what a tree sets as the first
 //!   line (`Settings`: how many workers there are, and the profile), and which worker it names as another one, or that
@@ -36,18 +36,18 @@
 //!   is kept until the end, and the header and its tree are read from it then: the loop would else need a second type
 //!   for what is kept of a header.
 //! - A script alone and a script with a journal after it are two calls with two types: `read_script` gives a
-//!   `Script`, and `read_audited_script` an `AuditedScript`. They stand in place of one call `read_script` with a
+//!   `Script`, and `read_audited_script` an `AuditedScript`. They take the place of one call `read_script` with a
 //!   flag and an answer that has both cases, of which each caller would have to rule out one. Trees are read of whole
 //!   inputs alone, since no command asks for those before a journal.
 //! - An audit's input is looked at up to the end of the journal's first line: a limit that is passed after it is
-//!   told by whoever reads the journal, with the same reader of lines. So `read_audited_script` says that no fault
-//!   stands up to there, and that one that it tells stands before any journal; `read_script` that none stands at all.
-//! - A fault stands in the bytes taken, and more bytes don't take it away (proved). So what is told is also a fault
+//!   reported by whoever reads the journal, with the same reader of lines. So `read_audited_script` says that there is no
+//!   fault up to there, and that one that it reports comes before any journal; `read_script` that there is none at all.
+//! - A fault is in the bytes taken, and more bytes don't take it away (proved). So what is reported is also a fault
 //!   of the whole input, however much of it was taken.
 //! - The reader asks that the reader of lines is fresh: the definition speaks of all bytes of the input, and none of
 //!   those may have gone elsewhere.
 //! - A script whose responses have 2^32 - 1 resources or more together is being out of memory: no input has room for
-//!   so many (that isn't proved).
+//!   that many (that isn't proved).
 //! - In an audit's input a line with a member `format` begins the journal even where it would be a fault of kind 6,
 //!   and even with `{"format":null}`; a first line with it is a header with a member too many.
 #![tactic(auto)]

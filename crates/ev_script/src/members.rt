@@ -67,7 +67,7 @@ pub(crate) fn whole_within(low: u64, high: u64, tree: &Value) -> Option<u64>
     }
 }
 
-// The text that `tree` is, where it has so many bytes.
+// The text that `tree` is, where it has this many bytes.
 pub(crate) fn text_within(low: usize, high: usize, tree: &Value) -> Option<&str>
     ensures text { option_copied result ≡ text_within low high (view tree.now) }
     ensures low { IfSome result (λ text. low ≤ length text.now) }

@@ -136,7 +136,7 @@ fn fault_at(line: u32, kind: FaultKind) -> ScriptFault
     }
 }
 
-// How a fault of lines is told, where so many lines were given.
+// How a fault of lines is reported, where this many lines were given.
 fn script_fault(given: u32, fault: LineFault) -> ScriptFault
     requires { given < u32.MAX }
     ensures { result ≡ script_fault given fault }

@@ -90,7 +90,7 @@ pub struct AuditedScript {
     pub journal: Vec<u8>,
 }
 
-/// Reads a script that stands before a journal, and the journal's first line. The reader of lines is a fresh one, and goes on
+/// Reads a script that comes before a journal, and the journal's first line. The reader of lines is a fresh one, and goes on
 /// with the journal's second line.
 ///
 /// # Errors

@@ -62,7 +62,7 @@ secret_at : (b : Bool) (x name : List ℕ) (xs : List (List ℕ)) (n : ℕ) (res
 secret_at true x name xs n rest h is so = so (omega arith) (is ∙ ap (λ (m : ℕ). get_or (x ∷ xs) m name) (sym (one_more n)))
 secret_at false x name xs n rest h is so = ap (λ (s : List ℕ). Some (Secret s)) (sym is)
 
--- the first secret that wasn't told of
+-- the first secret that wasn't reported
 pub next_secret : (told : Told) (names : List (List ℕ)) (others : List Awaited) (name : List ℕ) → prefix_len (contains bytes_eq told.secrets) names < length names
     → name ≡ get_or names (prefix_len (contains bytes_eq told.secrets) names) name → first_untold told (map Secret names ++ others) ≡ Some (Secret name)
 next_secret told [] others name h is = absurd (omega arith)

@@ -61,7 +61,7 @@ module _ {A D : Type 0} (is_due : ℕ × A → Bool) (part : ℕ × A → D) whe
   at_place place None = []
   at_place place (Some x) = cond (is_due (place, x)) (part (place, x) ∷ []) []
 
-  -- nothing stands at these places
+  -- nothing is at these places
   none_there : (at : ℕ → Option A) (m : ℕ) (cs : List ℕ) → ((n : ℕ) → m ≤ n → at n ≡ None) → Ascends m cs → flat_map (λ (n : ℕ). at_place n (at n)) cs ≡ []
   none_there at m [] none up = refl
   none_there at m (c ∷ cs) none up =
@@ -83,7 +83,7 @@ module _ {A D : Type 0} (is_due : ℕ × A → Bool) (part : ℕ × A → D) whe
   abbrev found_at : (ℕ → Option A) → List ℕ → List D
   found_at at cs = flat_map (λ (n : ℕ). at_place n (at n)) cs
 
-  -- what is due of these, which stand from a place on, has its place among the others
+  -- what is due of these, which are from a place on, has its place among the others
   abbrev Holds : ℕ → List A → List ℕ → Type 0
   Holds m xs cs = (i : ℕ) (x : A) → slice_get xs i ≡ Some x → is_due (m + i, x) ≡ true → list_any (nat_eq (m + i)) cs ≡ true
 

@@ -1,4 +1,4 @@
--- Places that stand under names, and those that are woken.
+-- Places that are under names, and those that are woken.
 use Rattle.std.proofs.Common.{◌≡◌, ℕ, ◌+◌, ◌<◌, Bool, true, false, cond, ◌||◌, List, [], ◌∷◌, ◌++◌, length, get_or, take, nat_eq, refl, sym, ap, ◌∙◌}
 use Rattle.std.specs.List.{list_any}
 use Rattle.std.proofs.lemmas.Bool.Decides.{same_from_decides}
@@ -19,7 +19,7 @@ same_swapped a b = same_from_decides (awaited_same a b) (awaited_same b a) (awai
 pub number_swapped : (a b : ℕ) → nat_eq a b ≡ nat_eq b a
 number_swapped a b = same_from_decides (nat_eq a b) (nat_eq b a) (numbers_decide a b) (λ h. sym ((numbers_decide b a).0 h), λ e. (numbers_decide b a).1 (sym e))
 
--- a place that was put under something stands there, and what stood there before does
+-- a place that was put under something is there, and what was there before still is
 pub stands_own : (a : Awaited) (place : ℕ) (before after : PlacesKept) → Enters a place before after → stands_under after a place ≡ true
 stands_own a place before after enters =
     ap (λ xs. has_place xs place) (enters a) ∙ has_more (places_under before a) (cond (awaited_same a a) (place ∷ []) []) place

@@ -1,4 +1,4 @@
--- What waits and what is complete behind a line that told of some, where more may be guarded.
+-- What waits and what is complete after a line that reported some, where more may be guarded.
 use Rattle.std.proofs.Common.{◌≡◌, ℕ, ◌<◌, ◌≤◌, ◌⊎◌, inl, inr, Bool, true, false, not, ◌||◌, ◌&&◌, List, [], ◌∷◌, length, get_or, take, Option, Some, None, option_map, unwrap_or, nat_eq, refl, sym, ap, ap₂, ◌∙◌, arith}
 use Rattle.std.specs.Prelude.{slice_get}
 use Rattle.std.specs.List.{list_any, list_all}
@@ -22,7 +22,7 @@ use Rattle.ev_secrets.specs.Waiting.{completed, complete_at, is_waiting, is_serv
 use Rattle.ev_secrets.proofs.WaitingLemmas.{complete_here}
 use Rattle.ev_secrets.proofs.TestLemmas.{or_first, and_second, both_ways, some_same, any_so, all_so}
 
--- ---- more was told of
+-- ---- more was reported
 
 more_told : (old new : Told) (heard : List Awaited) → AddsAll old new heard → (a : Awaited) → has_told old a ≡ true → has_told new a ≡ true
 more_told old new heard adds a h = adds a ∙ or_first (has_told old a) (list_any (awaited_same a) heard) h
@@ -39,7 +39,7 @@ open_where t s (x ∷ xs) h = by (t x) h (open_where t s xs)
     by true any rest = rest any
     by false any rest = refl
 
--- something complete stands at the place
+-- something complete is at the place
 complete_there : (told : Told) (gs : List Guarded) (n : ℕ) → complete_at told gs n ≡ true → (g : Guarded) × (slice_get gs n ≡ Some g) × (completed told g ≡ true)
 complete_there told gs n h = by (slice_get gs n) refl h
   where
@@ -88,7 +88,7 @@ module _ {S : Type 0} (old new : Told) (heard : List Awaited) (gs all : List Gua
       by (inl within) = sym (went.grows.first n within) ∙ at
       by (inr past) = absurd (both_ways (has_place woken n) (went.fresh n past (slice_get_within all n g at)) asleep)
 
-  -- and what it waited for wasn't told of
+  -- and what it waited for wasn't reported
   still_waiting : (n : ℕ) (g : Guarded) → slice_get all n ≡ Some g → has_place woken n ≡ false → completed old g ≡ false → is_waiting new after.under n g ≡ true
   still_waiting n g at asleep none =
       any_so (λ (a : Awaited). not (has_told old a) && stands_under before.under a n) (λ (a : Awaited). not (has_told new a) && stands_under after.under a n)

@@ -1,4 +1,4 @@
--- A loop that puts what some elements give behind others.
+-- A loop that puts what some elements give after others.
 use Rattle.std.proofs.Common.{◌≡◌, ℕ, zero, suc, ◌+◌, ◌<◌, List, [], ◌∷◌, ◌++◌, length, get_or, take, map, filter_map, Option, None, Some, option_to_list, refl, sym, ap, ◌∙◌, append_assoc, arith}
 use Rattle.std.specs.List.{cons_option}
 use Rattle.std.proofs.lemmas.List.{map-append, length-map, take_more}

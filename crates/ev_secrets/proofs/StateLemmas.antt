@@ -1,4 +1,4 @@
--- What is known behind one line more.
+-- What is known after one line more.
 use Rattle.std.proofs.Common.{◌≡◌, ℕ, suc, ◌+◌, ◌<◌, ◌≤◌, ◌⊎◌, inl, inr, Bool, true, false, not, cond, ◌&&◌, ◌||◌, List, [], ◌∷◌, ◌++◌, length, map, filter, filter_map, flat_map, Option, Some, None, option_map, option_and_then, unwrap_or, nat_eq, refl, sym, ap, ap₂, ◌∙◌, subst, arith, length-append}
 use Rattle.std.specs.Prelude.{slice_get}
 use Rattle.std.specs.List.{list_any, list_all, last_or, enumerate_from, cons_option}
@@ -52,7 +52,7 @@ stream_now before line =
     stream_step (last_or None (filter_map said before)) (said line)
     ∙ sym (ap (λ (o : Option Bool). unwrap_or o false) (ap (last_or None) (filter_map-append said before (line ∷ [])) ∙ last-append None (filter_map said before) (cons_option (said line) [])))
 
--- ---- what was told of, and values
+-- ---- what was reported, and values
 
 pub told_now : (before : List Data) (line : Data) (a : Awaited)
     → is_told (before ++ line ∷ []) a ≡ (is_told before a || list_any (awaited_same a) (flat_map told_by (heard_now (stream_at (before ++ line ∷ [])) line)))
@@ -199,7 +199,7 @@ due_found before line values marks gs k are kept =
     ∙ ap (map (λ (p : ℕ × Guarded). record { place = p.0; endpoints = endpoints_by p.1.key.cluster.discovery (before ++ line ∷ []) p.1 }))
     (same_due 0 all (due_by marks) P (λ i g at. let e : 0 + i ≡ i = omega arith in subst (λ (n : ℕ). due_by marks (n, g) ≡ is_due (front_of before line) g) (sym e) (due_as before line marks i g are at)))
 
--- what a test of what is complete says of a place, by what was told of
+-- what a test of what is complete says of a place, by what was reported
 pub was_as : (lines : List Data) (told : Told) (gs : List Guarded) (n : ℕ) → ((a : Awaited) → has_told told a ≡ is_told lines a)
     → complete_at told gs n ≡ was_by (λ (g : Guarded). is_complete lines g.key) gs n
 was_as lines told gs n h = by (slice_get gs n)
@@ -208,7 +208,7 @@ was_as lines told gs n h = by (slice_get gs n)
     by None = refl
     by (Some g) = completed_as lines told g h
 
--- what is guarded behind one line more stands behind the others
+-- what is guarded after one line more comes after the others
 pub guarded_grows : (before : List Data) (line : Data) (all : List Guarded) → all ≡ guarded_by by_secrets (before ++ line ∷ []) → Grows (guarded_by by_secrets before) all
 guarded_grows before line all kept =
     let old : List Guarded = guarded_by by_secrets before in
@@ -219,7 +219,7 @@ guarded_grows before line all kept =
       first = λ n within. ap (λ (xs : List Guarded). slice_get xs n) grown ∙ first_get old extended.more n within;
     }
 
--- what is known behind one line more, by what it told of and gave
+-- what is known after one line more, by what it reported and gave
 pub record Hears (before : List Data) (line : Data) (connected : Bool) (gave : List (List ℕ × Data)) (told : Told) (values : Values) : Type 0 where
   pub stream : connected ≡ stream_at (before ++ line ∷ [])
   pub given : gave ≡ flat_map values_in (heard_now (stream_at (before ++ line ∷ [])) line)

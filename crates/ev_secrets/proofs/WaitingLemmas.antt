@@ -17,7 +17,7 @@ use Rattle.ev_secrets.proofs.KnownLemmas.{front_passes}
 use Rattle.ev_secrets.proofs.PlaceLemmas.{number_swapped, stands_own, stands_still}
 use Rattle.ev_secrets.proofs.TestLemmas.{or_first, any_more, any_so, and_so, some_same}
 
--- ---- the first that wasn't told of
+-- ---- the first that wasn't reported
 
 found_some : (t : Awaited → Bool) (xs : List Awaited) (a : Awaited) → find (λ (x : Awaited). not (t x)) xs ≡ Some a → list_all t xs ≡ false
 found_some t [] a h = absurd (cc)
@@ -85,7 +85,7 @@ one_finished true false at h = refl
 one_finished false true at h = sym (h refl)
 one_finished false false at h = refl
 
--- a place that isn't complete comes to stand under the first that it still waits for
+-- a place that isn't complete is put under the first that it still waits for
 pub advances_waiting : {S : Type 0} (told : Told) (gs : List Guarded) (place : ℕ) (g : Guarded) (a : Awaited) (before after : Waiting) (finished : IndexSet ℕ S) → slice_get gs place ≡ Some g
     → next_of told g.key ≡ Some a → Enters a place before.under after.under → length after.passed.items ≡ length before.passed.items → HavePassed told gs after.passed.items
     → AdvancesOne told gs place before after finished finished

@@ -75,7 +75,7 @@ due_there marks values place (Some g) = if due_by marks (place, g) then due_part
 abbrev pub due_one : Marks → Values → List Guarded → ℕ → List DueParts
 due_one marks values guarded place = due_there marks values place (slice_get guarded place)
 
--- a place stands under the endpoints of one of these names
+-- a place is under the endpoints of one of these names
 abbrev pub stands_under_any : PlacesKept → List (List ℕ) → ℕ → Bool
 stands_under_any served names place = list_any (λ (name : List ℕ). stands_under served (Endpoints name) place) names
 
@@ -89,7 +89,7 @@ may_be_due complete marked place =
 abbrev pub Gains : (ℕ → Bool) → BTreeSet ℕ → BTreeSet ℕ → Type 0
 Gains more before after = (n : ℕ) → has_key nat_cmp after n ≡ (has_key nat_cmp before n || more n)
 
--- each place that was complete before stands under its endpoints
+-- each place that was complete before is under its endpoints
 abbrev pub WereServed : Complete → List Guarded → Type 0
 WereServed complete guarded = (place : ℕ) (g : Guarded) → slice_get guarded place ≡ Some g
     → contains nat_eq complete.places place ≡ true → is_served complete.served place g.key.cluster.discovery ≡ true

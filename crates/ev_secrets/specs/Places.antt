@@ -1,4 +1,4 @@
--- Places that stand under what they wait for.
+-- Places that are under what they wait for.
 use Rattle.std.specs.Prelude.{◌≡◌, ℕ, Bool, nat_eq, List, [], ◌∷◌, ◌++◌, unwrap_or, if◌then◌else◌}
 use Rattle.std.specs.List.{list_any}
 use Rattle.std.specs.Map.{lookup}
@@ -17,16 +17,16 @@ places_under kept awaited = unwrap_or (lookup (awaited_same awaited) kept) []
 abbrev pub has_place : List ℕ → ℕ → Bool
 has_place places place = list_any (nat_eq place) places
 
--- the place stands under this
+-- the place is under this
 abbrev pub stands_under : PlacesKept → Awaited → ℕ → Bool
 stands_under kept awaited place = has_place (places_under kept awaited) place
 
--- the place stands after the others under this, and the same as before under all else
+-- the place comes after the others under this, and the same as before under all else
 abbrev pub Enters : Awaited → ℕ → PlacesKept → PlacesKept → Type 0
 Enters awaited place before after = (other : Awaited)
     → places_under after other ≡ places_under before other ++ (if awaited_same awaited other then place ∷ [] else [])
 
--- none stands under this, and the same as before under all else
+-- none is under this, and the same as before under all else
 abbrev pub Leaves : Awaited → PlacesKept → PlacesKept → Type 0
 Leaves awaited before after = (other : Awaited)
     → places_under after other ≡ (if awaited_same awaited other then [] else places_under before other)

@@ -76,7 +76,7 @@ body_key (Good content) names = content_key content names
 body_key (Bad rule) names = None
 body_key Beat names = None
 
--- the endpoints of an assignment, as they stand there
+-- the endpoints of an assignment, as they are there
 abbrev pub endpoints_in : Data → Data
 endpoints_in assignment = given_or (array no_items) (field_of (codes "endpoints") assignment)
 

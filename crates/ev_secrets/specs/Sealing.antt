@@ -33,7 +33,7 @@ is_due front g =
     stream_at (up_to front) && is_complete (up_to front) g.key
     && (opens front || has_guarded front.line g.key || not (is_complete front.before g.key) || gives_endpoints front.line g.key)
 
--- the endpoints: those that stand in the first cluster of the key, or the value of their name
+-- the endpoints: those given in the first cluster of the key, or the value of their name
 abbrev pub endpoints_by : Discovery → List Data → Guarded → Option Data
 endpoints_by (Static rows) lines g = Some g.own
 endpoints_by (Eds service limited) lines g = value_of lines service

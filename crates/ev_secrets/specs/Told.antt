@@ -1,4 +1,4 @@
--- What the control plane has spoken of, by the lines that stand where a stream is open.
+-- What the control plane has spoken of, by the lines where a stream is open.
 use Rattle.std.specs.Prelude.{ℕ, Bool, true, false, not, ◌&&◌, nat_le, List, [], ◌++◌, length, map, filter, filter_map, flat_map, Option, Some, None, option_and_then, if◌then◌else◌, codes}
 use Rattle.std.specs.List.{list_any, list_all, last_or}
 use Rattle.std.specs.Str.{bytes_eq}
@@ -87,7 +87,7 @@ is_good (Good content) = true
 is_good (Bad rule) = false
 is_good Beat = false
 
--- a resource gives its name a value: it is good, its name stands once in the response, and isn't removed
+-- a resource gives its name a value: it is good, its name occurs once in the response, and isn't removed
 abbrev pub gives_value : ResponseParts → ItemParts → Bool
 gives_value response item =
     is_good item.body && not (nat_le 2 (length (items_named item.name response.items))) && not (is_among item.name response.removed)

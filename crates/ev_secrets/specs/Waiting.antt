@@ -21,18 +21,18 @@ completed told g = list_all (has_told told) (awaited_by g.key)
 abbrev pub complete_at : Told → List Guarded → ℕ → Bool
 complete_at told guarded place = unwrap_or (option_map (completed told) (slice_get guarded place)) false
 
--- more stand after these
+-- more come after these
 pub record Grows (guarded all : List Guarded) : Type 0 where
   pub longer : length guarded ≤ length all
   pub first : (place : ℕ) → place < length guarded → slice_get all place ≡ slice_get guarded place
 
--- what stands under something stays there
+-- what is under something stays there
 abbrev pub KeepsUnder : PlacesKept → PlacesKept → Type 0
 KeepsUnder before after = (a : Awaited) (n : ℕ) → stands_under before a n ≡ true → stands_under after a n ≡ true
 
 -- ---- what isn't complete
 
--- a place stands under something that its key waits for and that hasn't come
+-- a place is under something that its key waits for and that hasn't come
 abbrev pub is_waiting : Told → PlacesKept → ℕ → Guarded → Bool
 is_waiting told under place g =
     list_any (λ (a : Awaited). not (has_told told a) && stands_under under a place) (awaited_by g.key)
@@ -92,11 +92,11 @@ pub record GoesOn {S : Type 0} (old new : Told) (guarded all : List Guarded) (af
 
 -- ---- what is complete
 
--- a place stands under the endpoints that its cluster asks for, where it does
+-- a place is under the endpoints that its cluster asks for, where it does
 abbrev pub is_served : PlacesKept → ℕ → Discovery → Bool
 is_served served place discovery = list_all (λ (name : List ℕ). stands_under served (Endpoints name) place) (services_of discovery)
 
--- the set has exactly the complete places, and each of them stands under its endpoints
+-- the set has exactly the complete places, and each of them is under its endpoints
 pub record AreComplete (told : Told) (guarded : List Guarded) (complete : Complete) : Type 0 where
   pub places : (place : ℕ) → contains nat_eq complete.places place ≡ complete_at told guarded place
   pub served : (place : ℕ) (g : Guarded) → slice_get guarded place ≡ Some g

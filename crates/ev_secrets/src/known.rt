@@ -64,7 +64,7 @@ impl Told {
         secrets.len()
     }
 
-    /// The first of what the clusters of a key wait for that hasn't come, where so many of its secrets, from the first on,
+    /// The first of what the clusters of a key wait for that hasn't come, where this many of its secrets, from the first on,
     /// have come.
     pub(crate) fn next_of(
         &self,
@@ -131,7 +131,7 @@ impl Values {
         self.by_name.get(name)
     }
 
-    /// Takes these values, each in the place of the one before, and answers which names they are of.
+    /// Takes these values, each in place of the one before, and answers which names they are of.
     pub(crate) fn take_all(
         &mut self,
         alloc: Global,
@@ -148,7 +148,7 @@ impl Values {
         Ok(names)
     }
 
-    // Takes a value in the place of the one before.
+    // Takes a value in place of the one before.
     fn put(&mut self, name: Name, value: Value) -> Result<(), AllocError>
         ensures { OnOk result (PutsValue name (view value) self.old self.new) }
     {

@@ -3,9 +3,9 @@
 //!
 //! - A cluster names secrets by its transport socket alone, and only where that is the context of TLS towards upstream hosts. A
 //!   member of a wrong form, or in both spellings, names nothing, and the others still count.
-//! - Secrets come on an open stream alone, by a resource or a removed name, whatever else stands in it.
+//! - Secrets come on an open stream alone, by a resource or a removed name, whatever else is in it.
 //! - A line costs look-ups by what it says and what is sent after it, however much is guarded: each place that isn't complete
-//!   stands under the first that it still waits for, and goes on from where it was when that comes. The complete ones stand
+//!   is under the first that it still waits for, and goes on from where it was when that comes. The complete ones are
 //!   in a set, and under the endpoints that they ask for.
 #![tactic(auto)]
 

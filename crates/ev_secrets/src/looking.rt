@@ -74,7 +74,7 @@ fn candidates(
     Ok(candidates)
 }
 
-// Puts the places of a set among others.
+// Adds the places of a set to others.
 fn put_all(places: &mut BTreeSet<usize>, others: &IndexSet<usize>) -> Result<(), AllocError>
     ensures { OnOk result (Gains (contains nat_eq others.now) places.old places.new) }
 {
@@ -84,7 +84,7 @@ fn put_all(places: &mut BTreeSet<usize>, others: &IndexSet<usize>) -> Result<(),
     Ok(())
 }
 
-// Puts the places that stand under these endpoints among others.
+// Adds the places that are under these endpoints to others.
 fn put_served(
     alloc: Global,
     places: &mut BTreeSet<usize>,
@@ -100,7 +100,7 @@ fn put_served(
     Ok(())
 }
 
-// Puts these places among others.
+// Adds these places to others.
 fn put_each(places: &mut BTreeSet<usize>, others: &[usize]) -> Result<(), AllocError>
     ensures { OnOk result (Gains (has_place others.now) places.old places.new) }
 {
@@ -110,7 +110,7 @@ fn put_each(places: &mut BTreeSet<usize>, others: &[usize]) -> Result<(), AllocE
     Ok(())
 }
 
-// Puts a place among others.
+// Adds a place to others.
 fn put(places: &mut BTreeSet<usize>, place: usize) -> Result<(), AllocError>
     ensures { OnOk result (Gains (λ n. nat_eq n place) places.old places.new) }
 {
@@ -120,7 +120,7 @@ fn put(places: &mut BTreeSet<usize>, place: usize) -> Result<(), AllocError>
     Ok(())
 }
 
-// Puts what stands at a place after these, where it is due.
+// Appends what is at a place to these, where it is due.
 fn push_due(
     due: &mut Vec<Due>,
     numbers: &Numbers,

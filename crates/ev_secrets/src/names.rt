@@ -15,7 +15,7 @@ pub(crate) fn make_name(alloc: Global, text: &str) -> Result<Option<Name>, Alloc
     }
 }
 
-// Puts a name after these, where there is one.
+// Appends a name to these, where there is one.
 pub(crate) fn push_name(names: &mut Vec<Name>, name: Option<Name>) -> Result<(), AllocError>
     ensures { OnOk result (names.new.items ≡ names.old.items ++ option_to_list name) }
 {

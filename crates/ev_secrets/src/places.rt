@@ -7,7 +7,7 @@ use indexmap::IndexMap;
 use std::alloc::{AllocError, Global};
 use std::marker::Model;
 
-/// Places that stand under what they wait for, or waited for.
+/// Places that are under what they wait for, or waited for.
 #[derive(Drop)]
 pub(crate) struct Places {
     lists: IndexMap<Awaited, Seq<usize>>,
@@ -41,7 +41,7 @@ impl Places {
         }
     }
 
-    /// Puts a place after those under this.
+    /// Appends a place to those under this.
     pub(crate) fn put(
         &mut self,
         alloc: Global,

@@ -104,7 +104,7 @@ pub(crate) fn references_of(alloc: Global, body: Option<&Value>) -> Result<Vec<N
     Ok(names)
 }
 
-// Puts the secrets that these entries name after these.
+// Appends the secrets that these entries name to these.
 fn push_all(alloc: Global, names: &mut Vec<Name>, configs: &[Value]) -> Result<(), AllocError>
     ensures { OnOk result (names.new.items ≡ names.old.items ++ filter_map secret_named (map view configs.now)) }
 {
@@ -114,7 +114,7 @@ fn push_all(alloc: Global, names: &mut Vec<Name>, configs: &[Value]) -> Result<(
     Ok(())
 }
 
-// Puts the secret that an entry names after these, where an entry is given.
+// Appends the secret that an entry names to these, where an entry is given.
 fn push_given(alloc: Global, names: &mut Vec<Name>, config: Found<&Value>) -> Result<(), AllocError>
     ensures { OnOk result (names.new.items
         ≡ names.old.items ++ filter_map secret_named (given_list (found_map (λ v. view v.now) config.entry))) }
@@ -125,7 +125,7 @@ fn push_given(alloc: Global, names: &mut Vec<Name>, config: Found<&Value>) -> Re
     }
 }
 
-// Puts the secret that an entry names after these, where it names one.
+// Appends the secret that an entry names to these, where it names one.
 fn push_named(alloc: Global, names: &mut Vec<Name>, config: &Value) -> Result<(), AllocError>
     ensures { OnOk result (names.new.items ≡ names.old.items ++ option_to_list (secret_named (view config.now))) }
 {
@@ -135,14 +135,14 @@ fn push_named(alloc: Global, names: &mut Vec<Name>, config: &Value) -> Result<()
     Ok(())
 }
 
-// The endpoints that stand in a cluster itself.
+// The endpoints given in a cluster itself.
 pub(crate) fn own_endpoints(alloc: Global, body: Option<&Value>) -> Result<Value, AllocError>
     ensures { IfOk result (λ endpoints. view endpoints ≡ endpoints_in (load_assignment_of (tree_of body.entry))) }
 {
     endpoints_in(alloc, load_assignment(alloc, body)?)
 }
 
-// The assignment that stands in a cluster itself.
+// The assignment given in a cluster itself.
 #[tactic(auto, unfolding(ev_cluster_json::specs::Clusters::load_assignment_of))]
 fn load_assignment<'a>(
     alloc: Global,
@@ -153,7 +153,7 @@ fn load_assignment<'a>(
     inner_object(alloc, body, "load_assignment")
 }
 
-// The endpoints of an assignment, as they stand there.
+// The endpoints of an assignment, as they are there.
 pub(crate) fn endpoints_in(alloc: Global, assignment: Option<&Value>) -> Result<Value, AllocError>
     ensures { IfOk result (λ endpoints. view endpoints ≡ endpoints_in (tree_of assignment.entry)) }
 {

@@ -147,7 +147,7 @@ fn put_place(set: &mut IndexSet<usize>, item: Option<usize>) -> Result<(), Alloc
 ///
 /// # Errors
 /// `Private` exactly for the first line that uses a name that begins with `tls/` for endpoints. `Large` where there is none,
-/// exactly for the line with whose output the text goes above a limit of inputs. `OutOfMemory` without memory, and for 2^32
+/// exactly for the line with whose output the text goes above a limit of inputs. `OutOfMemory` where memory runs out, and for 2^32
 /// lines and more.
 pub fn expand(alloc: Global, head: &Value, lines: &[Value]) -> Result<Vec<u8>, ExpandError>
     ensures { IsExpanded tls_rules (view head.now) (map view lines.now) result }

@@ -74,7 +74,7 @@ fn secrets_in(alloc: Global, message: Option<&Value>) -> Result<Vec<Name>, Alloc
     Ok(names)
 }
 
-// Puts the names of these resources after these.
+// Appends the names of these resources to these.
 fn push_own(alloc: Global, names: &mut Vec<Name>, resources: &[Value]) -> Result<(), AllocError>
     ensures { OnOk result (names.new.items ≡ names.old.items ++ filter_map own_name (map view resources.now)) }
 {
@@ -84,7 +84,7 @@ fn push_own(alloc: Global, names: &mut Vec<Name>, resources: &[Value]) -> Result
     Ok(())
 }
 
-// Puts the removed names after these.
+// Appends the removed names to these.
 fn push_removed(alloc: Global, names: &mut Vec<Name>, removed: &[Value]) -> Result<(), AllocError>
     ensures { OnOk result (names.new.items ≡ names.old.items ++ filter_map removed_name (map view removed.now)) }
 {
@@ -114,7 +114,7 @@ fn endpoints_told(alloc: Global, response: &Response) -> Result<Vec<Name>, Alloc
     Ok(names)
 }
 
-// Puts the names that come with these resources after these.
+// Appends the names that come with these resources to these.
 fn push_items(alloc: Global, names: &mut Vec<Name>, items: &[Item]) -> Result<(), AllocError>
     ensures { OnOk result (names.new.items ≡ names.old.items ++ filter_map item_told items.now) }
 {
@@ -124,7 +124,7 @@ fn push_items(alloc: Global, names: &mut Vec<Name>, items: &[Item]) -> Result<()
     Ok(())
 }
 
-// Puts those of these texts that are names after these.
+// Appends those of these texts that are names to these.
 fn push_texts(alloc: Global, names: &mut Vec<Name>, texts: &[Text]) -> Result<(), AllocError>
     ensures { OnOk result (names.new.items ≡ names.old.items ++ filter_map name_in texts.now) }
 {

@@ -122,7 +122,7 @@ fn entry_values(
     Ok(values)
 }
 
-// Puts the value that a resource gives after these, where it gives one.
+// Appends the value that a resource gives to these, where it gives one.
 fn push_value(
     alloc: Global,
     values: &mut Vec<(Name, Value)>,

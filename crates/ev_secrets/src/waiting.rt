@@ -74,7 +74,7 @@ impl Waiting {
         Ok(finished)
     }
 
-    // Goes on with a place: it comes to stand under the first that it still waits for, or it is complete.
+    // Goes on with a place: it is put under the first that it still waits for, or it is complete.
     fn advance(
         &mut self,
         alloc: Global,

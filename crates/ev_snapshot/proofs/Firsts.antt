@@ -1,4 +1,4 @@
--- Where the first route that takes a path stands.
+-- Where the first route that takes a path is.
 use Rattle.std.proofs.Common.{◌≡◌, ℕ, ◌+◌, ◌<◌, ◌≤◌, ◌==◌, ◌&&◌, ◌||◌, ◌++◌, Bool, true, false, not, min, cond, List, [], ◌∷◌, length, take, suc, zero, get_or, refl, sym, ap, ◌∙◌, arith, subst}
 use Rattle.std.proofs.lemmas.Grind.{common_steps, take_at_read}
 use Rattle.std.proofs.lemmas.Bool.Decides.{nat_tests}
@@ -37,7 +37,7 @@ first_either p q (x ∷ xs) = by (p x) (q x) (first_either p q xs)
     by false true rest = omega arith
     by false false rest = omega (arith, rest)
 
--- a text of this length is the front of a longer one
+-- a text of this length is the prefix of a longer one
 front_same : (n : ℕ) (front path : List ℕ) → n ≤ length path → bytes_eq front (take n path) ≡ (length front == n) && begins_with path front
 front_same zero [] path short = refl
 front_same (suc n) [] [] short = absurd (omega arith)
@@ -52,7 +52,7 @@ front_long zero (f ∷ front) path long = absurd (omega arith)
 front_long (suc n) (f ∷ front) [] long = grind (arith, common_steps, nat_tests)
 front_long (suc n) (f ∷ front) (b ∷ path) long = grind (arith, common_steps, nat_tests, front_long n front path (omega arith))
 
--- a text of this length is the front of another before a `/`, or all of it
+-- a text of this length is the prefix of another before a `/`, or all of it
 part_same : (n : ℕ) (front path : List ℕ)
     → is_part n path && bytes_eq front (take n path) ≡ (length front == n) && (bytes_eq path front || begins_with path (front ++ 47 ∷ []))
 part_same zero [] [] = refl

@@ -3,7 +3,7 @@ use Rattle.std.proofs.Common.{◌≡◌, ℕ, ◌<◌, ◌≤◌, ◌&&◌, ◌+
 use Rattle.std.proofs.lemmas.Grind.{common_steps}
 use Rattle.ev_model.specs.Paths.{begins_with}
 
--- a longer text goes on after the front with the byte that stands there
+-- a longer text goes on after the prefix with the byte that is there
 pub begins_more : (text front : List ℕ) (byte : ℕ) → length front < length text
     → begins_with text (front ++ byte ∷ []) ≡ begins_with text front && nat_eq (slice_index_or text (length front) 0) byte
 begins_more [] [] byte less = grind (arith, common_steps)

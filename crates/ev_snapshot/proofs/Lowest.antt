@@ -31,7 +31,7 @@ use Rattle.ev_model.specs.declared.pictures.ServedListener.{ServedListener}
 use Rattle.ev_snapshot.specs.Chosen.{IsLowestAt, TakesLowest}
 use Rattle.ev_snapshot.proofs.Places.{place_from, from_start, passed, reached, none_left, sum_more}
 
--- what stands at the place that a search by running sums finds has some weight
+-- what is at the place that a search by running sums finds has some weight
 found_weighs : {X : Type 0} (weight : X → ℕ) (xs : List X) (n x : ℕ) (d : X) (left i : ℕ) → length xs ≤ i + left → sum (take i (map weight xs)) ≤ n
     → place_from weight xs n i ≡ Some x → (x < length xs) × (0 < weight (get_or xs x d))
 found_weighs weight xs n x d zero i all below found =

@@ -1,4 +1,4 @@
--- Lists in the order of names: two that find the same under each name are one.
+-- Lists in the order of names: two that find the same under each name are equal.
 use Rattle.std.proofs.Common.{◌≡◌, ◌∙◌, ℕ, Bool, true, false, cond, List, [], ◌∷◌, filter, find, Some, None, Ordering, refl, sym, ap, subst, true≢false}
 use Rattle.std.specs.declared.cmp.Ordering.TheVariants.{Less, Equal, Greater}
 use Rattle.std.specs.Cmp.{tied_itself}
@@ -118,7 +118,7 @@ all_fail p (x ∷ xs) e = by (p x) refl e (all_fail p xs)
     by true f h rest = absurd cc
     by false f h rest = (f, rest h)
 
--- two lists in the order of their names that find the same under each name are one
+-- two lists in the order of their names that find the same under each name are equal
 module _ {X : Type 0} (name : X → List ℕ) where
   abbrev pub comes_before : X → X → Bool
   comes_before x y = is_before (name x) (name y)

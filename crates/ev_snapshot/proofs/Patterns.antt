@@ -34,7 +34,7 @@ found_passes p (d ∷ ds) f found = by (p d) refl (found_passes p ds f) found
     by true is later here = let same : d ≡ f = cc in ap p (sym same) ∙ is
     by false is later rest = later rest
 
--- the domains that fit have at most so many bytes
+-- the domains that fit have at most this many bytes
 abbrev pub FitsWithin : (HostDomain → Bool) → ℕ → List HostDomain → Type 0
 FitsWithin p n ds = All (λ (d : HostDomain). p d ≡ true → length d.domain ≤ n) ds
 
@@ -61,7 +61,7 @@ longest_within p n (d ∷ ds) within f is =
     by true is_p rest at = with_rest (first is_p) (longest (filter p ds)) rest at
     by false is_p rest at = rest f at
 
--- where none that fits has more bytes, the first that has so many is the longest
+-- where none that fits has more bytes, the first that has this many is the longest
 pub longest_found : (p : HostDomain → Bool) (n : ℕ) (ds : List HostDomain) → FitsWithin p n ds → (f : HostDomain)
     → find (λ (d : HostDomain). (length d.domain == n) && p d) ds ≡ Some f → longest (filter p ds) ≡ Some f
 longest_found p n [] within f found = absurd (cc)
@@ -99,7 +99,7 @@ longest_found p n (d ∷ ds) within f found =
     by false true is_p at rest found = rest found
     by false false is_p at rest found = rest found
 
--- where none has so many bytes, those that fit have fewer
+-- where none has this many bytes, those that fit have fewer
 pub fits_fewer : (p : HostDomain → Bool) (n : ℕ) (ds : List HostDomain) → FitsWithin p (n + 1) ds
     → find (λ (d : HostDomain). (length d.domain == n + 1) && p d) ds ≡ None → FitsWithin p n ds
 fits_fewer p n [] within none = All-nil (λ (d : HostDomain). p d ≡ true → length d.domain ≤ n)
@@ -180,7 +180,7 @@ suffix_text host n some less (x ∷ rest) = by (length rest == n) refl
         let other : (length rest == length back) ≡ false = grind (arith, nat_tests, many) in
         grind (arith, common_steps, nat_tests, texts_unlike rest back other)
 
--- the suffix form of so many bytes that a host ends with is the domain of that text
+-- the suffix form of this many bytes that a host ends with is the domain of that text
 pub suffix_key : (host : List ℕ) (n : ℕ) → 1 ≤ n → n < length host → (d : HostDomain)
     → is_domain (42 ∷ drop (length host - n) host) d ≡ (length d.domain == n + 1) && has_suffix host d
 suffix_key host n some less d = suffix_text host n some less d.domain
@@ -222,7 +222,7 @@ prefix_text host n some less starless text = by (length text == n + 1) refl
         let other : (length text == length (front ++ 42 ∷ [])) ≡ false = grind (arith, nat_tests, size) in
         texts_unlike text (front ++ 42 ∷ []) other
 
--- the prefix form of so many bytes that a host begins with is the domain of that text
+-- the prefix form of this many bytes that a host begins with is the domain of that text
 pub prefix_key : (host : List ℕ) (n : ℕ) → 1 ≤ n → n < length host → begins_with host (codes "*") ≡ false → (d : HostDomain)
     → is_domain (take n host ++ 42 ∷ []) d ≡ (length d.domain == n + 1) && has_prefix host d
 prefix_key host n some less starless d = prefix_text host n some less starless d.domain

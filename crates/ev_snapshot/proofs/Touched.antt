@@ -38,7 +38,7 @@ find_kept p q (x ∷ xs) kept = by (p x) (q x) refl refl kept (find_kept p q xs)
     by false true e f kept rest = (λ i. cond (e i) (Some x) (find p (filter q xs))) ∙ rest kept
     by false false e f kept rest = rest kept
 
--- what is found by whatever test is found by its number, where no number stands twice
+-- what is found by whatever test is found by its number, where no number occurs twice
 own_number : {X : Type 0} (number : X → ℕ) (p : X → Bool) (xs : List X) (y : X) → IsPairwise (λ a b. not (number a == number b)) xs → find p xs ≡ Some y
     → numbered number xs (number y) ≡ Some y
 own_number number p [] y s e = absurd cc
@@ -232,7 +232,7 @@ module _ {C X : Type 0} (number : X → ℕ) (name : X → List ℕ) (changed : 
   without_none [] = refl
   without_none (x ∷ xs) = ap (λ ys. x ∷ ys) (without_none xs)
 
--- what stands at a place is the first of what is left from there on
+-- what is at a place is the first of what is left from there on
 pub drop_at : {A : Type 0} (xs : List A) (i : ℕ) (x : A) → i < length xs → x ≡ get_or xs i x → drop i xs ≡ x ∷ drop (i + 1) xs
 drop_at xs i x within is =
     drop-cons xs i x within ∙ ap (λ n. get_or xs i x ∷ drop n xs) (next i) ∙ ap (λ (y : _). y ∷ drop (i + 1) xs) (sym is)

@@ -95,12 +95,12 @@ abbrev pub IsPairwise : {X : Type 0} → (X → X → Bool) → List X → Type 
 IsPairwise test [] = ⊤
 IsPairwise test (x ∷ xs) = AllByRecursion (λ other. test x other ≡ true) xs × IsPairwise test xs
 
--- each name stands before the names after it, and no number stands twice
+-- each name comes before the names after it, and no number occurs twice
 pub record IsInOrder {X : Type 0} (number : X → ℕ) (name : X → List ℕ) (xs : List X) : Type 0 where
   pub names : IsPairwise (λ one other. is_before (name one) (name other)) xs
   pub numbers : IsPairwise (λ one other. not (number one == number other)) xs
 
--- clusters and listeners are in the order of their names, and no number stands twice
+-- clusters and listeners are in the order of their names, and no number occurs twice
 pub record IsOrdered (shown : Shown) : Type 0 where
   pub clusters : IsInOrder (λ (c : ServedCluster). c.number) (λ (c : ServedCluster). c.name) shown.clusters
   pub listeners : IsInOrder (λ (l : ServedListener). l.number) (λ (l : ServedListener). l.name) shown.listeners

@@ -41,7 +41,7 @@ numbers_named (Served listener cluster host) = listener ∷ cluster ∷ []
 abbrev pub names_shown : Shown → Choice → Bool
 names_shown shown choice = list_all (λ number. is_shown number shown) (numbers_named choice)
 
--- the host stands at this place of these hosts, and none of them has a lower priority
+-- the host is at this place of these hosts, and none of them has a lower priority
 pub record IsLowestAt (hosts : List HostRowParts) (place : ℕ) (host : HostRowParts) : Type 0 where
   pub there : slice_get hosts place ≡ Some host
   pub lowest : All (λ (other : HostRowParts). host.priority ≤ other.priority) hosts

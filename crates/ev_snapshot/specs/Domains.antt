@@ -45,7 +45,7 @@ has_length n there = slice_index_or there n false
 abbrev pub KeepsLengths : List Bool → List Bool → Type 0
 KeepsLengths before after = (n : ℕ) → has_length n before ≡ true → has_length n after ≡ true
 
--- the first domain that passes the test, with so many bytes beside its star
+-- the first domain that passes the test, with this many bytes beside its star
 abbrev pub find_beside : ℕ → (HostDomain → Bool) → List HostDomain → Option HostDomain
 find_beside n fits domains = find (λ (d : HostDomain). (length d.domain == n + 1) && fits d) domains
 

@@ -6,7 +6,7 @@ use Rattle.ev_types.specs.declared.routes.Route.{Route}
 use Rattle.ev_snapshot.specs.Paths.{AreCovered, FindsFirst, are_by_path}
 use Rattle.ev_snapshot.specs.declared.path_index.PathIndex.{PathIndex}
 
--- the index has the first place of each match of these routes, and the length of each front
+-- the index has the first place of each match of these routes, and the length of each prefix
 pub record IsIndexed (routes : List Route) (index : PathIndex) : Type 0 where
   pub places : FindsFirst routes (get bytes_eq index.places)
   pub lengths : AreCovered index.lengths routes

@@ -5,7 +5,7 @@ use Rattle.std.specs.Option.{option_or}
 use Rattle.indexmap.specs.IndexMap.{IndexMap, get, get_by, keys}
 use Rattle.ev_snapshot.specs.declared.table.Table.{Table}
 
--- what stands over a base, or else what the base has
+-- what lies over a base, or else what the base has
 abbrev pub over_base : {V : Type 0} → Option (Option V) → Option V → Option V
 over_base None below = below
 over_base (Some entry) below = entry
@@ -23,7 +23,7 @@ entry_at eq layers key = entry_in (eq key) layers
 abbrev pub HaveSame : {K V S : Type 0} → (K → K → Bool) → List (IndexMap K V S) → List (IndexMap K V S) → Type 0
 HaveSame {K} eq layers others = (key : K) → entry_at eq others key ≡ entry_at eq layers key
 
--- what stands over the table's base under the key that passes the test
+-- what lies over the table's base under the key that passes the test
 abbrev pub entry_by : {K V : Type 0} → (K → Bool) → Table K V → Option (Option V)
 entry_by test table = entry_in test (table.over ∷ table.layers)
 
@@ -43,7 +43,7 @@ SetsAt {K} eq key value before after = (other : K) → after other ≡ cond (eq 
 abbrev pub SetsEntry : {K V : Type 0} → (K → K → Bool) → K → Option V → Table K V → Table K V → Type 0
 SetsEntry eq key value before after = SetsAt eq key value (found eq before) (found eq after)
 
--- the last look-up finds what stands over a base, or else what the base has
+-- the last look-up finds what lies over a base, or else what the base has
 abbrev pub LooksOver : {K V : Type 0} → (K → Option (Option V)) → (K → Option V) → (K → Option V) → Type 0
 LooksOver {K} over base after = (key : K) → after key ≡ over_base (over key) (base key)
 

@@ -75,29 +75,29 @@ is_whole (Prefix front) = false
 is_whole (Path whole) = true
 is_whole (Separated front) = false
 
--- the match is by a front of this length
+-- the match is by a prefix of this length
 abbrev pub has_front : ℕ → PathMatch → Bool
 has_front n (Prefix front) = length front == n
 has_front n (Path whole) = false
 has_front n (Separated front) = length front == n
 
--- the match is of the whole path, or by a front of one of these lengths
+-- the match is of the whole path, or by a prefix of one of these lengths
 abbrev pub is_covered : List ℕ → PathMatch → Bool
 is_covered lengths path = is_whole path || list_any (λ n. has_front n path) lengths
 
--- the match is by a front of this length before anything, and takes the path
+-- the match is by a prefix of this length before anything, and takes the path
 abbrev pub is_prefix_taken : ℕ → List ℕ → PathMatch → Bool
 is_prefix_taken n path (Prefix front) = (length front == n) && is_path_taken path (Prefix front)
 is_prefix_taken n path (Path whole) = false
 is_prefix_taken n path (Separated front) = false
 
--- the match is by a front of this length before a `/`, and takes the path
+-- the match is by a prefix of this length before a `/`, and takes the path
 abbrev pub is_separated_taken : ℕ → List ℕ → PathMatch → Bool
 is_separated_taken n path (Prefix front) = false
 is_separated_taken n path (Path whole) = false
 is_separated_taken n path (Separated front) = (length front == n) && is_path_taken path (Separated front)
 
--- a front of this length of the path is all of it, or a `/` follows
+-- a prefix of this length of the path is all of it, or a `/` follows
 abbrev pub is_part : ℕ → List ℕ → Bool
 is_part n path = (n == length path) || nat_eq (slice_index_or path n 0) 47
 

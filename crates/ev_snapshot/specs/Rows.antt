@@ -25,7 +25,7 @@ without_name name n xs = filter (λ x. not (bytes_eq (name x) n)) xs
 abbrev pub put_before : {X : Type 0} → (X → List ℕ) → X → List X → List X
 put_before name x xs = put_by (λ one other. is_before (name one) (name other)) x xs
 
--- the elements with this one, if there is one, in the place of that of its name
+-- the elements with this one, if there is one, in place of that of its name
 abbrev pub put_named : {X : Type 0} → (X → List ℕ) → Option X → List X → List X
 put_named name None xs = xs
 put_named name (Some x) xs = put_before name x (without_name name (name x) xs)

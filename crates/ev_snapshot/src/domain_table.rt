@@ -113,7 +113,7 @@ impl Domains {
         None
     }
 
-    // The first suffix form of so many bytes whose suffix the host has.
+    // The first suffix form of this many bytes whose suffix the host has.
     fn suffix_of(&self, host: &[u8], beside: usize) -> Option<&Domain>
         requires some { 1 ≤ beside }
         requires fewer { beside < length host.now }
@@ -142,7 +142,7 @@ impl Domains {
         None
     }
 
-    // The first prefix form of so many bytes whose prefix the host has.
+    // The first prefix form of this many bytes whose prefix the host has.
     fn prefix_of(&self, host: &[u8], beside: usize) -> Option<&Domain>
         requires some { 1 ≤ beside }
         requires fewer { beside < length host.now }

@@ -8,7 +8,7 @@ use ev_types::{Shared, Text};
 use std::alloc::AllocError;
 use std::marker::Model;
 
-/// A domain of a route configuration, with the virtual host that it stands in.
+/// A domain of a route configuration, with the virtual host that it is in.
 #[derive(Drop)]
 pub(crate) struct Domain {
     /// Its ASCII letters are lower case.
@@ -54,7 +54,7 @@ impl Domain {
         self.text.get().as_str().as_bytes()
     }
 
-    /// The virtual host that it stands in.
+    /// The virtual host that it is in.
     pub(crate) fn host(&self) -> &RoutedHost
         ensures { result.now ≡ self.now.host }
     {

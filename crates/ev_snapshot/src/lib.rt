@@ -25,13 +25,13 @@
 //! - Whether anything changed is asked under the names that the changes touch, before and after: that all others are
 //!   as before is proved, so *unchanged* needs no look at them.
 //! - A change is a number and what serves of it now. All numbers go before any is put in, so an update, which ends
-//!   one number and begins another under one name, may be told in either order. What is put in takes the place of
+//!   one number and begins another under one name, may be given in either order. What is put in takes the place of
 //!   what has its number or its name: so `next` has a meaning for all changes, needs no condition, and keeps the
 //!   order of names and numbers by itself.
-//! - Listeners at one address stand in a group, in the order of names, so that pictures with several at one address
+//! - Listeners at one address are in a group, in the order of names, so that pictures with several at one address
 //!   have a meaning, and the first takes the connections. The rules of listeners are made so that no two that serve
 //!   have one address, and then a group has one; that isn't proved, and nothing rests on it but the time.
-//! - Rows and listeners change by value (`without(self, ..)`, `put(self, ..)`): without memory nothing is left of
+//! - Rows and listeners change by value (`without(self, ..)`, `put(self, ..)`): out of memory, nothing is left of
 //!   them, and no half-changed one can be seen. They lend their tables to the functions that change these, so that
 //!   who owns the tables lets them go in one place: a proof takes the longer, the more values a function owns and the
 //!   more ways out it has.

@@ -169,7 +169,7 @@ impl Listeners {
         Ok(Listeners { rows, groups })
     }
 
-    /// The listeners with this one in the place of those of its number and its name.
+    /// The listeners with this one in place of those of its number and its name.
     pub(crate) fn put(
         self,
         alloc: Global,
@@ -192,7 +192,7 @@ impl Listeners {
         })
     }
 
-    /// Makes layers of what stands over those of its tables, so that copies share them. The listeners stay, also out of memory.
+    /// Makes layers of what lies over those of its tables, so that copies share them. The listeners stay, also out of memory.
     pub(crate) fn settle(&mut self, alloc: Global) -> Result<(), AllocError>
         ensures { self.new ≡ self.old }
     {

@@ -31,7 +31,7 @@ impl Parts {
         })
     }
 
-    /// Makes layers of what stands over those of the tables, so that copies share them. All is as before, also out of memory.
+    /// Makes layers of what lies over those of the tables, so that copies share them. All is as before, also out of memory.
     pub(crate) fn settle(&mut self, alloc: Global) -> Result<(), AllocError>
         ensures clusters { self.new.clusters ≡ self.old.clusters }
         ensures listeners { self.new.listeners ≡ self.old.listeners }

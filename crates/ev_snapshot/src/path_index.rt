@@ -16,7 +16,7 @@ use ev_types::{PathMatch, PathSpecifier, Route, RouteTable, Seq, Shared};
 use indexmap::IndexMap;
 use std::alloc::{AllocError, Global};
 
-/// The first place of each path match of a virtual host's routes, and the lengths of those by a front, each once.
+/// The first place of each path match of a virtual host's routes, and the lengths of those by a prefix, each once.
 #[derive(Drop)]
 pub(crate) struct PathIndex {
     places: IndexMap<PathKey, usize>,
@@ -40,7 +40,7 @@ impl PathIndex {
         })
     }
 
-    /// How many lengths of fronts it has.
+    /// How many prefix lengths it has.
     pub(crate) fn lengths(&self) -> usize
         ensures { result ≡ length self.now.lengths }
     {
@@ -80,7 +80,7 @@ impl PathIndex {
         self.first_with(routes, &PathText::new(WHOLE, bare))
     }
 
-    // The first place of a route that takes the path by a front of this length before anything.
+    // The first place of a route that takes the path by a prefix of this length before anything.
     fn first_prefix(&self, routes: &[Route], path: &[u8], length: usize) -> usize
         requires { IsIndexed routes.now self.now }
         ensures { result ≡ position_or_len (λ (r : Route). is_prefix_taken length path.now (path_of r)) routes.now }
@@ -92,7 +92,7 @@ impl PathIndex {
         self.first_with(routes, &PathText::new(PREFIX, front))
     }
 
-    // The first place of a route that takes the path by a front of this length before a `/`.
+    // The first place of a route that takes the path by a prefix of this length before a `/`.
     fn first_separated(&self, routes: &[Route], path: &[u8], bare: &[u8], length: usize) -> usize
         requires index { IsIndexed routes.now self.now }
         requires bare { bare.now ≡ without_query path.now }
@@ -124,7 +124,7 @@ fn route_at(routes: &[Route], place: usize) -> Option<&Route>
     routes.get(place)
 }
 
-// Whether a front of this length of the path is all of it, or a `/` follows.
+// Whether a prefix of this length of the path is all of it, or a `/` follows.
 fn is_part(path: &[u8], length: usize) -> bool
     ensures { result ≡ is_part length path.now }
 {
@@ -134,7 +134,7 @@ fn is_part(path: &[u8], length: usize) -> bool
     length == path.len()
 }
 
-// The first place of each path match of the first so many routes of the virtual host at this place.
+// The first place of each path match of the first n routes of the virtual host at this place.
 fn places_of(
     alloc: Global,
     table: &Shared<RouteTable>,
@@ -156,7 +156,7 @@ fn places_of(
     Ok(places)
 }
 
-// The lengths of the fronts of these routes, each once.
+// The prefix lengths of these routes, each once.
 fn lengths_of(alloc: Global, routes: &[Route]) -> Result<Seq<usize>, AllocError>
     ensures { IfOk result (λ lengths. AreCovered lengths routes.now) }
 {

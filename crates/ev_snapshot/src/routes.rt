@@ -34,14 +34,14 @@ pub(crate) fn is_path_taken(path: &[u8], path_match: &PathMatch) -> bool
     }
 }
 
-// Whether the path is the front, or goes on with a `/` after it.
+// Whether the path is the prefix, or goes on with a `/` after it.
 fn is_separated(path: &[u8], front: &[u8]) -> bool
     ensures { result ≡ (bytes_eq path.now front.now || begins_with path.now (front.now ++ codes "/")) }
 {
     path == front || goes_on(path, front)
 }
 
-// Whether the path goes on with a `/` after the front.
+// Whether the path goes on with a `/` after the prefix.
 #[tactic(auto, using(crate::proofs::Fronts::begins_more, crate::proofs::Fronts::begins_short))]
 fn goes_on(path: &[u8], front: &[u8]) -> bool
     ensures { result ≡ begins_with path.now (front.now ++ codes "/") }

@@ -133,7 +133,7 @@ impl<T: Row> Rows<T> {
         Ok(Rows { by_name, by_number })
     }
 
-    /// The rows with this one in the place of those of its number and its name.
+    /// The rows with this one in place of those of its number and its name.
     pub(crate) fn put(self, row: Shared<T>) -> Result<Rows<T>, AllocError>
         ensures { IfOk result (λ rows. rows ≡ put_in T.number_of T.name_of row self) }
     {
@@ -152,7 +152,7 @@ impl<T: Row> Rows<T> {
         })
     }
 
-    /// Makes layers of what stands over those of its tables, so that copies share them. The rows stay, also out of memory.
+    /// Makes layers of what lies over those of its tables, so that copies share them. The rows stay, also out of memory.
     pub(crate) fn settle(&mut self, alloc: Global) -> Result<(), AllocError>
         ensures { self.new ≡ self.old }
     {

@@ -12,8 +12,8 @@ use std::sync::Arc;
 /// What is another entry of a table than below, or none.
 pub(crate) type Layer<K, V> = IndexMap<K, Option<V>>;
 
-/// A table in layers. Over a base stand layers of what is another entry since, or none, the newest first; many snapshots
-/// share them. What changes now stands over all. The base and each layer are at least four times as long as the one over
+/// A table in layers. Over a base lie layers of what is another entry since, or none, the newest first; many snapshots
+/// share them. What changes now lies over all. The base and each layer are at least four times as long as the one over
 /// them: so there are few, and a copy, which shares them, costs as much as there are.
 #[derive(Drop)]
 pub(crate) struct Table<K: Eq + Hash, V> {
@@ -45,7 +45,7 @@ impl<K: Eq + Hash + TryCopy + Drop, V: TryCopy + Drop> Table<K, V> {
         }
     }
 
-    // What stands over the base under a key.
+    // What lies over the base under a key.
     fn entry<Q: Equivalent<K> + Copy>(&self, key: Q) -> Option<&Option<V>>
         ensures { option_copied result ≡ entry_by (Q.equivalent key) self.now }
     {
@@ -73,7 +73,7 @@ impl<K: Eq + Hash + TryCopy + Drop, V: TryCopy + Drop> Table<K, V> {
         })
     }
 
-    /// Makes a layer of what stands over all layers, so that copies share it. Under each key it has the same, also out of
+    /// Makes a layer of what lies over all layers, so that copies share it. Under each key it has the same, also out of
     /// memory.
     pub(crate) fn settle(&mut self, alloc: Global) -> Result<(), AllocError>
         ensures { (key : K) → found K.eq self.new key ≡ found K.eq self.old key }
@@ -184,7 +184,7 @@ fn is_short(length: usize, over: usize) -> bool
     length / 4 < over
 }
 
-/// Puts a value in the place of that of its key.
+/// Puts a value in place of that of its key.
 pub(crate) fn put<K: Eq + Hash + Drop, V: Drop>(
     map: &mut IndexMap<K, V>,
     key: K,
@@ -198,7 +198,7 @@ pub(crate) fn put<K: Eq + Hash + Drop, V: Drop>(
     Ok(())
 }
 
-// Puts a value in the place of that of its key, or removes the key.
+// Puts a value in place of that of its key, or removes the key.
 fn put_or_remove<K: Eq + Hash + Drop, V: Drop>(
     map: &mut IndexMap<K, V>,
     key: K,
@@ -257,7 +257,7 @@ fn put_new<K: Eq + Hash + TryCopy + Drop, V: TryCopy + Drop>(
     Ok(())
 }
 
-// Puts what stands over a base into it.
+// Puts what lies over a base into it.
 fn put_over<K: Eq + Hash + TryCopy + Drop, V: TryCopy + Drop>(
     alloc: Global,
     base: &mut IndexMap<K, V>,
@@ -271,7 +271,7 @@ fn put_over<K: Eq + Hash + TryCopy + Drop, V: TryCopy + Drop>(
     Ok(())
 }
 
-// Puts a copy of a value in the place of that of its key, or removes the key.
+// Puts a copy of a value in place of that of its key, or removes the key.
 fn put_copy_or_remove<K: Eq + Hash + TryCopy + Drop, V: TryCopy + Drop>(
     alloc: Global,
     map: &mut IndexMap<K, V>,

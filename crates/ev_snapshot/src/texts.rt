@@ -2,7 +2,7 @@ ghost use Rattle.std.specs.Prelude.{◌≡◌};
 ghost use Rattle.std.specs.Str.{bytes_eq, str_to_ascii_lowercase};
 ghost use Rattle.ev_model.specs.Paths.{begins_with, ends_with, without_query};
 
-/// Whether the text begins with the front.
+/// Whether the text begins with the prefix.
 pub(crate) fn begins_with(text: &[u8], front: &[u8]) -> bool
     ensures { result ≡ begins_with text.now front.now }
 {
@@ -51,7 +51,7 @@ pub(crate) fn same_lower(text: &[u8], other: &[u8]) -> bool
     true
 }
 
-/// Whether the text, with its ASCII letters as lower case, begins with the front.
+/// Whether the text, with its ASCII letters as lower case, begins with the prefix.
 pub(crate) fn begins_lower(text: &[u8], front: &[u8]) -> bool
     ensures { result ≡ begins_with (str_to_ascii_lowercase text.now) front.now }
 {

@@ -15,7 +15,7 @@ pub drawn_below : (n x : ℕ) → 1 ≤ n → drawn n x < n
 unfolding drawn
 drawn_below n x some = let positive : 0 < n = omega (arith, some) in mod-lt (next_state x / 2 ^ 33) positive
 
--- what is drawn for a form in a state, where both are told otherwise
+-- what is drawn for a form in a state, where both are given otherwise
 pub drawn_line : {E : Type 0} (form other : Form) (x y at : ℕ) (r : Result Line E) → form ≡ other → x ≡ y → IfOk r (λ line. line ≡ line_drawn form at x) → IfOk r (λ line. line ≡ line_drawn other at y)
 drawn_line form other x y at r same state told =
     subst (λ (f : Form). IfOk r (λ line. line ≡ line_drawn f at y)) same (subst (λ (n : ℕ). IfOk r (λ line. line ≡ line_drawn form at n)) state told)

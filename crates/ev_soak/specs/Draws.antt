@@ -5,7 +5,7 @@ use Rattle.std.specs.Prelude.{ℕ, zero, suc, ◌+◌, ◌*◌, ◌/◌, ◌%◌
 unfoldable pub next_state : ℕ → ℕ
 next_state x = (x * 6364136223846793005 + 1442695040888963407) % 2 ^ 64
 
--- the state after so many draws
+-- the state after this many draws
 abbrev pub behind : ℕ → ℕ → ℕ
 behind zero x = x
 behind (suc k) x = behind k (next_state x)

@@ -1,4 +1,4 @@
--- The line that tells of a soak: what the journal of its script's replay counts up to.
+-- The line that reports a soak: what the journal of its script's replay counts up to.
 use Rattle.std.specs.Prelude.{ℕ, ◌≡◌, ◌+◌, List, [], ◌∷◌, ◌++◌, length, codes}
 use Rattle.serde_json.specs.Data.{Data, number, unsigned, object, member, no_members}
 use Rattle.serde_json.specs.Written.{compact_text}
@@ -39,7 +39,7 @@ version_behind script journal = (last_picture (world_after Two (opening script.w
 abbrev pub told_of : ScriptParts → List Entry → Told
 told_of script journal = record { format = Two; workers = script.workers; node = script.node; journal = journal }
 
--- the text is the line of this seed's script, which has so many lines after its header and is within the bounds of scripts; the
+-- the text is the line of this seed's script, which has this many lines after its header and is within the bounds of scripts; the
 -- journal that it counts up has the laws
 pub record IsSoakText (seed count : ℕ) (text : List ℕ) : Type 0 where
   pub kept : IsScript (soak_script seed count)

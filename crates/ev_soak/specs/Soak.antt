@@ -60,7 +60,7 @@ cluster_content n checked = Cluster (record {
   checked = checked;
 })
 
--- the first hosts, so many
+-- the first hosts, this many
 abbrev pub hosts_content : ℕ → Content
 hosts_content count = Assignment (map host_row (range_with_len 1 count))
 
@@ -170,7 +170,7 @@ line_drawn Accepts at x =
     accept_line at (drawn 2 x) (drawn 200 (behind 1 x)) (8000 + drawn 6 (behind 2 x)) (drawn 1000 (behind 3 x))
 line_drawn Closes at x = close_line at (drawn 2 x) (drawn 200 (behind 1 x))
 
--- so many lines from this one on, by the state before the draw of its form
+-- this many lines from this one on, by the state before the draw of its form
 abbrev pub lines_drawn : ℕ → ℕ → ℕ → List Line
 lines_drawn zero at x = []
 lines_drawn (suc count) at x =

@@ -94,7 +94,7 @@ pub(crate) fn cluster_content(
     Ok(Content::Cluster(Shared::new(alloc, cluster)?))
 }
 
-// The first hosts, so many.
+// The first hosts, this many.
 pub(crate) fn hosts_content(alloc: Global, count: u32) -> Result<Content, AllocError>
     requires few { count ≤ 3 }
     ensures { IfOk result (λ content. content ≡ hosts_content count) }
@@ -104,7 +104,7 @@ pub(crate) fn hosts_content(alloc: Global, count: u32) -> Result<Content, AllocE
     Ok(Content::Assignment(Shared::new(alloc, assignment)?))
 }
 
-// The rows of the first hosts, so many.
+// The rows of the first hosts, this many.
 #[tactic(auto, using(crate::proofs::NameLemmas::hosts_more, crate::proofs::NameLemmas::few_hosts))]
 fn host_rows(alloc: Global, count: u32) -> Result<Vec<HostRow>, AllocError>
     requires few { count ≤ 3 }

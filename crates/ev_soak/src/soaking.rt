@@ -9,7 +9,7 @@ use std::alloc::{AllocError, Global};
 /// The most lines that a script of a seed has after its header.
 pub const MAX_SOAK: u32 = 100_000;
 
-/// The script of a seed, with so many lines after its header: 1 to `MAX_SOAK`.
+/// The script of a seed, with this many lines after its header: 1 to `MAX_SOAK`.
 #[tactic(auto, using(crate::proofs::SoakLemmas::is_script))]
 pub fn script(alloc: Global, seed: u64, count: u32) -> Result<Script, AllocError>
     requires within { (1 ≤ count) × (count ≤ MAX_SOAK) }

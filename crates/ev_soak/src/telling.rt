@@ -7,7 +7,7 @@ use ev_types::Entry;
 use serde_json::{Value, json};
 use std::alloc::{AllocError, Global};
 
-/// Writes the line that tells of a soak, with the line feed that closes it: how many entries the journal has and how many lines
+/// Writes the line that reports a soak, with the line feed that closes it: how many entries the journal has and how many lines
 /// its script, how many generations were destroyed and connections served, and the version of the last picture.
 #[tactic(auto, unfolding(crate::specs::Lines::soak_line))]
 pub fn write_soak(

@@ -127,7 +127,7 @@ asked_once kind name (stated ∷ entries) so_far h = by (asked_said kind name st
     by None is found rest = elim (rest so_far found) [ inl e ↦ inl e | inr e ↦ inr (later e) ]
     by (Some b) is found rest = elim (rest (Some b) found) [ inl e ↦ inr (here (said_asked kind name stated (is ∙ e))) | inr e ↦ inr (later e) ]
 
--- a name stands among those that are asked for where it is asked for
+-- a name is among those that are asked for where it is asked for
 pub among_asked : (kind : Kind) (entries : List Stated) (name : List ℕ) → is_among name (names_asked kind entries) ≡ is_asked kind entries name
 among_asked kind entries name =
     among_sorted (filter (is_asked kind entries) (flat_map (asked kind) entries)) name

@@ -25,7 +25,7 @@ told_more entries stated =
     ∙ flat_map-append placed_line (with_before [] entries) ((entries, stated) ∷ [])
     ∙ ap (λ xs. lines_told entries ++ xs) (append-nil (sotw_line entries stated))
 
--- a line more behind the first line and the lines so far
+-- a line more after the first line and the lines so far
 pub lines_more : (first : List ℕ) (entries : List Stated) (stated : Stated) (text : List ℕ) → text ≡ first ++ lines_told entries
     → text ++ sotw_line entries stated ≡ first ++ lines_told (entries ++ stated ∷ [])
 lines_more first entries stated text is =

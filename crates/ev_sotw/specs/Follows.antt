@@ -27,7 +27,7 @@ after_opening entry known = record {
   names = if opens entry then [] else known.names;
 }
 
--- a reply tells its nonce, and one without an error the version
+-- a reply gives its nonce, and one without an error the version
 abbrev pub after_reply : Kind → List ℕ → Answer → Known → Known
 after_reply kind version answer known = record {
   version = unwrap_or (option_and_then (version_by kind version) (reply_in answer)) known.version;

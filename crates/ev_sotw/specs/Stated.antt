@@ -50,12 +50,12 @@ abbrev pub reply_in : Answer → Option Request
 reply_in (Replied requests verdicts) = slice_get requests 0
 reply_in answer = None
 
--- ---- nonces: the last reply of a type on this stream tells one
+-- ---- nonces: the last reply of a type on this stream gives one
 
 abbrev pub nonce_by : Kind → Request → Option (List ℕ)
 nonce_by kind reply = if kind_same reply.kind kind then reply.nonce else None
 
--- the nonce that an entry tells of a type: none where it opens a stream
+-- the nonce that an entry gives for a type: none where it opens a stream
 abbrev pub nonce_said : Kind → Stated → Option (List ℕ)
 nonce_said kind stated = if opens stated.entry then Some [] else option_and_then (nonce_by kind) (reply_in stated.entry.answer)
 

@@ -86,7 +86,7 @@ impl TypeSoFar {
         }
     }
 
-    // A reply tells its nonce, and one without an error the version.
+    // A reply gives its nonce, and one without an error the version.
     fn note_reply(
         &mut self,
         alloc: Global,

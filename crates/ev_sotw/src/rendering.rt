@@ -11,8 +11,8 @@ use ev_types::{Entry, Event, Format, Text};
 use serde_json::Value;
 use std::alloc::{AllocError, Global};
 
-/// Writes the text of a journal in format 2, for so many workers, with the requests of the state of the world: the first line,
-/// a line an entry, and the end line with their number, each closed by a line feed. `lines` are the trees of the lines after
+/// Writes the text of a journal in format 2, for this many workers, with the requests of the state of the world: the first line,
+/// a line for each entry, and the end line with their number, each closed by a line feed. `lines` are the trees of the lines after
 /// the header of the script of the state of the world that was replayed; the version of a response is found in them.
 ///
 /// # Errors
@@ -34,7 +34,7 @@ pub fn render_sotw(
     Ok(text)
 }
 
-// Puts the line of an entry after the text.
+// Appends the line of an entry to the text.
 fn push_entry(
     alloc: Global,
     text: &mut Vec<u8>,

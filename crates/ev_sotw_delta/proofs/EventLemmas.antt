@@ -12,7 +12,7 @@ use Rattle.ev_types.specs.declared.events.Event.TheVariants.{Connect, Disconnect
 use Rattle.ev_model.specs.Verdicts.{is_among, is_removed}
 use Rattle.ev_stream_laws.specs.Watches.{has_item}
 
--- what is known behind events: whether a stream is open, and the names of the last responses of clusters and of listeners on one
+-- what is known after events: whether a stream is open, and the names of the last responses of clusters and of listeners on one
 pub record Heard : Type 0 where
   pub connected : Bool
   pub clusters : List (List ℕ)
@@ -146,7 +146,7 @@ among_items response name = by response.items
     by [] = refl
     by (item ∷ items) = ap (λ b. bytes_eq item.name name || b) (by items)
 
--- a name that stands among the removed ones and at no item is removed
+-- a name that is among the removed ones and that no item has is removed
 pub removed_so : (response : ResponseParts) (name : List ℕ) → is_among name response.removed ≡ true → has_item response name ≡ false → is_removed response name ≡ true
 removed_so response name there none =
     ap (λ b. b && not (nat_le 1 (length (filter (λ (item : ItemParts). bytes_eq item.name name) response.items)))) there

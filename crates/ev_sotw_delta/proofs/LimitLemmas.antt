@@ -27,7 +27,7 @@ front_small n trees =
     ap text_of_trees (sym (take-append-drop n trees)) ∙ flat_map-append line_text (take n trees) (drop n trees) in
     omega (arith, ap length parts, length-append (text_of_trees (take n trees)) (text_of_trees (drop n trees)))
 
--- a front of trees that make an input makes one
+-- a prefix of trees that make an input makes one
 pub fits_front : (n : ℕ) (trees : List Data) → FitsInput trees → FitsInput (take n trees)
 fits_front n trees fits = record {
   readable = All-take IsReadable n trees fits.readable;
@@ -38,7 +38,7 @@ fits_front n trees fits = record {
   };
 }
 
--- what was refused behind a front
+-- what was refused after a prefix
 pub refused : (error : DeltaError) (all front : List Data) (tree : Data) (rest : List Data) → all ≡ (front ++ tree ∷ []) ++ rest
     → FitsInput front → IsTooLarge front tree error → IsRefusal all error
 refused OutOfMemory all front tree rest is fits large = tt

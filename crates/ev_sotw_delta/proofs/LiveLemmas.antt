@@ -1,4 +1,4 @@
--- A generation that lives behind an event which isn't an answered response of its kind lived before it.
+-- A generation that lives after an event which isn't an answered response of its kind lived before it.
 use Rattle.std.proofs.Common.{◌≡◌, ◌∙◌, ℕ, Bool, true, false, List, [], ◌∷◌, ◌++◌, Some, sym}
 use Rattle.std.specs.Cmp.{first_so}
 use Rattle.std.proofs.lemmas.Bool.{false≢true}
@@ -66,7 +66,7 @@ module _ (kind : Kind) (name : List ℕ) (format : Format) (world : World) (acto
     settled = λ worker is by h. h;
   })
 
--- so it is of what lives
+-- this holds for what lives
 pub lived_before : (kind : Kind) (name : List ℕ) (format : Format) (world : World) (actor : Actor) (event : Event) → IsOther kind event
     → has_live (step format world actor event).0 kind name ≡ true → has_live world kind name ≡ true
 lived_before kind name format world actor event other h =

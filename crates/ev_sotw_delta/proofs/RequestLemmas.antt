@@ -123,7 +123,7 @@ any_awaited kind name (live ∷ lives) =
     (flat_map (λ (live : Live). names_awaited kind (dependencies_of live.content)) lives)
     ∙ or_same _ _ _ _ (awaited_is kind name (dependencies_of live.content)) (any_awaited kind name lives)
 
--- a name stands among those that are watched where it is watched
+-- a name is among those that are watched where it is watched
 pub among_watched : (world : World) (kind : Kind) (name : List ℕ) → is_among name (watched_of world kind) ≡ is_watched (lives_of world) kind name
 among_watched world kind name =
     among_sorted (flat_map (λ (live : Live). names_awaited kind (dependencies_of live.content)) (lives_of world)) name ∙ any_awaited kind name (lives_of world)

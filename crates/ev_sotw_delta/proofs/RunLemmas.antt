@@ -72,9 +72,9 @@ stream_next format world entry heard is =
     stream_after format world (entry ∷ []) ∙ last_alone (stream_told entry.event) world.stream
     ∙ ap (unwrap_or (stream_told entry.event)) is ∙ sym (connected_after entry.event heard)
 
--- ---- what lives behind a response
+-- ---- what lives after a response
 
--- behind an answered response of this kind each has a name that stands in it
+-- after an answered response of this kind each has a name that is in it
 pub named_by : (format : Format) (world : World) (actor : Actor) (response : ResponseParts) (kind : Kind) (names : List (List ℕ))
     → ((name : List ℕ) → has_live world kind name ≡ true → is_among name names ≡ true) → RemovesOthers names response
     → world.stream ≡ true → response.kind ≡ Some kind → is_by_name kind ≡ false
@@ -106,7 +106,7 @@ no_kind kind response typed = λ found same is named.
 closed_same : (format : Format) (world : World) (actor : Actor) (response : ResponseParts) → world.stream ≡ false → (step format world actor (Response response)).0 ≡ world
 closed_same format world actor response closed = ap (λ b. (cond b (respond_by response.kind response world) (world, Ignored)).0) closed
 
--- ---- what is heard holds behind an event
+-- ---- what is heard holds after an event
 
 module _ (format : Format) (world : World) (actor : Actor) (heard : Heard) (holds : Holds world heard) where
   responded_clusters : (response : ResponseParts) (found : Option Kind) → response.kind ≡ found → FitsKind found response heard

@@ -131,7 +131,7 @@ closed_quiet connection worker opened =
 -- ---- what an event says
 
 module _ (kind : Kind) (by_name : is_by_name kind ≡ true) (name : List ℕ) where
-  -- whether the name is asked for behind an event with this answer, where it says so
+  -- whether the name is asked for after an event with this answer, where it says so
   abbrev pub said : Event → Answer → Option Bool
   said event answer =
       cond (is_connect event && is_moved answer) (Some (is_among name (parts_by true kind (requests_in answer))))
@@ -182,7 +182,7 @@ module _ (kind : Kind) (by_name : is_by_name kind ≡ true) (name : List ℕ) wh
     among_changed false after =
         among_other (names_of kind (all_watched after)) (names_of kind (all_watched world)) name ∙ (λ i. among_names world i && not (among_names after i))
 
-    -- requests that tell a change of what is watched, behind a reply or not
+    -- requests that report a change of what is watched, after a reply or not
     requests_parts : (new : Bool) (after : World) (reply : Option Request) → after.stream ≡ true → parts_by new kind (option_to_list reply) ≡ []
         → is_among name (parts_by new kind (requests_of world after reply)) ≡ cond new (watched after && not (watched world)) (watched world && not (watched after))
     requests_parts new after reply streams none =
@@ -256,7 +256,7 @@ module _ (kind : Kind) (by_name : is_by_name kind ≡ true) (name : List ℕ) wh
 abbrev one_entry : Actor → Event → Entry
 one_entry actor event = record { at = 0; step = 0; actor = actor; event = event; answer = Ignored }
 
--- the stream was open before an event behind which it is, where the event isn't a connect
+-- the stream was open before an event after which it is, where the event isn't a connect
 open_or : (actor : Actor) (event : Event) (was : Bool)
     → unwrap_or (last_or None (filter_map (λ (entry : Entry). stream_told entry.event) (one_entry actor event ∷ []))) was ≡ true → (is_connect event ≡ true) ⊎ (was ≡ true)
 open_or actor Connect was h = inl refl

@@ -36,7 +36,7 @@ pub record AnswersAt (journal : List Entry) (k : ℕ) (kind : Kind) (response : 
   pub answered : is_replied entry.answer ≡ true
 
 -- What a run of a script shows of its responses and requests. `named`: after an answered response of clusters or listeners each
--- live generation of that kind has a name that stands in it. `stays`: one of endpoints or routes leaves the value of each name that
+-- live generation of that kind has a name that is in it. `stays`: one of endpoints or routes leaves the value of each name that
 -- is watched after it, and that it doesn't name. `asked`: while a stream is open, the names that a request lists are all that are
 -- watched after its entry, whatever versions the entries have.
 pub record IsSameWorld (format : Format) (script : ScriptParts) (journal : List Entry) : Type 0 where

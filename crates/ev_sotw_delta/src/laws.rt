@@ -9,7 +9,7 @@ ghost use Rattle.ev_sotw_delta.specs.SameWorld.{SameWorld};
 ghost use Rattle.ev_sotw_delta.specs.Watches.{RequestsTellWatches};
 
 /// A law of every run of a state-of-the-world script: after an answered response of clusters or listeners each live generation
-/// of that kind has a name that stands in the response, a response of endpoints or routes leaves the value of each watched name
+/// of that kind has a name that is in the response, a response of endpoints or routes leaves the value of each watched name
 /// that it doesn't name, and requests list all names that are watched. It does nothing.
 pub fn same_world()
     ensures { SameWorld }

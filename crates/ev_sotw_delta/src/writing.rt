@@ -49,7 +49,7 @@ pub fn to_delta(alloc: Global, trees: &ScriptTrees) -> Result<Vec<u8>, DeltaErro
     Ok(text.bytes)
 }
 
-// Puts the line that says the same as a line after the text.
+// Appends the line that says the same as a line to the text.
 fn push_delta(
     alloc: Global,
     text: &mut TextSoFar,
@@ -68,7 +68,7 @@ fn push_delta(
     }
 }
 
-// Puts the line of a tree after the text.
+// Appends the line of a tree to the text.
 fn push_tree(alloc: Global, text: &mut TextSoFar, tree: &Value) -> Result<(), DeltaError>
     ensures pushed { OnOk result (WritesOn (whole (view tree.now)) text.old text.new) }
     ensures large { IfErr result (IsTooLargeFor text.old (whole (view tree.now))) }
@@ -81,7 +81,7 @@ fn push_tree(alloc: Global, text: &mut TextSoFar, tree: &Value) -> Result<(), De
     Ok(())
 }
 
-// Puts the line of a tree after the text, where a reader takes it and there is room for it, and answers whether it is so.
+// Appends the line of a tree to the text, where a reader takes it and there is room for it, and answers whether it is so.
 fn push_readable(alloc: Global, text: &mut TextSoFar, tree: &Value) -> Result<bool, AllocError>
     ensures pushed { result ≡ Ok true → WritesOn (whole (view tree.now)) text.old text.new }
     ensures full { result ≡ Ok false → (trees : List Data) → IsWritten trees text.old

@@ -37,7 +37,7 @@ response_says_nothing line response is =
     let words = said_word (member_of as_str (codes "op") line) (response_op line response is) in
     (λ i. cond (words.0 i) (Some true) (cond (words.1 i) (Some false) None))
 
--- ---- behind a response
+-- ---- after a response
 
 cond_same : {A : Type 0} (b : Bool) (x : A) → cond b x x ≡ x
 cond_same true x = refl
@@ -95,7 +95,7 @@ follows_response lines line response names is follows = record {
       ∙ sym (names_more Lds lines line ∙ ap (λ found. or_last found (last_names Lds lines)) (brought_at Lds lines line response is));
 }
 
--- ---- behind another line
+-- ---- after another line
 
 other_connected : (first second : Bool) (names : NamesSoFar)
     → (cond first (record names { connected = true }) (cond second (record names { connected = false }) names)).connected

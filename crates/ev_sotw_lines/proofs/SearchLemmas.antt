@@ -1,4 +1,4 @@
--- What the searches of the lines so far find behind one line more.
+-- What the searches of the lines so far find after one line more.
 use Rattle.std.proofs.Common.{◌≡◌, ◌∙◌, false, List, [], ◌∷◌, ◌++◌, Option, None, Some, option_to_list, refl, sym, ap, append_assoc, arith}
 use Rattle.std.specs.Prelude.{filter_map, unwrap_or}
 use Rattle.std.specs.List.{last_or}

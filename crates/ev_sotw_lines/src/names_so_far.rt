@@ -37,7 +37,7 @@ impl NamesSoFar {
     }
 
     /// Goes on by a line. Where it brings a response of the state of the world, the line that brings the response of the
-    /// incremental protocol that says the same, and else none: a line without such a response stays as it is.
+    /// incremental protocol that says the same, and otherwise none: a line without such a response stays as it is.
     ///
     /// # Errors
     /// `AllocError` where there is no memory for it; nothing is promised of the names then.
@@ -99,7 +99,7 @@ impl NamesSoFar {
     }
 }
 
-// Puts names in the place of the last ones, where the stream is open, and gives those that were there and aren't now.
+// Puts names in place of the last ones, where the stream is open, and gives those that were there and aren't now.
 fn turn(
     alloc: Global,
     connected: bool,

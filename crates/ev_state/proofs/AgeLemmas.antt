@@ -1,4 +1,4 @@
--- Generations behind an event: which changes keep each in its place, and that one is found by its number as before.
+-- Generations after an event: which changes keep each in its place, and that one is found by its number as before.
 use Rattle.std.proofs.Common.{◌≡◌, ◌∙◌, ℕ, ◌<◌, ◌≤◌, Bool, true, false, cond, ◌&&◌, nat_eq, List, [], ◌∷◌, ◌++◌, None, Some, refl, sym, ap, subst, arith}
 use Rattle.std.specs.List.{AllByRecursion, fold, zip}
 use Rattle.std.proofs.lemmas.Bool.{eqb-true, false≢true}
@@ -113,7 +113,7 @@ found-later made number row (r ∷ rs) (s ∷ ss) x at = by (nat_eq number r.num
         let there = rest here in
         record { row = there.row; at = (λ i. cond ((place ∙ isnt) i) (Some s) (row_in number ss)) ∙ there.at; so = there.so }
 
--- a new one has a number behind
+-- a new one has a later number
 new_absent : (made number : ℕ) (rows : List GenRow) → number ≤ made → AreNew made rows → row_in number rows ≡ None
 new_absent made number [] low new = refl
 new_absent made number (r ∷ rs) low new = by (nat_eq number r.number) refl (new_absent made number rs low new.1)

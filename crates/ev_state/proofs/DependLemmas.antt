@@ -1,4 +1,4 @@
--- Of which generations a picture may show something else behind a response, and behind the end of a resource: those that retired, and
+-- Of which generations a picture may show something else after a response, and after the end of a resource: those that retired, and
 -- those that depend on a name that something came for.
 use Rattle.std.proofs.Common.{◌≡◌, ◌∙◌, ℕ, Bool, true, false, cond, ◌&&◌, ◌||◌, nat_eq, List, [], ◌++◌, ◌∷◌, None, Some, refl, sym, ap, subst}
 use Rattle.std.specs.List.{AllByRecursion, IsDistinct, flat_map}
@@ -33,7 +33,7 @@ use Rattle.ev_state.proofs.SameLemmas.{AreSame, SameResults}
 use Rattle.ev_state.proofs.EnterLemmas.{Enters, response-enters, end-enters}
 use Rattle.ev_state.proofs.KeepLemmas.{served-is, active-live, results-stay}
 
--- what doesn't stand among all of these stands neither among the first ones nor among the others
+-- what isn't among all of these is neither among the first ones nor among the others
 pub or_none : (a b : Bool) → (a || b) ≡ false → (a ≡ false) × (b ≡ false)
 or_none true b h = absurd (false≢true (sym h))
 or_none false b h = (refl, h)

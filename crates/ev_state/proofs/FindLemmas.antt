@@ -23,7 +23,7 @@ far_absent : (n : ℕ) (rows : List GenRow) → AllByRecursion (λ y. nat_eq n y
 far_absent n [] far = refl
 far_absent n (row ∷ rows) far = (λ i. cond (far.0 i) (Some row) (row_in n rows)) ∙ far_absent n rows far.1
 
--- behind a row no other has its number
+-- after a row no other has its number
 pub none-behind : (n : ℕ) (row : GenRow) (rows : List GenRow) → IsDistinct nat_eq (numbers_of (row ∷ rows)) → nat_eq n row.number ≡ true → row_in n rows ≡ None
 none-behind n row rows apart is =
     (λ i. row_in (eqb-true n row.number is i) rows) ∙ far_absent row.number rows (IsDistinct-head nat_eq row.number (numbers_of rows) apart)

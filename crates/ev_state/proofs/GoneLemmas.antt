@@ -74,7 +74,7 @@ live_stay n (row ∷ rows) = by (nat_eq n row.number) (is_live row.status) refl 
     by false true is rest = (λ i. cond (is i) (row ∷ lives (without_over n rows)) (lives (without_over n rows))) ∙ ap (λ (rs : List GenRow). row ∷ rs) rest
     by false false isnt rest = (λ i. cond (isnt i) (row ∷ lives (without_over n rows)) (lives (without_over n rows))) ∙ rest
 
--- behind a removal
+-- after a removal
 pub at-removed : (s : State) (m : Managers) (n : ℕ) (world : World) → ManagesAt s world → AreKept m → AreForgotten m
     → StandFor m (record world { rows = without_over n world.rows }) → ManagesAt (record s { managers = m }) (record world { rows = without_over n world.rows })
 at-removed s m n world at kept forgotten stand =

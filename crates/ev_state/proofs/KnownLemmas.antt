@@ -1,4 +1,4 @@
--- What the managers answer where verdicts are asked for is what the world tells.
+-- What the managers answer where verdicts are asked for is what the world says.
 use Rattle.std.proofs.Common.{◌≡◌, ℕ, Bool, true, false, ◌&&◌, ◌||◌, cond, List, [], ◌∷◌, map, filter, None, refl, sym, ap, ◌∙◌}
 use Rattle.std.specs.List.{AllByRecursion as ByRecursion}
 use Rattle.std.specs.Str.{bytes_eq}

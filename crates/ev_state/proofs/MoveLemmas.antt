@@ -56,7 +56,7 @@ pub none-moved : (these : Moved) (before world : World) → these ≡ record { r
 none-moved these before world none same changed =
     record { retired = none-have these.retired before world (ap (λ (m : Moved). m.retired) none) same; changed = changed }
 
--- what the managers tell is so of the worlds
+-- what the managers report is so of the worlds
 pub told-have : (numbers : List ℕ) (m after : Managers) (before world : World) → AreKept m → AreKept after → StandFor m before → StandFor after world
     → AreRetired numbers m after → HaveRetired numbers before world
 told-have numbers m after before world kept kept_after stand stand_after are n =
@@ -176,7 +176,7 @@ own_retired kind n row numbers before world sound have at there = by kind at
     by Lds at = second (retired_of Cds n before world) (retired_of Lds n before world) (other Lds Cds (rows-apart Lds) at) (sym (have n) ∙ there)
     by Rds at = second (retired_of Cds n before world) (retired_of Lds n before world) (other Lds Cds (rows-apart Lds) at) (sym (have n) ∙ there)
 
--- and one that retired among those of a kind is told
+-- and one that retired among those of a kind is reported
 own_told : (kind : Kind) (n : ℕ) (numbers : List ℕ) (before world : World) → HaveRetired numbers before world → retired_of (rows_of kind) n before world ≡ true → is_among numbers n ≡ true
 own_told kind n numbers before world have is = have n ∙ by kind is
   where

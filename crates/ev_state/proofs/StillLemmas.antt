@@ -1,4 +1,4 @@
--- Generations that stay as they were or retire: those that serve behind an event served before it.
+-- Generations that stay as they were or retire: those that serve after an event served before it.
 use Rattle.std.proofs.Common.{◌≡◌, ◌∙◌, ℕ, Bool, true, false, cond, not, ◌&&◌, nat_eq, List, [], ◌∷◌, ◌++◌, Option, None, Some, refl, sym, ap}
 use Rattle.std.specs.Prelude.{⊤}
 use Rattle.std.specs.List.{IsDistinct}
@@ -63,7 +63,7 @@ still-statused f stays number (row ∷ rows) = by (nat_eq number row.number) (st
     by true rest = record { same = refl; live = stays row }
     by false rest = rest
 
--- a new one behind the others
+-- a new one after the others
 pub still-more : (number : ℕ) (rows : List GenRow) (new : GenRow) → is_active new.status ≡ false → Still (row_in number rows) (row_in number (rows ++ new ∷ []))
 still-more number [] new waits = by (nat_eq number new.number)
   where
@@ -122,7 +122,7 @@ still-serves kind (Some row) (Some other) x h =
     by true Dropped Draining live h = refl
     by true Dropped Dropped live h = refl
 
--- the same, where what retired is told of the rows of the kind
+-- the same, where what retired is said of the rows of the kind
 pub still-kind : (kind : Kind) (number : ℕ) (before after : List GenRow) → IsDistinct nat_eq (numbers_of before) → IsDistinct nat_eq (numbers_of after)
     → Still (row_in number before) (row_in number after) → has_retired number (rows_of_kind kind before) (rows_of_kind kind after) ≡ false
     → serving kind (row_in number after) ≡ serving kind (row_in number before)

@@ -38,7 +38,7 @@ may_be_given m kind response verdicts world kept stand of are by_name =
     subst (λ (vs : List Verdict). AreOnValues (manager_of m kind).state.table.rows vs response.items) (sym are)
     (values-judged (manager_of m kind).state response world (kept-of m kind kept).kept.rows (of ∙ ap (λ (k : Kind). Some k) (sym (needs-back m kind kept by_name))) (stand-of m kind world stand))
 
--- the parts behind a response stand for the machine's world behind it
+-- the parts after a response stand for the machine's world after it
 pub taken : (s : State) (m : Managers) (subscription : SubscriptionParts) (targets : TargetsParts) (kind : Kind) (response : ResponseParts) (verdicts : List Verdict) (world : World)
     → Follows s world world → response.kind ≡ Some kind → verdicts ≡ verdicts_of (lives_of world) world.versions response
     → StandFor m (add_items kind verdicts response.items (with_removals kind response world))
@@ -71,7 +71,7 @@ taken s m subscription targets kind response verdicts world follows of are stand
       phase = first.phase ∙ rest.phase;
     }
 
--- and what retired is told of that world
+-- and what retired is said of that world
 pub taken_retired : (retired : List ℕ) (m after : Managers) (kind : Kind) (response : ResponseParts) (verdicts : List Verdict) (world : World) → AreKept m → AreKept after
     → StandFor m world → StandFor after (add_items kind verdicts response.items (with_removals kind response world)) → AreRetired retired m after
     → HaveRetired retired world (with_first kind (made_names verdicts response.items) (add_items kind verdicts response.items (with_removals kind response world)))

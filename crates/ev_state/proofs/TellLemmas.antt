@@ -1,4 +1,4 @@
--- What is told of changes is so: a picture shows the same of each number that isn't told.
+-- What is reported of changes is so: a picture shows the same of each number that isn't reported.
 use Rattle.std.proofs.Common.{◌≡◌, ◌∙◌, ℕ, Bool, true, false, cond, not, ◌&&◌, ◌||◌, nat_eq, List, [], ◌∷◌, ◌++◌, Option, None, Some, refl, sym, ap, subst}
 use Rattle.std.proofs.lemmas.Bool.{false≢true, eqb-true}
 use Rattle.ev_types.specs.Items.{ResponseParts}
@@ -103,7 +103,7 @@ module _ (changed put retired : List ℕ) (m : Managers) (before after : World) 
       let inner = or_none (retired_of Cds n before after) (retired_of Lds n before after) (sym (have n) ∙ outer.1) in
       (outer.0, inner.0, inner.1)
 
-  -- behind a response, the dependents of each of its names
+  -- after a response, the dependents of each of its names
   pub entered-changed : (kind : Kind) (verdicts : List Verdict) (response : ResponseParts) (names : List (List ℕ))
       → after ≡ with_first kind names (add_items kind verdicts response.items (with_removals kind response before))
       → put ≡ dependents_of m.clusters.state m.listeners.state kind response.items → HaveChanged changed before after
@@ -114,7 +114,7 @@ module _ (changed put retired : List ℕ) (m : Managers) (before after : World) 
       (λ n other. (parts n other).1) (λ n other. (parts n other).2)
       kind verdicts response names leads (λ n other. (λ i. is_among (sym told i) n) ∙ (parts n other).0))
 
-  -- behind the end of a resource, those of its name
+  -- after the end of a resource, those of its name
   pub ended-changed : (kind : Kind) (name : List ℕ) → after ≡ with_end kind name (forget_version kind name before)
       → put ≡ dependents_in m.clusters.state m.listeners.state kind name → HaveChanged changed before after
   ended-changed kind name leads told =
@@ -124,7 +124,7 @@ module _ (changed put retired : List ℕ) (m : Managers) (before after : World) 
       (λ n other. (parts n other).1) (λ n other. (parts n other).2)
       kind name leads (λ n other. (λ i. is_among (sym told i) n) ∙ (parts n other).0))
 
--- behind a health result, the cluster that serves the name
+-- after a health result, the cluster that serves the name
 pub resulted-changed : (changed : List ℕ) (m : Managers) (name : List ℕ) (host : Host) (healthy : Bool) (world : World) → AreKept m
     → StandFor m (with_results host healthy (rows_meant world.arrivals name host world.rows) world)
     → changed ≡ numbers_where (serves name) m.clusters.state.table.rows
@@ -134,7 +134,7 @@ resulted-changed changed m name host healthy world kept stand are =
     (resulted-same changed m.clusters.state name host healthy world (rows-are m Cds (with_results host healthy (rows_meant world.arrivals name host world.rows) world) kept stand) stand.clusters.sound.table.apart
     (λ n other. (λ i. is_among (sym are i) n) ∙ other))
 
--- what was told, what came to serve or began to drain, and the listeners that come to serve together
+-- what was reported, what came to serve or began to drain, and the listeners that come to serve together
 module _ (old more all : List ℕ) (m after last : Managers) (before world : World) (kept : AreKept m) (kept_after : AreKept after) (kept_last : AreKept last)
     (stand : StandFor m world) (stand_after : StandFor after (promoted world)) (stand_last : StandFor last (without_old_results (without_unwatched (promoted world))))
     (moved : Grows old more (λ n. of_either is_moved n m after)) where

@@ -1,4 +1,4 @@
--- What is forgotten behind an event: versions of the names that ceased to be watched.
+-- What is forgotten after an event: versions of the names that ceased to be watched.
 use Rattle.std.proofs.Common.{◌≡◌, ℕ, Bool, true, false, not, ◌||◌, ◌&&◌, List, [], ◌∷◌, refl, sym, ap, ◌∙◌}
 use Rattle.std.specs.List.{All, AllByRecursion as ByRecursion, list_any}
 use Rattle.std.proofs.lemmas.Bool.{false≢true}

@@ -32,7 +32,7 @@ arrival_of other = other.arrival
 abbrev values : List Arrived → Kind → List ℕ → List Content
 values arrivals kind q = filter_map content_in (came_for arrivals kind q)
 
--- what came behind the rest without a resource for the name
+-- what came after the rest without a resource for the name
 pub value-quiet : (xs ys : List Arrived) (kind : Kind) (q : List ℕ) → values ys kind q ≡ [] → value_by (xs ++ ys) kind q ≡ value_by xs kind q
 value-quiet xs ys kind q none =
     ap (λ (cs : List Arrival). last_or None (filter_map content_in cs))

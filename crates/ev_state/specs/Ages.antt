@@ -1,4 +1,4 @@
--- What an event does to generations: each stays in its place with its content, none comes back to life, and new ones stand behind.
+-- What an event does to generations: each stays in its place with its content, none comes back to life, and new ones come last.
 use Rattle.std.specs.Prelude.{◌≡◌, ◌<◌, ℕ, false, List, [], ◌∷◌}
 use Rattle.std.specs.List.{AllByRecursion}
 use Rattle.ev_types.specs.Statuses.{is_live}
@@ -9,7 +9,7 @@ pub record IsLater (before after : GenRow) : Type 0 where
   pub same : after ≡ record before { status = after.status }
   pub over : is_live before.status ≡ false → after.status ≡ before.status
 
--- the second rows are the first ones, later, and behind them new ones, with numbers behind this one
+-- the second rows are the first ones, later, and after them new ones, with numbers after this one
 abbrev pub AreLater : ℕ → List GenRow → List GenRow → Type 0
 AreLater made [] after = AllByRecursion (λ (row : GenRow). made < row.number) after
 AreLater made (row ∷ rows) [] = ⊥

@@ -19,7 +19,7 @@ use Rattle.ev_state.specs.Ages.{AreLater}
 use Rattle.ev_state.specs.Retirements.{HaveMoved, HaveRetired}
 use Rattle.ev_state.specs.States.{Follows, IsStep}
 
--- the names that stand among the second ones alone, and among the first ones alone
+-- the names that are among the second ones alone, and among the first ones alone
 pub record IsChange (change : NameChange) (before after : List (List ℕ)) : Type 0 where
   pub begun : change.begun ≡ other_than before after
   pub ended : change.ended ≡ other_than after before
@@ -41,13 +41,13 @@ pub record IsOver (s : State) (asked : Asked) (these : Moved) (before after : Wo
   pub left : asked.left ≡ has_left_clusters before after
   pub moved : HaveMoved these before after
 
--- An event has led the old state from one world to another, so many numbers were drawn before it, and it has moved these: tidying it up
+-- An event has led the old state from one world to another, this many numbers were drawn before it, and it has moved these: tidying it up
 -- is over, and the others are all that it moved.
 abbrev pub TidiesUp : State → State → ℕ → Moved → Moved → Asked → Type 0
 TidiesUp old new made these all asked =
     (before world : World) → Follows old before world → made ≡ before.made → HaveMoved these before world → IsOver new asked all before (tidy world)
 
--- An event that drew no number has led the old state from one world to another, and has moved these: the new state is behind the step
+-- An event that drew no number has led the old state from one world to another, and has moved these: the new state is after the step
 -- that ends with what follows it.
 abbrev pub MovesOn : State → State → Moved → Answer → Moved → Type 0
 MovesOn old new these answer all =

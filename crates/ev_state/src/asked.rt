@@ -54,7 +54,7 @@ impl State {
         })
     }
 
-    // The names of this kind that began and ceased to be watched since so many numbers were drawn and these generations retired.
+    // The names of this kind that began and ceased to be watched since this many numbers were drawn and these generations retired.
     fn names_changed(
         &self,
         alloc: Global,

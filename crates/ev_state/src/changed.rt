@@ -9,7 +9,7 @@ use ev_types::{Gen, Kind, Name, Phase, Response, Seq};
 use std::alloc::{AllocError, Global};
 
 impl State {
-    /// Puts the numbers of the live generations that depend on this name of endpoints or of routes to the others.
+    /// Adds the numbers of the live generations that depend on this name of endpoints or of routes to the others.
     pub(crate) fn put_dependents(
         &self,
         kind: Kind,
@@ -44,7 +44,7 @@ impl State {
         Ok(())
     }
 
-    /// Puts the number of the cluster that serves this name to the others, where there is one.
+    /// Adds the number of the cluster that serves this name to the others, where there is one.
     pub(crate) fn put_active(&self, name: &Name, changed: &mut Seq<Gen>) -> Result<(), AllocError>
         requires kept { AreKept self.now.managers }
         ensures { OnOk result (changed.new ≡ changed.old
@@ -56,7 +56,7 @@ impl State {
         Ok(())
     }
 
-    /// Puts the numbers of the live listeners to the others, where listeners serve now and didn't in the phase before.
+    /// Adds the numbers of the live listeners to the others, where listeners serve now and didn't in the phase before.
     pub(crate) fn put_listeners(
         &self,
         alloc: Global,

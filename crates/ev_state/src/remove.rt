@@ -16,7 +16,7 @@ use std::sync::ledger::Ledger;
 
 impl State {
     /// What follows an event by itself, where the event was of no manager: what is due serves, what nobody needs is forgotten, and
-    /// the phase moves on. Answers what that moved. Without memory nothing is promised.
+    /// the phase moves on. Answers what that moved. Out of memory, nothing is promised.
     pub fn tidy_up<L: Ledger>(
         &mut self,
         alloc: Global,

@@ -36,7 +36,7 @@ use Rattle.ev_model_laws.proofs.CameLemmas.{by_name_kept, item_drawn, removals_d
 use Rattle.ev_stream_laws.specs.Told.{KeptIsValue}
 use Rattle.ev_stream_laws.proofs.ToldLemmas.{came, came-append, last_word, told_is, Hush, items_came, first_came, tidied_came}
 
--- ---- a resource that is kept stands once
+-- ---- a resource that is kept occurs once
 
 lesser_none : (a b : Option ℕ) → lesser a b ≡ None → (a ≡ None) × (b ≡ None)
 lesser_none None b h = (refl, h)
@@ -55,7 +55,7 @@ untold : (test : Bool) → cond {A = Option ℕ} test (Some 4) None ≡ None →
 untold true h = absurd (cc)
 untold false h = refl
 
--- its name doesn't stand twice
+-- its name doesn't occur twice
 abbrev StandsOnce : ResponseParts → Verdict × ItemParts → Type 0
 StandsOnce response one = one.0 ≡ Kept → nat_le 2 (length (items_named one.1.name response.items)) ≡ false
 

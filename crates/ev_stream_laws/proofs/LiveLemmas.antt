@@ -1,4 +1,4 @@
--- A generation that lives behind an event lived before it, or was made by it.
+-- A generation that lives after an event lived before it, or was made by it.
 use Rattle.std.proofs.Common.{◌≡◌, ℕ, ◌⊎◌, inl, inr, Bool, true, false, cond, ◌&&◌, List, [], ◌∷◌, ◌++◌, Option, Some, refl, sym, ap, ap₂, ◌∙◌, subst}
 use Rattle.std.specs.List.{Contains, list_any, fold, zip, AllByRecursion as ByRecursion}
 use Rattle.std.specs.Str.{bytes_eq}
@@ -198,7 +198,7 @@ module _ (kind : Kind) (name : List ℕ) where
   watched_is world = any_of_map (λ (l : Live). has_dependency kind name l.content) live_of (λ (r : GenRow). is_live r.status) world.rows
 
   module _ (format : Format) (world : World) (actor : Actor) (event : Event) (none : has_one awaits awaits_blind world.rows ≡ false) where
-    -- what an event did has made a generation that waits for the name, where the name is watched behind it
+    -- what an event did has made a generation that waits for the name, where the name is watched after it
     abbrev Begins : World × Answer → Type 0
     Begins did = has_one awaits awaits_blind did.0.rows ≡ true → list_any (waits_for kind name) (made_in event did.1) ≡ true
 
@@ -266,7 +266,7 @@ module _ (kind : Kind) (name : List ℕ) where
   pub live_is : (world : World) → list_any (is_named kind name) (lives_of world) ≡ has_one (is_row_of kind name) named_blind world.rows
   live_is world = any_of_map (is_named kind name) live_of (λ (r : GenRow). is_live r.status) world.rows
 
-  -- what lives behind the removals lived before, and isn't removed
+  -- what lives after the removals lived before, and isn't removed
   abbrev Stays : ResponseParts → World → Type 0
   Stays response world = (list_any (is_named kind name) (lives_of world) ≡ true) × (is_removed response name ≡ false)
 

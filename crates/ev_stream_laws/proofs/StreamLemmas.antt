@@ -119,7 +119,7 @@ abbrev cons_some : Option Bool → List Bool → List Bool
 cons_some None rest = rest
 cons_some (Some opens) rest = opens ∷ rest
 
--- whether a stream is open behind an event
+-- whether a stream is open after an event
 step_stream : (format : Format) (world : World) (actor : Actor) (event : Event)
     → (step format world actor event).0.stream ≡ unwrap_or (stream_told event) world.stream
 step_stream format world actor Connect =

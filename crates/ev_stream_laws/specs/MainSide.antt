@@ -18,17 +18,17 @@ MainSideHolds =
     (format : Format) (script : ScriptParts) (journal : List Entry) (actor : Actor)
     → IsScript script → IsMainSide actor → IsRunOf format script journal → entries_of journal actor ≡ operations_of script actor
 
--- whether a stream is open behind an event, where the event says so
+-- whether a stream is open after an event, where the event says so
 abbrev pub stream_told : Event → Option Bool
 stream_told Connect = Some true
 stream_told Disconnect = Some false
 stream_told event = None
 
--- a stream is open behind these entries, by the last connect or disconnect among them
+-- a stream is open after these entries, by the last connect or disconnect among them
 abbrev pub is_open_behind : List Entry → Bool
 is_open_behind entries = unwrap_or (last_or None (filter_map (λ (entry : Entry). stream_told entry.event) entries)) false
 
--- so it is in the machine
+-- this holds in the machine
 abbrev pub StreamFollows : Type 0
 StreamFollows =
     (format : Format) (workers : ℕ) (node : List ℕ) (entries : List Entry)

@@ -35,7 +35,7 @@ has_live world kind name = list_any (is_named kind name) (lives_of world)
 abbrev pub has_item : ResponseParts → List ℕ → Bool
 has_item response name = list_any (λ (item : ItemParts). bytes_eq item.name name) response.items
 
--- what lives behind an answered response of clusters or listeners, of its kind, has the name of one of its resources, or lived
+-- what lives after an answered response of clusters or listeners, of its kind, has the name of one of its resources, or lived
 -- before and isn't removed by it
 abbrev pub LiveAreNamed : Type 0
 LiveAreNamed =

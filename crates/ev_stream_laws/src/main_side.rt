@@ -6,7 +6,7 @@ pub fn main_side_holds()
     ensures { MainSideHolds }
 {}
 
-/// A law of the machine: behind any entries a stream is open exactly where the last of them that is a connect or a disconnect is a
+/// A law of the machine: after any entries a stream is open exactly where the last of them that is a connect or a disconnect is a
 /// connect. It does nothing.
 pub fn stream_follows()
     ensures { StreamFollows }

@@ -6,7 +6,7 @@ pub fn watches_begin_with_new()
     ensures { WatchesBeginWithNew }
 {}
 
-/// A law of the machine: what lives behind an answered response of clusters or listeners, of its kind, has the name of one of its
+/// A law of the machine: what lives after an answered response of clusters or listeners, of its kind, has the name of one of its
 /// resources, or lived before and isn't removed by it. It does nothing.
 pub fn live_are_named()
     ensures { LiveAreNamed }

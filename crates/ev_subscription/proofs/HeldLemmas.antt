@@ -99,12 +99,12 @@ held_bounded kind name (e ∷ es) = by (is_at (name_order name) e.0) (is_version
     by false true h rest = absurd (false≢true h)
     by false false h rest = ap (λ vs. version_at kind e ∷ vs) rest
 
--- what is told of what a look-up finds
+-- what is said of what a look-up finds
 abbrev pub told_of : (Held → Bool) → Option Held → Bool
 told_of test None = false
 told_of test (Some held) = test held
 
--- no key is found, so none of the name is told of
+-- no key is found, so none of the name is reported
 none_told : (kind : Kind) (name : List ℕ) (test : KeptVersion → Bool) (es : Entries) → NonePasses (is_at (name_order name)) es
     → list_any (λ (kept : KeptVersion). is_version_of kind name kept && test kept) (versions_in kind es) ≡ false
 none_told kind name test [] none = refl

@@ -46,7 +46,7 @@ kept_with_other new k other (kept ∷ others) =
     further true is rest = simp (is) (ap (λ vs. kept ∷ vs) rest)
     further false is rest = simp (is) rest
 
--- a version that stands before all others is put first
+-- a version that comes before all others is put first
 before_all : (new : KeptVersion) (versions : List KeptVersion) → ByRecursion (λ (other : KeptVersion). is_before new.name other.name ≡ true) versions
     → with_version new versions ≡ new ∷ versions
 before_all new [] all = refl
@@ -80,7 +80,7 @@ kept_behind new kept k (v ∷ vs) before all = by (kind_same v.kind k) (goes_bef
     by true first rest = (first, rest)
     by false first rest = rest
 
--- a new version of the kind stands among those of the kind where it stands among all
+-- a new version of the kind is among those of the kind where it is among all
 kept_with_same : (new : KeptVersion) (k : Kind) → kind_same new.kind k ≡ true → (versions : List KeptVersion) → AreByName versions
     → kept_of k (with_version new versions) ≡ with_version new (kept_of k versions)
 kept_with_same new k is [] by_name = simp (is) refl

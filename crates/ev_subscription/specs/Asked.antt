@@ -7,7 +7,7 @@ use Rattle.ev_model.specs.World.{World}
 use Rattle.ev_subscription.specs.Subscriptions.{SubscriptionParts, StandsFor, InWorlds}
 use Rattle.ev_subscription.specs.declared.changes.NameChange.{NameChange}
 
--- a request of this kind that tells these versions, and asks for no change of names
+-- a request of this kind that states these versions, and asks for no change of names
 abbrev pub bare_request : Kind → List (List ℕ × List ℕ) → Request
 bare_request kind versions =
     record { kind = kind; node = None; subscribe = []; unsubscribe = []; versions = versions; nonce = None; error = None }
@@ -30,11 +30,11 @@ abbrev pub AsksFirst : List (List ℕ) → List (List ℕ) → Bool → Subscrip
 AsksFirst endpoints routes asked subscription requests =
     InWorlds subscription (λ world. requests ≡ connect_requests_in endpoints routes asked world)
 
--- the change tells the names that are watched after and weren't before
+-- the change gives the names that are watched after and weren't before
 abbrev pub TellsBegun : List (List ℕ) → List (List ℕ) → NameChange → Type 0
 TellsBegun before after change = change.begun ≡ other_than before after
 
--- the change tells the names that were watched before and aren't after
+-- the change gives the names that were watched before and aren't after
 abbrev pub TellsEnded : List (List ℕ) → List (List ℕ) → NameChange → Type 0
 TellsEnded before after change = change.ended ≡ other_than after before
 

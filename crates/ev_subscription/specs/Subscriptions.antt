@@ -43,7 +43,7 @@ with_held Rds versions subscription = record subscription { routes = versions }
 abbrev pub kept_version : Kind → List ℕ → List ℕ → Bool → KeptVersion
 kept_version kind name version bounded = record { kind = kind; name = name; version = version; bounded = bounded }
 
--- with this version in the place of the one that was held of its kind and name
+-- with this version in place of the one that was held of its kind and name
 abbrev pub with_accepted : KeptVersion → SubscriptionParts → SubscriptionParts
 with_accepted version subscription =
     with_held version.kind (with_version version (held_of subscription version.kind)) subscription

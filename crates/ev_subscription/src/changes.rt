@@ -81,7 +81,7 @@ fn outside(
     Ok(left)
 }
 
-// Puts a name to the others, where it isn't in the set.
+// Adds a name to the others, where it isn't in the set.
 fn push_outside(
     alloc: Global,
     set: &IndexSet<NameKey<'_>>,

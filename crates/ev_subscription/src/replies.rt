@@ -56,7 +56,7 @@ fn refusals(alloc: Global, verdicts: &[Verdict], items: &[Item]) -> Result<Vec<T
     Ok(texts)
 }
 
-// Puts what is said of a resource to the others, where it is refused.
+// Adds what is said of a resource to the others, where it is refused.
 fn push_refusal(
     alloc: Global,
     verdict: Verdict,
@@ -91,7 +91,7 @@ fn joined(alloc: Global, texts: &[Text]) -> Result<String, AllocError>
     Ok(text)
 }
 
-// Appends a text after so many others.
+// Appends a text after this many others.
 fn push_text(text: &mut String, others: usize, next: &str) -> Result<(), AllocError>
     ensures { OnOk result (string_bytes text.new ≡ string_bytes text.old ++ separated others next.now) }
 {

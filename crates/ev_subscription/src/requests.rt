@@ -10,7 +10,7 @@ use std::alloc::{AllocError, Global};
 
 impl Subscription {
     /// What is asked for when a stream opens: all clusters, with the node; the watched endpoints; all listeners, where they are
-    /// asked for; the watched routes. Each request tells the versions that are held. The names stand in the order of their bytes.
+    /// asked for; the watched routes. Each request states the versions that are held. The names are in the order of their bytes.
     pub fn connect(
         &self,
         alloc: Global,

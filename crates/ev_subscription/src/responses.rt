@@ -10,7 +10,7 @@ use std::alloc::{AllocError, Global};
 impl Subscription {
     /// A response of this kind, by what it mentions, with the verdicts on its resources: the versions of removed names are
     /// forgotten; then, in order, the version of each resource that is new, the same or kept is held, and a heartbeat bounds a
-    /// life anew. Without memory nothing is promised.
+    /// life anew. Out of memory, nothing is promised.
     pub fn respond(
         &mut self,
         alloc: Global,

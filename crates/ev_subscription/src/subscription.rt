@@ -140,8 +140,8 @@ impl Subscription {
         versions::is_bounded(self.of(kind), name)
     }
 
-    /// Holds a version, in the place of the one that was held of its kind and name, and whether its life is bounded. Without
-    /// memory all is as before.
+    /// Holds a version, in place of the one that was held of its kind and name, and whether its life is bounded. Out of
+    /// memory, all is as before.
     pub fn accept(
         &mut self,
         kind: Kind,
@@ -249,7 +249,7 @@ impl TryCopy for Subscription {
     }
 }
 
-// Puts other versions in the place of these, and gives these.
+// Puts other versions in place of these, and gives these.
 fn replace(versions: &mut Versions, others: Versions) -> Versions
     ensures given { result.entries ≡ versions.old.entries }
     ensures put { versions.new.entries ≡ others.entries }

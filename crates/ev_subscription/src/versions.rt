@@ -35,7 +35,7 @@ impl Clone for Held {
 /// By name what is held, in the order of the names.
 pub(crate) type Versions = BTreeMap<VersionName, Held>;
 
-/// Holds this of the name, in the place of what was held of it. Without memory all is as before.
+/// Holds this of the name, in place of what was held of it. Out of memory, all is as before.
 pub(crate) fn hold(versions: &mut Versions, name: VersionName, held: Held) -> Result<(), AllocError>
     ensures entries { OnOk result (versions.new.entries ≡ insert_entry name_order versions.old.entries name held) }
     ensures err { OnErr result (versions.new.entries ≡ versions.old.entries) }
@@ -51,7 +51,7 @@ pub(crate) fn forget(versions: &mut Versions, name: &str)
     ensures entries { versions.new.entries ≡ remove_entry (is_at (name_order name.now)) versions.old.entries }
     ensures ordered { IsOrdered name_order versions.old }
 {
-    // They stand in the order of their names.
+    // They are in the order of their names.
     let _ = versions.len();
     let _ = versions.remove(name);
 }
@@ -81,7 +81,7 @@ fn find<'a>(versions: &'a Versions, name: &str) -> Option<&'a Held>
     ensures held { option_copied result ≡ lookup (is_at (name_order name.now)) versions.now.entries }
     ensures ordered { IsOrdered name_order versions.now }
 {
-    // They stand in the order of their names.
+    // They are in the order of their names.
     let _ = versions.len();
     versions.get(name)
 }
@@ -90,7 +90,7 @@ fn find<'a>(versions: &'a Versions, name: &str) -> Option<&'a Held>
 pub(crate) fn bound(versions: &mut Versions, name: &str)
     ensures { versions.new.entries ≡ bounded_in name.now versions.old.entries }
 {
-    // They stand in the order of their names.
+    // They are in the order of their names.
     let _ = versions.len();
     if let Some(held) = versions.get_mut(name) {
         held.bounded = true;

@@ -72,7 +72,7 @@ impl First {
         true
     }
 
-    /// Whether they have come or are late. The name that was seen waiting is asked first, then those behind it, then those before it,
+    /// Whether they have come or are late. The name that was seen waiting is asked first, then those after it, then those before it,
     /// up to the first that waits.
     pub(crate) fn have_come(&mut self, known: &State) -> bool
         requires indexed { IsIndexed known.now }
@@ -95,7 +95,7 @@ impl First {
     }
 }
 
-// The place of a name that waits, looked for from a place on and round the list.
+// The place of a name that waits, looked for from a place on and around the list.
 fn waiting(known: &State, names: &[Text], from: usize) -> Option<usize>
     requires indexed { IsIndexed known.now }
     ensures { is_some result ≡ not (list_all (has_come_in known.now.table.rows) names.now) }
@@ -133,7 +133,7 @@ fn made_names(alloc: Global, verdicts: &[Verdict], items: &[Item]) -> Result<Seq
     Ok(Seq::from_vec(names))
 }
 
-// Puts the name of a resource to the others, where it made a generation.
+// Adds the name of a resource to the others, where it made a generation.
 fn push_made(
     alloc: Global,
     verdict: Verdict,

@@ -61,7 +61,7 @@ impl Targets {
     }
 
     /// A response of this kind made generations by these verdicts: the first one of clusters, and of listeners, is noted by their
-    /// names. Without memory nothing is promised.
+    /// names. Out of memory, nothing is promised.
     pub fn note_first(
         &mut self,
         alloc: Global,

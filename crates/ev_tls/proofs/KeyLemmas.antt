@@ -1,4 +1,4 @@
--- What is accepted at a cluster that asks by the private name of a place is accepted behind the telling of each secret that the
+-- What is accepted at a cluster that asks by the private name of a place is accepted after the report of each secret that the
 -- key of the place names.
 use Rattle.std.proofs.Common.{◌≡◌, ◌∙◌, ℕ, ◌+◌, ◌<◌, ◌≤◌, ◌==◌, nat_lt, Bool, true, false, ◌&&◌, List, length, take, decimal, Some, None, codes, refl, sym, ap, subst, arith}
 use Rattle.std.specs.Prelude.{Contains, slice_get, option_and_then}
@@ -116,7 +116,7 @@ module _ (trees : ScriptTrees) (format : Format) (journal : List Entry) (kept : 
   earlier_at : (a b : Operation) → a.at < b.at → is_earlier a b ≡ true
   earlier_at a b h = or_left (nat_lt a.at b.at) ((a.at == b.at) && nat_lt a.step b.step) (below a.at b.at h)
 
-  -- what a line became is done before an entry of the stream behind it
+  -- what a line became is done before an entry of the stream after it
   own_before : (index : ℕ) (tree : Data) (own : IsOwnLine trees index tree) (q : ℕ) (entry : Entry) → slice_get journal q ≡ Some entry → entry.actor ≡ Stream
       → place_given tls_rules (lines_in trees) index < entry.at → DoneBefore journal q (line_operation own.line)
   own_before index tree own q entry there by less =
@@ -140,7 +140,7 @@ module _ (trees : ScriptTrees) (format : Format) (journal : List Entry) (kept : 
     says = ap (option_and_then event_of) there ∙ own.says ∙ sym (ap (λ (o : Operation). Some o.event) done.does);
   }
 
-  -- a line that tells of a secret was done before the entry of a line that follows one not before it
+  -- a line that reports a secret was done before the entry of a line that follows one not before it
   told_before : (k index place : ℕ) (secret : List ℕ) → IsToldAt (lines_in trees) (index + 1) (Secret secret) → (q : ℕ) (entry : Entry)
       → slice_get journal q ≡ Some entry → entry.actor ≡ Stream → entry.at ≡ 2 + place → given_before tls_rules (lines_in trees) index < place → q < k
       → WasTold journal k (lines_in trees) secret
@@ -162,7 +162,7 @@ module _ (trees : ScriptTrees) (format : Format) (journal : List Entry) (kept : 
         before = stands k told.index told.front.line own q here.here less done;
       }
 
-  -- where the place of a guarded key is due each secret that it names was told of
+  -- where the place of a guarded key is due each secret that it names was reported
   due_told : (n place : ℕ) (line : Line) (secret : List ℕ) (behind : FollowsDue (lines_in trees) n (private_name (codes "tls/") place) line)
       → KeyNames (lines_in trees) place secret → IsToldAt (lines_in trees) (behind.index + 1) (Secret secret)
   due_told n place line secret behind names =
@@ -174,7 +174,7 @@ module _ (trees : ScriptTrees) (format : Format) (journal : List Entry) (kept : 
       complete_told (up_to behind.front) names.guarded.key secret (due_is_complete behind.front names.guarded due) names.named in
       told_at (lines_in trees) (behind.index + 1) (Secret secret) (subst (λ ls. is_told ls (Secret secret) ≡ true) up_to_is heard)
 
-  -- what is accepted at a cluster that asks by the private name of a place was warm, so that name's endpoints were told of before
+  -- what is accepted at a cluster that asks by the private name of a place was warm, so that name's endpoints were reported before
   pub sealed_by_key : first_use (codes "tls/") (lines_in trees) ≡ None → (k : ℕ) (worker : Actor) (number place : ℕ) (secret : List ℕ)
       → Accepts (run_told format (sealed_script trees) journal) k worker number → AsksFor journal number place → KeyNames (lines_in trees) place secret
       → WasTold journal k (lines_in trees) secret

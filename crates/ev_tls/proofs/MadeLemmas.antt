@@ -55,7 +55,7 @@ one_more_by g xs n y (Some x) there more =
     ap (flat_map g) (take_one xs n x there) ∙ flat_map-append g (take n xs) (x ∷ []) ∙ ap (λ ys. flat_map g (take n xs) ++ ys) (append-nil (g x)) in
     (x, there, append_cancel_left (flat_map g (take n xs)) (g x) (y ∷ []) (sym grown ∙ more))
 
--- an element that adds a piece of one stands at its place, and gives that piece
+-- an element that adds a piece of one is at its place, and gives that piece
 one_more : {X Y : Type 0} (g : X → List Y) (xs : List X) (n : ℕ) (y : Y) → flat_map g (take (n + 1) xs) ≡ flat_map g (take n xs) ++ y ∷ []
     → (x : X) × (slice_get xs n ≡ Some x) × (g x ≡ y ∷ [])
 one_more g xs n y more = one_more_by g xs n y (slice_get xs n) refl more
@@ -78,7 +78,7 @@ made_good kind (Refused rule) name body row h = absurd (cc)
 abbrev made_of_judged : Kind → Verdict × ItemParts → List MadeRow
 made_of_judged kind judged = made_by kind judged.0 judged.1.name judged.1.body
 
--- the event is a response whose resource at this place makes the generation, and so many stand before it among those that it makes
+-- the event is a response whose resource at this place makes the generation, and this many come before it among those that it makes
 pub record MakesAt (event : Event) (answer : Answer) (item : ℕ) (row : MadeRow) : Type 0 where
   pub response : ResponseParts
   pub is : event ≡ Response response

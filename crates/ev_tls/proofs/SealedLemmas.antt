@@ -1,4 +1,4 @@
--- What is accepted is accepted behind the telling of each secret that the resource names which made it.
+-- What is accepted is accepted after the report of each secret that the resource names which made it.
 use Rattle.std.proofs.Common.{◌≡◌, ◌∙◌, inl, ℕ, ◌+◌, ◌==◌, Bool, true, false, cond, List, [], length, map, Option, Some, None, is_some, codes, refl, sym, ap, subst, arith, ne_eqb}
 use Rattle.std.specs.Prelude.{Contains, slice_get, option_map}
 use Rattle.std.proofs.lemmas.Bool.{both_ways}

@@ -1,4 +1,4 @@
--- The endpoints that are sent stood in a line that was read, at least as deep as in the line that sends them.
+-- The endpoints that are sent were in a line that was read, at least as deep as in the line that sends them.
 use Rattle.std.proofs.Common.{ℕ, ◌+◌, ◌≤◌, not, Bool, true, false, cond, List, [], ◌∷◌, map, filter, filter_map, flat_map, Option, None, Some, option_map, codes, arith}
 use Rattle.std.specs.Prelude.{All, IfSome}
 use Rattle.std.specs.List.{cons_option, last_or}

@@ -1,4 +1,4 @@
--- A line that tells of a secret stands in the text as it is, as a line of the stream.
+-- A line that reports a secret is in the text as it is, as a line of the stream.
 use Rattle.std.proofs.Common.{◌≡◌, ◌∙◌, ℕ, ◌+◌, List, [], map, Option, Some, None, is_some, codes, refl, sym, ap, subst, arith}
 use Rattle.std.specs.Prelude.{slice_get}
 use Rattle.std.specs.List.{list_any}

@@ -1,4 +1,4 @@
--- What was told of in some lines is told of by one of them, and so is all that a key names where it is due.
+-- What was reported in some lines is reported by one of them, and so is all that a key names where it is due.
 use Rattle.std.proofs.Common.{◌≡◌, ◌∙◌, ℕ, ◌<◌, Bool, true, ◌&&◌, ◌||◌, not, List, map, take, filter, flat_map, Some, sym, ap, subst}
 use Rattle.std.specs.Prelude.{slice_get, Contains}
 use Rattle.std.specs.Cmp.{first_so, second_so}
@@ -15,7 +15,7 @@ use Rattle.ev_secrets.specs.Told.{is_complete, is_told, told_by}
 use Rattle.ev_expand_laws.proofs.FrontLemmas.{fronts_taken}
 use Rattle.ev_expand_laws.proofs.ListLemmas.{all_in, contains_in, get_in, in_any, in_flat, in_map, map_in, taken_get}
 
--- one of the first n lines tells of it, where a stream is open
+-- one of the first n lines reports it, where a stream is open
 pub record IsToldAt (lines : List Data) (n : ℕ) (awaited : Awaited) : Type 0 where
   pub index : ℕ
   pub within : index < n
@@ -42,7 +42,7 @@ told_at lines n awaited told =
       tells = subst (λ line. IsIn awaited (told_by line)) (sym front.2) (subst (λ a. IsIn a (told_by among.0)) same among.2);
     }
 
--- where a key is complete each secret that it names was told of
+-- where a key is complete each secret that it names was reported
 pub complete_told : (lines : List Data) (key : Key) (secret : List ℕ) → is_complete lines key ≡ true → Contains key.names secret → is_told lines (Secret secret) ≡ true
 complete_told lines key secret complete named =
     all_in (is_told lines) (awaited_by key) (Secret secret) complete
@@ -53,7 +53,7 @@ complete_told lines key secret complete named =
 middle : (a b c : Bool) → (a && b && c) ≡ true → b ≡ true
 middle a b c h = second_so a b (first_so (a && b) c h)
 
--- what is due at a front is complete there
+-- what is due at a prefix is complete there
 pub due_is_complete : (front : Front) (g : Guarded) → is_due front g ≡ true → is_complete (up_to front) g.key ≡ true
 due_is_complete front g h =
     middle (stream_at (up_to front)) (is_complete (up_to front) g.key)

@@ -54,7 +54,7 @@ pub record IsByLine (journal : List Entry) (place : ℕ) (lines : List Data) (in
   pub at : entry.at ≡ place_given tls_rules lines index
   pub own : entry.step ≡ 0
 
--- what an event makes by the verdicts on the first so many of its resources
+-- what an event makes by the verdicts on the first n of its resources
 abbrev pub made_by_first : ℕ → Event → Answer → List MadeRow
 made_by_first count event (Replied requests verdicts) = made_in event (Replied requests (take count verdicts))
 made_by_first count event answer = []
@@ -68,7 +68,7 @@ pub record IsMadeOf (journal : List Entry) (number : ℕ) (lines : List Data) (i
   pub made : made_by_first (item + 1) by.entry.event by.entry.answer ≡ made_by_first item by.entry.event by.entry.answer ++ row ∷ []
   pub numbered : number ≡ length (made_rows (take place journal)) + length (made_by_first item by.entry.event by.entry.answer) + 1
 
--- what the line became stands before place k of the journal, with the line's event
+-- what the line became comes before place k of the journal, with the line's event
 pub record StandsBefore (journal : List Entry) (k : ℕ) (lines : List Data) (index : ℕ) : Type 0 where
   pub place : ℕ
   pub earlier : place < k

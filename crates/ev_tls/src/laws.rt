@@ -6,11 +6,11 @@
 //!   and each secret that this resource names has come. So a body that leaves such a cluster as it is, or takes two for one
 //!   which name different secrets, doesn't meet it. Which generation a resource made is said by how many were made before it.
 //! - That a secret has come is said of the input: a line brings it, where a stream is open. That this was before the accept
-//!   is said of the journal: the line's own line of the text stands there as an entry of the stream.
+//!   is said of the journal: the line's own line of the text is there as an entry of the stream.
 
 ghost use Rattle.ev_tls.specs.Sealed.{Sealed};
 
-/// A law of every run of a script whose clusters wait for their secrets: an accept at a cluster stands after the entries of the
+/// A law of every run of a script whose clusters wait for their secrets: an accept at a cluster comes after the entries of the
 /// stream by which each secret has come that the cluster's resource in the input names. It does nothing.
 pub fn accepts_are_sealed()
     ensures { Sealed }

@@ -4,7 +4,7 @@
 //! # Choices
 //!
 //! - The text is made by `ev_secrets`; that it is a script is the law of `ev_expand_laws`, whose premises are proved here: trees
-//!   that were read are lines of a script, and the endpoints that are sent stood in such a line at least as deep.
+//!   that were read are lines of a script, and the endpoints that are sent were in such a line at least as deep.
 #![tactic(auto)]
 
 ghost use Rattle.std.specs.Prelude.{◌≡◌, false, Some, Ok, IfOk, OnOk};
@@ -30,7 +30,7 @@ use std::alloc::Global;
 ///
 /// # Errors
 /// `Private` exactly for the first line that uses a name that begins with `tls/` for endpoints. `Large` where there is none,
-/// exactly for the line with whose output the text goes above a limit of inputs. `OutOfMemory` without memory, and for 2^32
+/// exactly for the line with whose output the text goes above a limit of inputs. `OutOfMemory` where memory runs out, and for 2^32
 /// lines and more.
 pub fn seal(alloc: Global, trees: &ScriptTrees) -> Result<Vec<u8>, ExpandError>
     requires read { (input : Input) × IsTreesAnswer plain_lines input (Ok trees.now) }

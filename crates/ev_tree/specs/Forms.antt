@@ -152,7 +152,7 @@ tree_of None = null
 tree_of (Some v) = view v.now
 
 -- A reader's answer says which outcome it is: a value, seen by `seen`, None where the field is absent,
--- and V6 where its form is wrong. Want of memory says nothing.
+-- and V6 where its form is wrong. Running out of memory says nothing.
 abbrev pub Answers : {A B : Type 0} → (A → B) → Result (Option A) ReadError → Found B → Type 0
 Answers seen (Ok None) found = found ≡ Absent
 Answers seen (Ok (Some x)) found = found ≡ Given (seen x)

@@ -15,7 +15,7 @@ abbrev pub judged : {A : Type 0} → Option ℕ → A → Result A ℕ
 judged None value = Ok value
 judged (Some rule) value = Err rule
 
--- A reader's answer is what the tree reads as. Want of memory says nothing.
+-- A reader's answer is what the tree reads as. Running out of memory says nothing.
 abbrev pub ReadsAs : {A : Type 0} → Result A ReadError → Result A ℕ → Type 0
 ReadsAs (Ok value) reading = reading ≡ Ok value
 ReadsAs (Err (Rule rule)) reading = reading ≡ Err rule

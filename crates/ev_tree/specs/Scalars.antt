@@ -72,7 +72,7 @@ unfoldable pub signed_span : List ℕ → Option Span
 signed_span [] = seconds_span false []
 signed_span (c ∷ cs) = if c == 45 then seconds_span true cs else seconds_span false (c ∷ cs)
 
--- what stands before a last byte `s`
+-- what comes before a last byte `s`
 unfoldable pub before_unit : List ℕ → Option (List ℕ)
 before_unit [] = None
 before_unit (c ∷ []) = if c == 115 then Some [] else None

@@ -19,9 +19,9 @@ pub struct BrokenRules {
     pub v6: bool,
     /// The discovery type is neither STATIC nor EDS.
     pub v7: bool,
-    /// EDS stands without its configuration.
+    /// EDS is given without its configuration.
     pub v8: bool,
-    /// The configuration of EDS stands with another type.
+    /// The configuration of EDS is given with another type.
     pub v9: bool,
     /// A config source isn't the aggregated stream, or its timeout is negative.
     pub v10: bool,
@@ -41,7 +41,7 @@ pub struct BrokenRules {
     pub v18: bool,
     /// A virtual host has no name or no domains.
     pub v19: bool,
-    /// A domain stands twice in a route configuration.
+    /// A domain occurs twice in a route configuration.
     pub v20: bool,
     /// A match isn't exactly one of the three kinds, or has a condition that the profile lacks.
     pub v21: bool,
@@ -124,7 +124,7 @@ impl BrokenRules {
         }
     }
 
-    /// These rules where a condition holds, and none else.
+    /// These rules where a condition holds, and no others.
     pub fn only_if(self, condition: bool) -> BrokenRules
         ensures { result ≡ broken_where condition self }
     {

@@ -1,7 +1,7 @@
 //! Fields of JSON objects in the forms of the proto3 JSON mapping: a field by either spelling of its
 //! name, and its value as a text, a number, a boolean, a duration, an object, a list or an enum.
 //!
-//! A field that is `null` is absent. A field that stands in both spellings has the wrong form.
+//! A field that is `null` is absent. A field that is given in both spellings has the wrong form.
 //!
 //! # Choices
 //!
@@ -12,7 +12,7 @@
 //! - `_` before a character that is no letter falls away too, as in protobuf. No name that is read has one.
 //! - The lowerCamelCase spelling is made each time that a field is looked up, which takes memory for a short text; so
 //!   each reader can answer `OutOfMemory`.
-//! - Beside the eight readers, which stop at the first wrong form, stands the module `member`, for callers that go on
+//! - Beside the eight readers, which stop at the first wrong form, there is the module `member`, for callers that go on
 //!   and report the least rule: it gives an outcome instead of an error.
 //! - The plain text of a tree has -1 for each float, of which `serde_json` doesn't say how it is written. Commands that
 //!   write scripts write trees so (ev_trees), and bodies are compared by it.
@@ -21,7 +21,7 @@
 //! - The broken rules of a body are a struct with a field a rule, in place of a list or of bits: a part's definition
 //!   then has a line for each rule that it breaks, and a rule to come costs a line. V4, V5 and V15 have no field,
 //!   since they aren't rules of form.
-//! - The limit of a name stands here and in ev_types, since neither crate stands on the other; all other limits stand
+//! - The limit of a name is here and in ev_types, since neither crate depends on the other; all other limits are
 //!   once.
 #![tactic(auto)]
 

@@ -33,7 +33,7 @@ fn give_or_absent(value: Option<&Value>) -> Found<&Value>
     }
 }
 
-// What stands in one of the two spellings; both are the wrong form.
+// What is given in one of the two spellings; both are the wrong form.
 fn choose_spelling<'a>(first: Option<&'a Value>, second: Option<&'a Value>) -> Found<&'a Value>
     ensures { found_map (λ v. view v.now) result
         ≡ either_spelling (option_map (λ v. view v.now) first.entry) (option_map (λ v. view v.now) second.entry) }

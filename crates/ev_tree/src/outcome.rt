@@ -47,7 +47,7 @@ impl<T: Drop> From<AllocFailed<T>> for ReadError {
 pub enum Found<T> {
     /// There is no such field, or it is `null`.
     Absent,
-    /// It has the wrong form, or stands in both spellings.
+    /// It has the wrong form, or is given in both spellings.
     Wrong,
     /// Its value.
     Given(T),

@@ -27,7 +27,7 @@ fn answer<T>(found: Found<T>) -> Result<Option<T>, ReadError>
 /// as absent, and what is no object has no fields.
 ///
 /// # Errors
-/// `Rule(6)` where the field stands in both spellings, and `OutOfMemory`.
+/// `Rule(6)` where the field is given in both spellings, and `OutOfMemory`.
 pub fn field<'a>(
     alloc: Global,
     object: &'a Value,

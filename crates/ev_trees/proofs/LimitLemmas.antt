@@ -1,4 +1,4 @@
--- No fault of the limits stands in the text of trees within them.
+-- No fault of the limits is in the text of trees within them.
 use Rattle.std.proofs.Common.{◌≡◌, ℕ, zero, suc, ◌+◌, ◌≤◌, List, [], ◌∷◌, ◌++◌, length, take, get_or, refl, sym, ap, subst, ◌∙◌, arith, append_assoc, length-append}
 use Rattle.std.specs.Prelude.{All}
 use Rattle.std.proofs.lemmas.List.{append-nil, take_all}
@@ -14,7 +14,7 @@ use Rattle.ev_trees.specs.Trees.{text_of_trees, StaysWithinLimits}
 use Rattle.ev_trees.proofs.FeedLemmas.{NoFeed, NoFeed-compact_text}
 use Rattle.ev_trees.proofs.LineLemmas.{line_alone}
 
--- no byte of the front is a line feed
+-- no byte of the prefix is a line feed
 none_in : (xs ys : List ℕ) → NoFeed xs → HasNoFeed (xs ++ ys) (length xs)
 none_in [] ys none k h = absurd (omega arith)
 none_in (x ∷ xs) ys none zero h = none.0
@@ -51,7 +51,7 @@ lines_with front tree closed =
     ∙ length-append (lines_of front) (lines_of (line_text tree))
     ∙ ap (λ (texts : List (List ℕ)). length (lines_of front) + length texts) (line_alone tree)
 
--- after a closed front without fault, trees within what is left of the limits
+-- after a closed prefix without fault, trees within what is left of the limits
 sound_from : (front : List ℕ) (trees : List Data) → IsClosed front → IsSoundUpTo (front ++ text_of_trees trees) (length front)
     → All (λ tree. length (compact_text tree) ≤ MAX_LINE_BYTES) trees
     → length (lines_of front) + length trees ≤ MAX_LINES → length front + length (text_of_trees trees) ≤ MAX_INPUT_BYTES

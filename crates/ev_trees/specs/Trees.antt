@@ -33,6 +33,6 @@ pub record AreWithinLimits (trees : List Data) : Type 0 where
   pub few : length trees ≤ MAX_LINES
   pub small : length (text_of_trees trees) ≤ MAX_INPUT_BYTES
 
--- so no fault of the limits stands in it
+-- so no fault of the limits is in it
 abbrev pub StaysWithinLimits : Type 0
 StaysWithinLimits = (trees : List Data) → AreWithinLimits trees → IsSoundUpTo (text_of_trees trees) (length (text_of_trees trees))

@@ -13,7 +13,7 @@ pub fn makes_whole()
     ensures { MakesWhole }
 {}
 
-/// A law: no fault of the limits stands in the text of trees whose lines are neither too long nor too many, and which
+/// A law: no fault of the limits is in the text of trees whose lines are neither too long nor too many, and which
 /// has no more bytes than an input may have. It does nothing.
 pub fn within_limits()
     ensures { StaysWithinLimits }

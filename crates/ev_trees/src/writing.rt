@@ -18,7 +18,7 @@ fn written(alloc: Global, tree: &Value) -> Result<Vec<u8>, AllocError>
     tree.to_vec(alloc)
 }
 
-/// Puts a tree's line after a text: the tree without spaces, and a line feed. The tree has no float.
+/// Appends a tree's line to a text: the tree without spaces, and a line feed. The tree has no float.
 ///
 /// # Errors
 /// `AllocError` where there is no memory for it; the text stays as it was then.
@@ -34,7 +34,7 @@ pub fn push_line(alloc: Global, text: &mut Vec<u8>, tree: &Value) -> Result<(), 
     text.extend_from_slice(line.as_slice())
 }
 
-/// Puts the line of any tree after a text, with -1 for each float in it.
+/// Appends the line of any tree to a text, with -1 for each float in it.
 ///
 /// # Errors
 /// `AllocError` where there is no memory for it; the text stays as it was then.

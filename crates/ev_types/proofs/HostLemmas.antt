@@ -1,4 +1,4 @@
--- Hosts that stand in rows, each once.
+-- Hosts that are in rows, each once.
 use Rattle.std.proofs.Common.{◌≡◌, ◌∙◌, sym, List, length}
 use Rattle.std.specs.List.{IsDistinct}
 use Rattle.std.specs.Cmp.{decided}

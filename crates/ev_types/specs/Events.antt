@@ -87,7 +87,7 @@ IsMainSide Timer = ⊤
 IsMainSide Main = ⊤
 IsMainSide (Worker worker) = ⊥
 
--- one of so many workers
+-- one of this many workers
 abbrev pub IsWorkerOf : ℕ → Actor → Type 0
 IsWorkerOf workers Stream = ⊥
 IsWorkerOf workers health = ⊥
@@ -95,7 +95,7 @@ IsWorkerOf workers Timer = ⊥
 IsWorkerOf workers Main = ⊥
 IsWorkerOf workers (Worker worker) = worker < workers
 
--- the actor may make the event, where there are so many workers
+-- the actor may make the event, where there are this many workers
 abbrev pub MayMake : ℕ → Actor → Event → Type 0
 MayMake workers actor Connect = IsStream actor
 MayMake workers actor Disconnect = IsStream actor

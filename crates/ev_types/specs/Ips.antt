@@ -30,16 +30,16 @@ abbrev pub width : Ip → ℕ
 width (V4 bits) = 32
 width (V6 bits) = 128
 
--- the first so many bits of an address
+-- the first n bits of an address
 abbrev pub front : ℕ → Ip → Ip
 front count (V4 bits) = V4 (bits / 2 ^ (32 - count))
 front count (V6 bits) = V6 (bits / 2 ^ (128 - count))
 
--- the range of the addresses that have the first so many bits of this one
+-- the range of the addresses that have the first n bits of this one
 abbrev pub range_about : Ip → ℕ → CidrRange
 range_about ip count = record { prefix_len = count; prefix = front count ip }
 
--- the range, where the address has so many bits
+-- the range, where the address has this many bits
 abbrev pub range_within : Ip → ℕ → Option CidrRange
 range_within ip count = if nat_le count (width ip) then Some (range_about ip count) else None
 

@@ -1,4 +1,4 @@
--- When hosts and their rows are equal, and which hosts stand in rows.
+-- When hosts and their rows are equal, and which hosts are in rows.
 use Rattle.std.specs.Prelude.{ℕ, ◌≤◌, Bool, true, ◌≡◌, ◌&&◌, ◌==◌, ◌++◌, List, length}
 use Rattle.std.specs.List.{list_any}
 use Rattle.std.specs.Bool.{Decides}
@@ -26,7 +26,7 @@ host_row_same a b = host_same a.host b.host && (a.weight == b.weight) && (a.prio
 abbrev pub rows_same : List HostRowParts → List HostRowParts → Bool
 rows_same a b = pointwise host_row_same a b
 
--- the host stands among these
+-- the host is among these
 abbrev pub has_host : Host → List HostRowParts → Bool
 has_host host rows = list_any (λ (h : HostRowParts). host_same h.host host) rows
 
@@ -34,7 +34,7 @@ has_host host rows = list_any (λ (h : HostRowParts). host_same h.host host) row
 abbrev pub AreHostsOf : List HostRowParts → List Host → Type 0
 AreHostsOf rows hosts = (host : Host) → list_any (host_same host) hosts ≡ has_host host rows
 
--- so many hosts, or more, are in each list that has all hosts of the rows
+-- this many hosts, or more, are in each list that has all hosts of the rows
 abbrev pub NeedsHosts : List HostRowParts → ℕ → Type 0
 NeedsHosts rows count = (hosts : List Host) → ((host : Host) → has_host host rows ≡ true → list_any (host_same host) hosts ≡ true) → count ≤ length hosts
 

@@ -4,7 +4,7 @@ use std::alloc::{AllocError, Global};
 /// How a cluster finds its hosts.
 #[derive(Drop)]
 pub enum Discovery {
-    /// They stand in the cluster itself.
+    /// They are given in the cluster itself.
     Static(Assignment),
     /// They come by the endpoint discovery service.
     Eds {

@@ -150,7 +150,7 @@ impl TryCopy for Event {
     }
 }
 
-/// The word of an event, as it stands in a journal's line.
+/// The word of an event, as it is in a journal's line.
 #[derive(Clone, Copy, Debug, PartialEq, Eq)]
 pub enum Op {
     Connect,
@@ -195,7 +195,7 @@ impl TryCopy for Verdict {
 pub enum Answer {
     /// Nothing is done.
     Ignored,
-    /// It is done, and nothing is to be told.
+    /// It is done, and nothing is to be reported.
     Done,
     /// These requests are sent.
     Moved {

@@ -14,7 +14,7 @@ pub struct FilterChainMatch {
     pub transport_protocol: Option<Text>,
     /// The application protocols that it offers.
     pub application_protocols: Seq<Text>,
-    /// Whether it asks where the connection comes from, which no script tells.
+    /// Whether it asks where the connection comes from, which no script says.
     pub asks_source: bool,
 }
 

@@ -172,7 +172,7 @@ impl Assignment {
         self.rows.as_slice()
     }
 
-    /// Whether a host stands among its rows: by a look-up where there is an index, else by a walk.
+    /// Whether a host is among its rows: by a look-up where there is an index, else by a walk.
     pub fn has(&self, host: &Host) -> bool
         ensures { result ≡ has_host host.now self.now }
     {
@@ -182,7 +182,7 @@ impl Assignment {
         }
     }
 
-    /// How many different hosts the index has, or 0 where there is none. Fewer hosts can't be all that stand in the rows.
+    /// How many different hosts the index has, or 0 where there is none. Fewer hosts can't be all that are in the rows.
     pub fn count_indexed(&self) -> usize
         ensures { NeedsHosts self.now result }
     {
@@ -193,7 +193,7 @@ impl Assignment {
     }
 }
 
-// Whether a host stands among these rows.
+// Whether a host is among these rows.
 fn has_host(rows: &[HostRow], host: &Host) -> bool
     ensures { result ≡ has_host host.now rows.now }
 {

@@ -11,7 +11,7 @@ pub enum Serve {
         /// Whether the wait for them ends at the initial fetch timeout.
         limited: bool,
     },
-    /// Routes that stand in the listener itself. They are shared.
+    /// Routes given in the listener itself. They are shared.
     Inline(Shared<RouteTable>),
     /// A TCP proxy to this target.
     Tcp(Target),

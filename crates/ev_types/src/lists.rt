@@ -77,7 +77,7 @@ impl<T> Seq<T> {
         self.items.is_empty()
     }
 
-    /// Puts an element in the place of another.
+    /// Puts an element in place of another.
     pub fn set(&mut self, place: usize, item: T)
     where
         T: Drop,
@@ -87,7 +87,7 @@ impl<T> Seq<T> {
         self.items[place] = item;
     }
 
-    /// Puts an element at the end. Without memory the list stays as it was.
+    /// Puts an element at the end. Out of memory, the list stays as it was.
     pub fn push(&mut self, item: T) -> Result<(), AllocError>
     where
         T: Drop,
@@ -98,7 +98,7 @@ impl<T> Seq<T> {
         Ok(())
     }
 
-    /// Puts an element before the one at a place, or at the end. Without memory the list stays as it was.
+    /// Puts an element before the one at a place, or at the end. Out of memory, the list stays as it was.
     pub fn insert(&mut self, place: usize, item: T) -> Result<(), AllocError>
     where
         T: Drop,
@@ -120,7 +120,7 @@ impl<T> Seq<T> {
         self.items.retain(test);
     }
 
-    /// Keeps the first elements, so many as `count`, or all where there are fewer.
+    /// Keeps the first elements, as many as `count`, or all where there are fewer.
     pub fn truncate(&mut self, count: usize)
     where
         T: Drop,

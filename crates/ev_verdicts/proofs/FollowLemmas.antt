@@ -292,7 +292,7 @@ named_itself rest item =
     let is : bytes_eq item.name item.name ≡ true = nat_list_eq_equiv.refl item.name in
     simp (is) (grind arith)
 
--- no resource of the name was looked at before, where the name doesn't stand twice
+-- no resource of the name was looked at before, where the name doesn't occur twice
 fresh_never : (b n all : ℕ) → all ≡ b + n → 1 ≤ n → 1 ≤ b → nat_le 2 all ≡ false → ⊥
 fresh_never b n all parts one before once = grind (arith, common_steps)
 
@@ -435,7 +435,7 @@ with_made_among made before item content false among = λ name is.
     (among_by (is_made made name) (bytes_eq item.name name) (length (items_named name before)) (length (items_named name (item ∷ [])))
     (sym (made_more made item.name (listening_address content) name) ∙ is) (among name) (named_one item name))
 
--- what was made stands among the resources that were looked at
+-- what was made is among the resources that were looked at
 among_step : (made : MadeKept) (before : List ItemParts) (item : ItemParts) (body : Body) (verdict : Verdict) → Among made before
     → Among (made_by verdict item.name body made) (before ++ item ∷ [])
 among_step made before item (Good content) New among = with_made_among made before item content (is_made made item.name) among
@@ -475,7 +475,7 @@ judged_all answers kind response lives versions tells =
     judged_from answers kind response lives versions [] (lives_left kind response lives) [] response.items refl none_among tells
     (follows_first answers kind response lives versions tells)
 
--- lists that are searched tell what they hold, of what is asked for without a name
+-- lists that are searched say what they hold, of what is asked for without a name
 pub listed_tells : (kind : Kind) (lives : List Live) (versions : List KeptVersion) → is_by_name kind ≡ false → Tells (answers_of lives versions) kind lives versions
 listed_tells kind lives versions whole = record {
   newest = λ k name. refl;
@@ -485,7 +485,7 @@ listed_tells kind lives versions whole = record {
   apart = λ by_name. absurd (false≢true (sym whole ∙ by_name));
 }
 
--- the verdicts by look-ups are those of whatever lists they tell of
+-- the verdicts by look-ups are those of whatever lists they speak of
 pub judged_told : (answers : Answers) (k : Kind) (response : ResponseParts) (verdicts : List Verdict)
     → verdicts ≡ all_judged answers k response [] response.items → response.kind ≡ Some k
     → (kind : Kind) (lives : List Live) (versions : List KeptVersion) → response.kind ≡ Some kind → Tells answers kind lives versions

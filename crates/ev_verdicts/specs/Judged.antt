@@ -133,7 +133,7 @@ judged_first answers kind response items = all_judged answers kind response [] i
 abbrev pub response_judged : Answers → Kind → ResponseParts → List Verdict
 response_judged answers kind response = judged_first answers kind response response.items
 
--- the verdicts are those over the live rows and the versions of which the answers tell
+-- the verdicts are those over the live rows and the versions of which the answers speak
 abbrev pub AreVerdicts : Answers → ResponseParts → List Verdict → Type 0
 AreVerdicts answers response verdicts =
     (kind : Kind) (lives : List Live) (versions : List KeptVersion) → response.kind ≡ Some kind → Tells answers kind lives versions

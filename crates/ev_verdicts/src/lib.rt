@@ -8,17 +8,17 @@
 //!   would build tables at each response: an update of one cluster's endpoints would then cost a walk over all
 //!   clusters. The managers keep such tables anyhow. Its contract speaks of every list of live generations and of
 //!   versions whose answers these are (`Tells`).
-//! - Names that stand twice and removed names are put into sets once a response, and what the response itself makes
+//! - Names that occur twice and removed names are put into sets once a response, and what the response itself makes
 //!   is kept by name and by address, so that each resource costs look-ups.
-//! - A generation's number decides no verdict, since a name that stands twice is refused; so the verdicts number
+//! - A generation's number decides no verdict, since a name that occurs twice is refused; so the verdicts number
 //!   nothing, and no answer comes of numbers that end.
 //! - `Tells` says that there are no generations of what is asked for by name: endpoints and routes have values, not
 //!   generations.
 //! - Live generations are borrowed rows, `LiveRow`, which clauses see as `Live`: no name and no content is copied.
 //! - The loop over the resources gets what the response mentions by reference: a loop that owned those three sets
-//!   would drop them at each way out of it, and be dear to prove.
+//!   would drop them at each way out of it, and be expensive to prove.
 //! - `Listed` answers by a search of lists. It is for tests and for callers with few generations.
-//! - What a response mentions, texts as keys and live rows stand in ev_mentions, below this crate: the managers and
+//! - What a response mentions, texts as keys and live rows are in ev_mentions, below this crate: the managers and
 //!   the subscription need these and nothing else of it, so they don't wait for the verdicts' proofs.
 //! - Whether a heartbeat is heard is asked of the live generations after the response's removals, as the watched
 //!   names of endpoints and routes are. Of clusters and listeners every one is heard, so a stale heartbeat of them is

@@ -76,7 +76,7 @@ fn holders_of<'a>(
     Ok(holders)
 }
 
-// Puts a live generation to the others, where it listens at the address.
+// Adds a live generation to the others, where it listens at the address.
 fn push_holder<'a>(
     live: &LiveRow<'a>,
     address: &Host,

@@ -56,7 +56,7 @@ fn is_heard<K: Known>(kind: Kind, known: &K, name: &str) -> bool
     }
 }
 
-// Rule 4: the name stands twice in the response.
+// Rule 4: the name occurs twice in the response.
 fn twice_rule(mentions: &Mentions<'_>, item: &Item) -> Option<u8>
     ensures { result ≡ twice_rule mentions.now item.now }
 {

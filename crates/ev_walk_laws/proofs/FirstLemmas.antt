@@ -50,7 +50,7 @@ pub first_found : (format : Format) (script : ScriptParts) (rows : List Row) (pl
 first_found format script rows place found below none is =
     first_given (finding_at format script rows) 0 (length rows) place found (end_finding format script rows) (omega arith) (omega arith) none is
 
--- where nothing is found of the rows, it is what is found behind the last
+-- where nothing is found of the rows, it is what is found after the last
 pub none_found : (format : Format) (script : ScriptParts) (rows : List Row) → NothingFound format script rows (length rows)
     → finding_of format script rows ≡ end_finding format script rows
 none_found format script rows none =

@@ -1,4 +1,4 @@
--- A row that tells of what comes next: its entry, and what is left behind it.
+-- A row that records what comes next: its entry, and what is left after it.
 use Rattle.std.proofs.Common.{◌≡◌, inl, ℕ, ◌+◌, Bool, true, false, not, if◌then◌else◌, List, [], ◌∷◌, ◌++◌, map, filter, take, Option, Some, None, refl, ap, sym, ◌∙◌, subst, append-nil}
 use Rattle.std.specs.Prelude.{option_map, option_and_then, slice_get, unwrap_or}
 use Rattle.std.specs.List.{last_or, list_any, list_all, cons_option}
@@ -36,7 +36,7 @@ next_are Two script journal actor = refl
 abbrev next_so : {row : Row} {rests : Bool} {os : List Operation} {o : Operation} → ComesNext row rests os o → IsNext rests os o
 next_so next = record { skipped = next.skipped; behind = next.behind; whole = next.whole; passes = next.settles }
 
--- where nothing comes next for the row it is stray, and else it isn't
+-- where nothing comes next for the row it is stray, and otherwise it isn't
 pub stray_found : (format : Format) (script : ScriptParts) (journal : List Entry) (number : ℕ) (row : Row)
     → list_any (tells_of row) (next_by (may_leave_out format script journal row.actor) (operations_left script journal row.actor)) ≡ false
     → row_finding format script journal number row ≡ Some (NotTheScript number)
@@ -176,7 +176,7 @@ module _ (format : Format) (script : ScriptParts) (kept : IsScript script) (jour
       (isnt_stray format script journal row o next)
       ∙ ap (λ (e : Option Entry). if unwrap_or (option_map (is_wrong format script journal) e) false then Some (IllegalAt number) else None) next_entry
 
-  -- what is left of its actor's operations behind its entry
+  -- what is left of its actor's operations after its entry
   pub left_own : operations_left script (journal ++ entry_of o row.answer ∷ []) row.actor ≡ next.behind
   left_own =
       ap (λ done. filter (λ p. list_all (λ d. is_earlier d p) done) (operations_of script row.actor))

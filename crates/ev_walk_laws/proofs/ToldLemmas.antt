@@ -1,4 +1,4 @@
--- A row tells of one operation of its actor alone.
+-- A row records one operation of its actor alone.
 use Rattle.std.proofs.Common.{◌≡◌, inl, inr, ◌==◌, Bool, true, false, ◌&&◌, ◌||◌, if◌then◌else◌, nat_lt, List, [], ◌∷◌, Some, refl, ap, sym, ◌∙◌}
 use Rattle.std.specs.Prelude.{find, option_map}
 use Rattle.std.specs.Cmp.{first_so, second_so}
@@ -12,7 +12,7 @@ use Rattle.ev_model.specs.Finding.{tells_of, entry_told}
 use Rattle.ev_model_laws.proofs.OperationLists.{IsIn, at_in}
 use Rattle.ev_model_laws.proofs.RisingOperations.{Earlier, IsRising, not_itself, operations_rise}
 
--- the line and the step that a row tells of
+-- the line and the step that a row records
 record IsPlaced (row : Row) (o : Operation) : Type 0 where
   at : row.at ≡ o.at
   step_same : row.step ≡ o.step
@@ -26,7 +26,7 @@ placed row o h =
       step_same = (numbers_decide row.step o.step).0 (second_so (row.at == o.at) (row.step == o.step) numbers);
     }
 
--- two that a row tells of are at one place
+-- two that a row records are at one place
 at_one_place : (row : Row) (a b : Operation) → tells_of row a ≡ true → tells_of row b ≡ true → is_earlier a b ≡ false
 at_one_place row a b one other =
     let here : IsPlaced row a = placed row a one in

@@ -33,7 +33,7 @@ leaves_out Two rests = rests
 abbrev pub may_leave_out : Format → ScriptParts → List Entry → Actor → Bool
 may_leave_out format script journal actor = leaves_out format (is_resting format script journal actor)
 
--- the first of the operations that the row tells of comes next of these: settles alone stand before it, and these may be left out
+-- the first of the operations that the row records comes next of these: settles alone come before it, and these may be left out
 pub record ComesNext (row : Row) (rests : Bool) (os : List Operation) (o : Operation) : Type 0 where
   pub tells : IsTrue (tells_of row o)
   pub skipped : List Operation
@@ -61,14 +61,14 @@ pub record FindsTheFirst : Type 0 where
 abbrev pub next_of : Bool → List Operation → List Operation
 next_of rests os = take ((if rests then prefix_len (λ (o : Operation). is_settle o.event) os else 0) + 1) os
 
--- a row that tells of none that may come next isn't the script's
+-- a row that records none that may come next isn't the script's
 abbrev pub FindsStrays : Type 0
 FindsStrays =
     (format : Format) (script : ScriptParts) (journal : List Entry) (number : ℕ) (row : Row)
     → list_any (tells_of row) (next_of (may_leave_out format script journal row.actor) (operations_left script journal row.actor)) ≡ false
     → row_finding format script journal number row ≡ Some (NotTheScript number)
 
--- a row that tells of this operation is its entry, of which nothing is found but by its answer and its batch
+-- a row that records this operation is its entry, of which nothing is found but by its answer and its batch
 pub record IsTaken (format : Format) (script : ScriptParts) (journal : List Entry) (row : Row) (o : Operation) : Type 0 where
   pub actor : o.actor ≡ row.actor
   pub allowed : MayMake script.workers o.actor o.event

@@ -6,12 +6,12 @@ pub fn finds_the_first()
     ensures { FindsTheFirst }
 {}
 
-/// A law of the definitions: a row that tells of no operation that may come next isn't the script's. It does nothing.
+/// A law of the definitions: a row that records no operation that may come next isn't the script's. It does nothing.
 pub fn finds_strays()
     ensures { FindsStrays }
 {}
 
-/// A law of the definitions: a row that tells of what comes next is its entry, of which nothing is found but by its answer and its
+/// A law of the definitions: a row that records what comes next is its entry, of which nothing is found but by its answer and its
 /// batch. It does nothing.
 pub fn takes_next()
     ensures { TakesNext }

@@ -161,7 +161,7 @@ module _ (s : State) (number : ℕ) (row : GenRow) (status : RowStatus) (x : IsI
   kinds_too : AllByRecursion (λ (r : GenRow). r.kind ≡ s.kind) table.rows
   kinds_too = subst (AllByRecursion (λ (r : GenRow). r.kind ≡ s.kind)) (sym rows) (kinds-with_statuses s.kind (status_with number status) s.table.rows x.kinds)
 
-  -- an index that the number leaves, where it stood in it
+  -- an index that the number leaves, where it was in it
   leaves : (test : GenRow → Bool) (o p : Option ℕ) → option_to_list o ≡ numbers_where test s.table.rows → ((r : GenRow) → test (row_with status r) ≡ false)
       → (test row ≡ true → p ≡ None) → (test row ≡ false → p ≡ o) → option_to_list p ≡ numbers_where test table.rows
   leaves test o p index fails gone stays = by (test row) refl ∙ sym (ap (numbers_where test) rows ∙ where-left test number status fails s.table.rows)

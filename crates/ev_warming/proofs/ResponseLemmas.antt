@@ -69,7 +69,7 @@ left-more kind response names name rows =
         by (kind_same row.kind kind) (is_among row.name names) (bytes_eq name row.name) (is_unlisted response row.name) row.status
         ∙ sym (λ i. cond (kind_same row.kind kind && (list_any-append (λ n. bytes_eq n row.name) names (name ∷ []) i && is_unlisted response row.name)) (removed_status row.status) row.status)
 
--- a removed name that stands at no resource comes to its end
+-- a removed name that no resource has comes to its end
 ended-left : (kind : Kind) (response : ResponseParts) (name : List ℕ) (rows : List GenRow) → is_unlisted response name ≡ true
     → with_statuses (ended_status kind name) rows ≡ with_statuses (status_left_by kind response (name ∷ [])) rows
 ended-left kind response name rows free = λ i. with_statuses (λ (row : GenRow). over row i) rows
@@ -87,7 +87,7 @@ ended-left kind response name rows free = λ i. with_statuses (λ (row : GenRow)
     over : (row : GenRow) → ended_status kind name row ≡ status_left_by kind response (name ∷ []) row
     over row = by row (kind_same row.kind kind) (bytes_eq row.name name) refl
 
--- one that stands at a resource stays
+-- one that a resource has stays
 listed-left : (kind : Kind) (response : ResponseParts) (name : List ℕ) (rows : List GenRow) → is_unlisted response name ≡ false
     → rows ≡ with_statuses (status_left_by kind response (name ∷ [])) rows
 listed-left kind response name rows listed = sym (statuses_same rows) ∙ (λ i. with_statuses (λ (row : GenRow). over row i) rows)
@@ -184,7 +184,7 @@ removals-draw Lds response world = refl
 removals-draw Eds response world = refl
 removals-draw Rds response world = refl
 
--- a listed name is removed where it stands at no resource
+-- a listed name is removed where no resource has it
 pub is_unlisted-listed : (response : ResponseParts) (name : List ℕ) (removed : Bool) → removed ≡ is_removed response name → is_among name response.removed ≡ true → is_unlisted response name ≡ removed
 is_unlisted-listed response name removed is listed = (λ i. sym listed i && is_unlisted response name) ∙ sym is
 

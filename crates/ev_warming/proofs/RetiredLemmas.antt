@@ -1,4 +1,4 @@
--- Which generations retired: what each step tells, and what steps tell together.
+-- Which generations retired: what each step reports, and what steps report together.
 use Rattle.std.proofs.Common.{◌≡◌, ◌∙◌, ℕ, Bool, true, false, cond, not, ◌&&◌, ◌||◌, nat_eq, List, [], ◌∷◌, ◌++◌, Option, None, Some, option_map, option_to_list, refl, sym, ap, true≢false}
 use Rattle.std.specs.List.{AllByRecursion, IsDistinct}
 use Rattle.std.specs.Option.{option_or}
@@ -23,7 +23,7 @@ use Rattle.ev_indexes.proofs.WhereLemmas.{among-where}
 use Rattle.ev_warming.proofs.DrainLemmas.{absent-where, fails-where}
 use Rattle.ev_indexes.proofs.RowLemmas.{all-at}
 
--- nothing changed, and nothing is told
+-- nothing changed, and nothing is reported
 pub tells-none : (rows : List GenRow) (numbers : List ℕ) → Tells rows rows numbers numbers
 tells-none rows numbers = record { told = λ n. by (is_among numbers n) (is_over (row_in n rows)); stays = λ n h. h }
   where

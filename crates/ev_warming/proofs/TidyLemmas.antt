@@ -1,4 +1,4 @@
--- What a call leaves to be forgotten: what it made of nobody's need is known of the generations that it tells.
+-- What a call leaves to be forgotten: what it made of nobody's need is known of the generations that it reports.
 use Rattle.std.proofs.Common.{◌≡◌, ◌∙◌, ◌+◌, ℕ, Bool, true, false, cond, ◌&&◌, ◌||◌, nat_eq, List, [], ◌∷◌, ◌++◌, Option, None, Some, option_map, option_to_list, refl, sym, ap, subst, true≢false, arith, append_assoc}
 use Rattle.std.specs.List.{list_any, AllByRecursion, IsDistinct}
 use Rattle.std.specs.Option.{option_or}
@@ -92,7 +92,7 @@ marks-agree old new marks q = record { told = (marks q).0; timed = (marks q).1; 
 unheard-same : (old new : Watch) → new.told ≡ old.told → new.timed ≡ old.timed → new.value ≡ old.value → IsUnheard old → IsUnheard new
 unheard-same old new told timed value u = record { told = told ∙ u.told; timed = timed ∙ u.timed; value = value ∙ u.value }
 
--- statuses change, and the numbers of those that retire are told
+-- statuses change, and the numbers of those that retire are reported
 module _ (s t : State) (f : GenRow → RowStatus) (stale more : List ℕ) (apart : IsDistinct nat_eq (numbers_of s.table.rows))
     (rows : t.table.rows ≡ with_statuses f s.table.rows) (marks : SameMarks s.watches t.watches) (results : t.results ≡ s.results)
     (told : (n : ℕ) (row : GenRow) → row_in n s.table.rows ≡ Some row → is_live row.status ≡ true → is_live (f row) ≡ false → is_among more n ≡ true)
@@ -196,7 +196,7 @@ module _ (s t : State) (new : GenRow) (stale : List ℕ)
           ((λ i. is_live r.status && has_host h (sym (assignment_in-agrees s.watches t.watches r.content (λ q needs. marks-agree s.watches t.watches marks q)) i))
           ∙ (λ i. keeps_result t.watches h (same i)) ∙ lost)
 
--- what stands of a name retires
+-- what is live of a name retires
 ended-told : (kind : Kind) (name : List ℕ) (rows : List GenRow) (standing : Standing) → option_to_list standing.active ≡ numbers_where (serves name) rows → option_to_list standing.warming ≡ numbers_where (warms name) rows
     → (n : ℕ) (row : GenRow) → row_in n rows ≡ Some row → is_live row.status ≡ true → is_live (ended_status kind name row) ≡ false
     → is_among (option_to_list standing.warming ++ option_to_list standing.active) n ≡ true

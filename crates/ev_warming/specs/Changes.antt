@@ -36,11 +36,11 @@ is_over (Some row) = not (is_live row.status)
 abbrev pub has_retired : ℕ → List GenRow → List GenRow → Bool
 has_retired number before after = is_over (row_in number after) && not (is_over (row_in number before))
 
--- the name stands at no resource of the response
+-- no resource of the response has the name
 abbrev pub is_unlisted : ResponseParts → List ℕ → Bool
 is_unlisted response name = not (nat_le 1 (length (items_named name response.items)))
 
--- a row's status once the response has removed these names: those that stand at a resource stay
+-- a row's status once the response has removed these names: those that a resource has stay
 abbrev pub status_left_by : Kind → ResponseParts → List (List ℕ) → GenRow → RowStatus
 status_left_by kind response names row =
     if kind_same row.kind kind && (is_among row.name names && is_unlisted response row.name) then removed_status row.status else row.status
@@ -50,7 +50,7 @@ pub record Tells (before after : List GenRow) (numbers more : List ℕ) : Type 0
   pub told : (number : ℕ) → among more number ≡ (among numbers number || has_retired number before after)
   pub stays : (number : ℕ) → is_over (row_in number before) ≡ true → is_over (row_in number after) ≡ true
 
--- what was told to have retired grows by what retired in between
+-- what was reported to have retired grows by what retired in between
 abbrev pub TellsRetired : State → State → List ℕ → List ℕ → Type 0
 TellsRetired old new numbers more = Tells old.table.rows new.table.rows numbers more
 

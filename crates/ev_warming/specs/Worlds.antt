@@ -74,12 +74,12 @@ without_generation number world = record world { rows = without_row number world
 abbrev pub with_told : State → Arrival → List ℕ → World → World
 with_told s arrival name world = told_where (list_any (depends_on name) s.table.rows) (needs_of s.kind) arrival name world
 
--- the world once a removed name is told of as absent, where it stands at no resource and a live row of the state depends on it
+-- the world once a removed name is reported as absent, where no resource has it and a live row of the state depends on it
 abbrev pub with_name_absent : State → ResponseParts → List ℕ → World → World
 with_name_absent s response name world =
     told_where (is_unlisted response name && list_any (depends_on name) s.table.rows) (needs_of s.kind) Absent name world
 
--- the world once each watched name that a response removes is told of as absent
+-- the world once each watched name that a response removes is reported as absent
 abbrev pub with_names_absent : Kind → ResponseParts → World → World
 with_names_absent kind response world =
     record world { arrivals = world.arrivals ++ map (arrived world.made kind Absent) (absent_names kind response world) }

@@ -48,7 +48,7 @@ impl Manager {
         Ok(())
     }
 
-    // Watched names that a response removes are told of, but those that stand at a resource.
+    // Watched names that a response removes are reported, except those that a resource has.
     fn tell_absences<L: Ledger>(
         &mut self,
         alloc: Global,
@@ -73,7 +73,7 @@ impl Manager {
         Ok(())
     }
 
-    // A name that is removed is told of, where it is watched and stands at no resource.
+    // A name that is removed is reported, where it is watched and no resource has it.
     fn tell_absence<L: Ledger>(
         &mut self,
         alloc: Global,

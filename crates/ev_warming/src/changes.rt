@@ -181,7 +181,7 @@ fn promote_one<L: Ledger>(state: &mut State, number: Gen, steps: &mut Steps<L>) 
 
 /// Each generation that is due serves, and the one that served its name before it drains; none is due then. Answers the
 /// numbers of those that came to serve, and of those that began to drain. Each of the first costs at most three look-ups.
-/// Without memory nothing is promised of the state.
+/// Out of memory, nothing is promised of the state.
 pub(crate) fn promote<L: Ledger>(
     state: &mut State,
     alloc: Global,
@@ -211,7 +211,7 @@ pub(crate) fn promote<L: Ledger>(
 }
 
 /// A new generation of a name warms, with content of the state's kind, and one that warmed under it before is dropped. It
-/// costs at most two look-ups. Without memory nothing is promised of the state.
+/// costs at most two look-ups. Out of memory, nothing is promised of the state.
 pub(crate) fn add<L: Ledger>(
     state: &mut State,
     alloc: Global,
@@ -328,7 +328,7 @@ fn append<L: Ledger>(
     Ok(())
 }
 
-// Puts a number to the others, where there is one.
+// Adds a number to the others, where there is one.
 pub(crate) fn put_one(numbers: &mut Seq<Gen>, number: &Option<Gen>) -> Result<(), AllocError>
     ensures { OnOk result (numbers.new ≡ numbers.old ++ option_to_list number.now) }
 {
@@ -338,7 +338,7 @@ pub(crate) fn put_one(numbers: &mut Seq<Gen>, number: &Option<Gen>) -> Result<()
     Ok(())
 }
 
-// What stands of a name once the one that warms, or the one that serves, is gone.
+// What is live of a name once the one that warms, or the one that serves, is gone.
 fn left(standing: Standing, warms: bool) -> Standing
     ensures { result ≡ (if warms then record standing { warming = None } else record standing { active = None }) }
 {

@@ -24,7 +24,7 @@ use std::sync::ledger::Ledger;
 
 /// Forgets what nobody needs any more: what came for names that no live generation depends on, the results of generations
 /// that retired, and those of hosts that left their cluster's assignment. It looks at the generations of these numbers
-/// alone, each once: those that retired or whose assignment may have changed since the last time. Without memory nothing is
+/// alone, each once: those that retired or whose assignment may have changed since the last time. Out of memory, nothing is
 /// promised of the state.
 pub(crate) fn forget<L: Ledger>(
     state: &mut State,

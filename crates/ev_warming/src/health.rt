@@ -19,7 +19,7 @@ impl Manager {
 
     /// A health result of a host of a cluster is kept for each live generation of the cluster whose hosts are health checked and
     /// have the host now. Answers whether there is one; where there is none, all stays as it was. It costs at most four look-ups.
-    /// Without memory nothing is promised.
+    /// Out of memory, nothing is promised.
     pub fn note<L: Ledger>(
         &mut self,
         alloc: Global,
@@ -46,7 +46,7 @@ impl Manager {
 
 /// A health result of a host of a cluster is kept for each live generation of the cluster whose hosts are health checked and
 /// have the host now. Answers whether there is one; where there is none, all stays as it was. It costs at most four look-ups.
-/// Without memory nothing is promised of the state.
+/// Out of memory, nothing is promised of the state.
 pub(crate) fn note<L: Ledger>(
     state: &mut State,
     alloc: Global,

@@ -4,7 +4,7 @@
 //! follow each of them. The kind is a value, so that clusters and listeners share all of it.
 //!
 //! Whoever holds a manager reads its `State` (ev_indexes), whose fields are public so that a contract above can say what stays.
-//! A call is a row of steps of which each may be refused memory, and reserves none beforehand: after want of memory its holder
+//! A call is a series of steps, each of which may be refused memory, and reserves none beforehand: after running out of memory its holder
 //! makes the manager anew, out of the journal.
 #![tactic(auto)]
 

@@ -21,7 +21,7 @@ use std::mem;
 use std::sync::ledger::Ledger;
 
 /// The core of a manager: the generations of one kind with their indexes, and the numbers of those that the next forgetting
-/// looks at, since they retired or their assignment may have changed. A call says what stands after it; without memory
+/// looks at, since they retired or their assignment may have changed. A call says what holds after it; out of memory,
 /// nothing is promised of the manager, and its holder makes it anew, out of the journal.
 #[derive(Drop)]
 pub struct Manager {
@@ -84,7 +84,7 @@ impl Manager {
     }
 
     /// What a name stands for has come to its end, or is removed: the generation that warms under it is dropped, and the one that
-    /// serves it drains; these are the answer. It costs at most two look-ups. Without memory nothing is promised.
+    /// serves it drains; these are the answer. It costs at most two look-ups. Out of memory, nothing is promised.
     pub fn end<L: Ledger>(
         &mut self,
         name: &Name,
@@ -110,7 +110,7 @@ impl Manager {
     }
 
     /// Each generation that is due serves, and the one that served its name before it drains. Answers the numbers of both. Each of
-    /// the first costs at most three look-ups. Without memory nothing is promised.
+    /// the first costs at most three look-ups. Out of memory, nothing is promised.
     pub fn promote<L: Ledger>(
         &mut self,
         alloc: Global,
@@ -135,7 +135,7 @@ impl Manager {
     }
 
     /// After an event: forgets what nobody needs any more, of names, of generations that retired, and of hosts that left their
-    /// cluster's assignment. Without memory nothing is promised.
+    /// cluster's assignment. Out of memory, nothing is promised.
     pub fn forget<L: Ledger>(
         &mut self,
         alloc: Global,

@@ -1,5 +1,5 @@
 //! Responses of clusters or listeners. A removed name is a text of any length, and no row has one that is no name of 1 to 512
-//! bytes. Whether it stands at a resource is looked up in a table of what the response mentions, made where it removes names;
+//! bytes. Whether a resource has it is looked up in a table of what the response mentions, made where it removes names;
 //! the verdicts were made by another, above both managers: with that one as an argument these calls would speak of a table
 //! in place of a response.
 
@@ -25,7 +25,7 @@ impl Manager {
     /// A response of the manager's own kind, with the verdicts on its resources: removed generations drain, or are dropped where
     /// they warmed; then each new resource makes a generation, in order, whose number is the next after `made`, and one that
     /// warmed under its name is dropped. Other resources change nothing here. Answers the numbers of those that began to drain
-    /// or were dropped. Look-ups are counted, and not bounded. Without memory nothing is promised.
+    /// or were dropped. Look-ups are counted, and not bounded. Out of memory, nothing is promised.
     pub fn apply<L: Ledger>(
         &mut self,
         alloc: Global,
@@ -43,7 +43,7 @@ impl Manager {
         ensures kind { OnOk result (self.new.state.kind ≡ self.old.state.kind) }
         ensures grows { OnOk result (made ≤ self.new.state.table.made) }
         ensures retired { IfOk result (λ retired. HaveRetired retired self.old.state self.new.state) }
-        // Whatever world the manager stood for in which so many numbers were drawn, it stands for that world once the response's
+        // Whatever world the manager stood for in which this many numbers were drawn, it stands for that world once the response's
         // removals and resources are in, and as many were drawn.
         ensures stands { OnOk result (FollowsDrawing made self.old.state self.new.state
             (with_response self.old.state.kind verdicts.now response.now)) }
@@ -74,7 +74,7 @@ impl Manager {
         self.state.table.advance(made);
     }
 
-    // The removed names of a response come to their end, but those that stand at a resource.
+    // The removed names of a response come to their end, except those that a resource has.
     fn remove_names<L: Ledger>(
         &mut self,
         alloc: Global,
@@ -100,7 +100,7 @@ impl Manager {
         Ok(())
     }
 
-    // A removed name comes to its end, where it stands at no resource.
+    // A removed name comes to its end, where no resource has it.
     fn remove_name<L: Ledger>(
         &mut self,
         alloc: Global,
@@ -128,7 +128,7 @@ impl Manager {
         }
     }
 
-    // A name comes to its end, and what retired is told.
+    // A name comes to its end, and what retired is reported.
     fn end_name<L: Ledger>(
         &mut self,
         name: &Name,

@@ -186,7 +186,7 @@ enumeration_of-whole name table tree = ap (in_form (enum_in table)) (field_of-wh
 pub text_in-whole : (tree : Data) → text_in (whole tree) ≡ text_in tree
 text_in-whole tree = λ i. unwrap_or (as_str-whole tree i) []
 
--- ---- what is known of a field that is a part, and what stands in it
+-- ---- what is known of a field that is a part, and what is in it
 
 pub object-is_wrong : (name : List ℕ) (tree : Data) → is_wrong (object_of name (whole tree)) ≡ is_wrong (object_of name tree)
 object-is_wrong name tree = ap is_wrong (object_of-whole name tree) ∙ is_wrong-map whole (object_of name tree)

@@ -132,7 +132,7 @@ above_broken n m [] above broken = absurd broken
 above_broken n m (rule ∷ rules) above (inl here) = omega (arith, here.0, above.0)
 above_broken n m (rule ∷ rules) above (inr later) = above_broken n m rules above.1 later
 
--- V1 stands first, and is broken
+-- V1 comes first, and is broken
 abbrev IsFirstBroken : List (ℕ × Bool) → Type 0
 IsFirstBroken [] = ⊥
 IsFirstBroken (rule ∷ rules) = (rule.0 ≡ 1) × (rule.1 ≡ true)

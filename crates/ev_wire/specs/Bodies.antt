@@ -89,7 +89,7 @@ content_of profile Eds body = content_with Assignment (assignment_reading profil
 content_of profile Lds body = content_with Listener (listener_reading profile body)
 content_of profile Rds body = content_with Routes (table_reading profile body)
 
--- the content, where no rule is broken, and else the least of those that are: by the item itself, and by its content
+-- the content, where no rule is broken, and otherwise the least of those that are: by the item itself, and by its content
 abbrev pub body_with : Option ℕ → Result Content ℕ → Body
 body_with None (Ok content) = Good content
 body_with None (Err rule) = Bad rule

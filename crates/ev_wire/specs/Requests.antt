@@ -1,5 +1,5 @@
 -- Requests as trees and as text: the members of a DeltaDiscoveryRequest by the proto3 JSON mapping, of the xDS
--- transport protocol. That members stand in the order of bytes and empty ones are left out is this project's own.
+-- transport protocol. That members are in the order of bytes and empty ones are left out is this project's own.
 use Rattle.std.specs.Prelude.{◌≡◌, ℕ, List, [], ◌∷◌, map, Option, Some, None, String, codes}
 use Rattle.std.specs.declared.alloc.Global.{Global}
 use Rattle.serde_json.specs.Data.{Data, number, unsigned, string, array, object, Members, member, no_members, put}

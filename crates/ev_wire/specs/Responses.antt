@@ -112,7 +112,7 @@ response_of profile tree = given_if (is_response tree) (parts_of profile (respon
 
 -- ---- what a reader answers
 
--- A value, or that there is none. Want of memory says nothing.
+-- A value, or that there is none. Running out of memory says nothing.
 abbrev pub Reads : {A : Type 0} → Result A WireError → Option A → Type 0
 Reads (Ok value) reading = reading ≡ Some value
 Reads (Err NotResponse) reading = reading ≡ None

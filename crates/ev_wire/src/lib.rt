@@ -13,7 +13,7 @@
 //! - A resource without a body whose `ttl` has a wrong form or isn't positive is refused by V1, which is less than V6
 //!   and V25. A resource with a body is looked at for V1 before its `ttl` too.
 //! - `null` as `resource` is an absent body, as everywhere.
-//! - Two versions of one name in a request: the later one stands in the object. The requests of this program have
+//! - Two versions of one name in a request: the later one is in the object. The requests of this program have
 //!   each name once.
 #![tactic(auto)]
 

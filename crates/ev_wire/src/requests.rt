@@ -8,7 +8,7 @@ use ev_types::{Name, Request, Seq, Text};
 use serde_json::{Map, Value, json, put};
 use std::alloc::{AllocError, Global};
 
-/// The text of a request: its tree without spaces, as it stands on the wire and in a journal. Strings are
+/// The text of a request: its tree without spaces, as it is on the wire and in a journal. Strings are
 /// escaped as `serde_json` does it.
 #[tactic(auto, using(crate::proofs::RequestLemmas::request_whole))]
 pub fn write_request(alloc: Global, request: &Request) -> Result<Vec<u8>, AllocError>
@@ -17,7 +17,7 @@ pub fn write_request(alloc: Global, request: &Request) -> Result<Vec<u8>, AllocE
     request_value(alloc, request)?.to_vec(alloc)
 }
 
-/// A request as an object: a `DeltaDiscoveryRequest` by the proto3 JSON mapping. Members stand in the order of
+/// A request as an object: a `DeltaDiscoveryRequest` by the proto3 JSON mapping. Members are in the order of
 /// bytes, and empty ones are left out.
 pub fn request_value(alloc: Global, request: &Request) -> Result<Value, AllocError>
     ensures { IfOk result (λ v. view v ≡ request_tree request.now) }

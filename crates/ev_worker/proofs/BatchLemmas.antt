@@ -35,7 +35,7 @@ answered_more format worker picture world [] line all last = (last, tt)
 answered_more format worker picture world (first ∷ lines) line all last =
     (all.0, answered_more format worker picture (step format world (by_worker worker) first.event).0 lines line all.1 last)
 
--- one line more, after which these connections are open, is answered by the machine wherever the worker stands before it
+-- one line more, after which these connections are open, is answered by the machine wherever the worker is before it
 record GoesOn (worker : WorkerParts) (opened : List OpenMember) (line : BatchLine) : Type 0 where
   may : (workers : ℕ) → worker.number < workers → MayMake workers (by_worker worker.number) line.event
   answered : (format : Format) (world : World) → StandsFor worker world

@@ -4,7 +4,7 @@
 //!
 //! - The worker keeps on which listener and cluster each connection is open, though no answer of its own needs it: so
 //!   its connections are those of the world, and not their numbers alone.
-//! - They stand in a map by number with room for those that the rest of the batch may open, so `accept` takes no
+//! - They are in a map by number with room for those that the rest of the batch may open, so `accept` takes no
 //!   memory. A close takes the last entry to the place of the one that goes; so contracts compare connections number
 //!   by number (`SameOpen`), and not lists. As many of a number are compared as there are, so a world that a worker
 //!   stands for has each number of it once.

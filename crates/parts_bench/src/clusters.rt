@@ -1,5 +1,5 @@
-//! Warms clusters one by one: a response brings so many, each of which waits for the endpoints of a name of its own; then the endpoints
-//! of so many of them come, each time followed by a promotion and a forgetting.
+//! Warms clusters one by one: a response brings a number of them, each of which waits for the endpoints of a name of its own; then the
+//! endpoints of some of them come, each time followed by a promotion and a forgetting.
 
 ghost use Rattle.std.specs.Prelude.{◌≡◌, length, OnOk};
 ghost use Rattle.ev_managers.specs.Managers.{AreKept};
@@ -37,7 +37,7 @@ pub(crate) fn print_run<R: Print + AllocGlobal>(rt: &R, size: u16, arrivals: u16
     Ok(())
 }
 
-// How many of so many clusters come to serve as the endpoints of so many come, and what the manager says of all of them then.
+// How many of this many clusters come to serve as the endpoints of this many come, and what the manager says of all of them then.
 fn measured(alloc: Global, size: u16, arrivals: u16) -> Result<(u32, Counts)> {
     run::<Brand>(alloc, Blank::new(1), size, arrivals)
 }
@@ -72,7 +72,7 @@ fn go<L: Ledger>(
     Ok((served, survey))
 }
 
-// The endpoints of so many clusters come. Answers how many came to serve.
+// The endpoints of this many clusters come. Answers how many came to serve.
 fn warm_all<L: Ledger>(
     alloc: Global,
     managers: &mut Managers,
@@ -91,7 +91,7 @@ fn warm_all<L: Ledger>(
     Ok(served)
 }
 
-// A response brings so many clusters.
+// A response brings this many clusters.
 fn take_all<L: Ledger>(
     alloc: Global,
     managers: &mut Managers,

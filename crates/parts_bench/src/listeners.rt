@@ -1,6 +1,6 @@
-//! Takes listeners in, asks for those that hold an address, and warms them one by one: a response brings so many, each of which has an
-//! address of its own and waits for the routes of a name of its own; of so many of them the address is asked; and of so many the
-//! routes come, each time followed by a promotion and a forgetting.
+//! Takes listeners in, asks for those that hold an address, and warms them one by one: a response brings a number of them, each of
+//! which has an address of its own and waits for the routes of a name of its own; the addresses of some of them are asked for; and
+//! the routes of some come, each time followed by a promotion and a forgetting.
 
 ghost use Rattle.std.specs.Prelude.{◌≡◌, length, OnOk};
 ghost use Rattle.ev_managers.specs.Managers.{AreKept};
@@ -30,7 +30,7 @@ pub(crate) struct Plan {
     pub(crate) arrivals: u16,
 }
 
-/// What a run tells: at how many addresses a listener was found, how many came to serve, what is said of all of them, and whether
+/// What a run reports: at how many addresses a listener was found, how many came to serve, what is said of all of them, and whether
 /// the first one goes once its time to live has ended.
 #[derive(Clone, Copy)]
 struct Told {
@@ -63,7 +63,7 @@ pub(crate) fn print_run<R: Print + AllocGlobal>(rt: &R, plan: Plan) -> Result<()
     Ok(())
 }
 
-// What a run by this plan tells.
+// What a run by this plan reports.
 fn measured(alloc: Global, plan: Plan) -> Result<Told> {
     run::<Brand>(alloc, Blank::new(1), plan)
 }
@@ -104,7 +104,7 @@ fn go<L: Ledger>(
     })
 }
 
-// A response brings so many listeners.
+// A response brings this many listeners.
 fn take_all<L: Ledger>(
     alloc: Global,
     managers: &mut Managers,
@@ -125,7 +125,7 @@ fn take_all<L: Ledger>(
     Ok(())
 }
 
-// The addresses of so many listeners are asked. Answers at how many a listener is found.
+// The addresses of this many listeners are asked. Answers at how many a listener is found.
 fn ask_all(alloc: Global, managers: &Managers, asks: u16) -> Result<u32>
     requires { AreKept managers.now }
 {
@@ -144,7 +144,7 @@ fn ask_all(alloc: Global, managers: &Managers, asks: u16) -> Result<u32>
     Ok(held)
 }
 
-// The routes of so many listeners come. Answers how many came to serve.
+// The routes of this many listeners come. Answers how many came to serve.
 fn warm_all<L: Ledger>(
     alloc: Global,
     managers: &mut Managers,

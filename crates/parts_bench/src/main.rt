@@ -57,7 +57,7 @@ fn run_snapshots<R: Print + AllocGlobal>(rt: &R, numbers: &[u32]) -> Result<()> 
     snapshots::print_run(rt, plan)
 }
 
-// The numbers of a part: all, or by the word `all` those after so many.
+// The numbers of a part: all, or by the word `all` those after that many.
 fn rest_of<'a>(numbers: &'a [u32], part: &str, before: usize) -> &'a [u32] {
     if part == "all" {
         &numbers[before.min(numbers.len())..]

@@ -5,7 +5,7 @@ use anyhow::{Result, anyhow};
 use ev_types::{Name, Seq, Verdict};
 use std::alloc::{AllocError, Global};
 
-/// The verdicts on so many resources: all are new.
+/// The verdicts on this many resources: all are new.
 pub(crate) fn news(alloc: Global, size: u16) -> Result<Seq<Verdict>, AllocError>
     ensures { IfOk result (λ verdicts. length verdicts ≡ size) }
 {

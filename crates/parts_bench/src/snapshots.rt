@@ -1,5 +1,5 @@
-//! Asks snapshots and publishes after them: so many clusters and listeners are shown, each cluster with so many hosts; the last
-//! listener is asked so often, and so many times a picture is published in which one cluster has changed.
+//! Asks snapshots and publishes after them: a number of clusters and listeners are shown, each cluster with a number of hosts; the
+//! last listener is asked a number of times, and a number of times a picture is published in which one cluster has changed.
 
 mod pictures;
 
@@ -36,7 +36,7 @@ pub(crate) fn print_run<R: Print + AllocGlobal>(rt: &R, plan: Plan) -> Result<()
     Ok(())
 }
 
-// How many of so many asks go to a host.
+// How many of this many asks go to a host.
 fn served_of(snapshot: &Snapshot, ask: &Ask, asks: u32) -> u32 {
     let mut served = 0u32;
     for _ in 0..asks {
@@ -59,7 +59,7 @@ fn after(
     }
 }
 
-// The snapshot after so many publications, of which every other one undoes what the one before changed.
+// The snapshot after this many publications, of which every other one undoes what the one before changed.
 fn published(
     alloc: Global,
     snapshot: Arc<Snapshot>,

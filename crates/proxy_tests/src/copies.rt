@@ -63,7 +63,7 @@ fn ledger_is_copied(alloc: Global) -> Result<bool, Fail> {
     copied
 }
 
-// What a copy tells of a host that isn't healthy.
+// What a copy says of a host that isn't healthy.
 fn copied_result(alloc: Global, results: &mut Endpoints) -> Result<Option<bool>, Fail> {
     let address = Name::new(alloc, "10.0.0.1")?;
     let host = Host { address, port: 1 };

@@ -95,7 +95,7 @@ fn write_out(alloc: Global, table: &str) -> Result<String, AllocError> {
     )
 }
 
-// Asserts that a table has so many rows, and that the body of each reads as its text tells.
+// Asserts that a table has this many rows, and that the body of each reads as its text says.
 fn assert_told(
     rt: &impl Abort,
     alloc: Global,
@@ -126,7 +126,7 @@ fn walk(
     Ok(())
 }
 
-// Asserts that the body of a row reads as its text tells.
+// Asserts that the body of a row reads as its text says.
 fn assert_row(rt: &impl Abort, alloc: Global, reader: Reader, row: &Value) -> Result<(), Fail> {
     let row = row.as_array().ok_or("a row")?;
     let want = row.first().ok_or("a text")?.as_str().ok_or("a text")?;

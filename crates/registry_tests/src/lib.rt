@@ -1,4 +1,4 @@
-//! Tests of a registry with ample memory, of verdicts by listed generations, and of what copies tell. It has no code but tests.
+//! Tests of a registry with ample memory, of verdicts by listed generations, and of what copies say. It has no code but tests.
 #![tactic(auto)]
 
 #[cfg(test)]

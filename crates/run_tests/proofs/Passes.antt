@@ -1,4 +1,4 @@
--- Passes that are taken out of a list, and others that are put behind.
+-- Passes that are taken out of a list, and others that are put last.
 use Rattle.std.proofs.Common.{◌≡◌, ℕ, suc, List, [], ◌∷◌, ◌++◌, get_or, take, drop, Some, sym, subst, arith}
 use Rattle.std.specs.Prelude.{All, slice_get}
 use Rattle.std.specs.List.{remove}
@@ -30,7 +30,7 @@ module _ {V O C : Type 0} {g : Ghosts V O C} where
       subst (AreOf gate) (sym is) (each_of gate (remove xs i)
       (All-append (IsOf gate) (take i xs) (drop (suc i) xs) (All-take (IsOf gate) i xs (all_of gate xs each)) (All-drop (IsOf gate) (suc i) xs (all_of gate xs each))))
 
-  -- one is put behind
+  -- one is put last
   pub with_one : (gate : TableId) (xs ys : List (Pass V O C g)) (p : Pass V O C g) → ys ≡ xs ++ p ∷ [] → IsOf gate p → AreOf gate xs → AreOf gate ys
   with_one gate xs ys p is here each =
       subst (AreOf gate) (sym is) (each_of gate (xs ++ p ∷ [])

@@ -77,7 +77,7 @@ fn publish<R: Threads + Wait + Sync>(
     (main, other, told)
 }
 
-// What the passes of a new gate round the registry are told.
+// What the passes of a new gate around the registry are told.
 fn tell<R: Threads + Wait + Sync>(rt: &R, alloc: Global, registry: Registry) -> Result<Told, Fail> {
     let (gate, mut passes) = match Gate::new(
         alloc,

@@ -26,7 +26,7 @@ pub(crate) fn read_bytes<R: Files + AllocGlobal>(
 }
 
 // Adds what a line of parts says: how many lines, a number, a word and their text. By the word `closed` a line feed ends each
-// line, by `open` none does, and blanks after the text make each line so many bytes long; by `numbered` a line feed ends each
+// line, by `open` none does, and blanks after the text make each line this many bytes long; by `numbered` a line feed ends each
 // line, and each `#` of the text stands for the line's number, which counts from the given one.
 fn add_part(alloc: Global, bytes: &mut Vec<u8>, part: &str) -> io::Result<()> {
     let mut words = part.splitn(4, ' ');
@@ -40,7 +40,7 @@ fn add_part(alloc: Global, bytes: &mut Vec<u8>, part: &str) -> io::Result<()> {
     add_wide(bytes, count, number, word == "closed", text.as_bytes())
 }
 
-// Adds so many lines of a text, with the number of each in place of each `#`.
+// Adds this many lines of a text, with the number of each in place of each `#`.
 fn add_numbered(
     alloc: Global,
     bytes: &mut Vec<u8>,
@@ -57,7 +57,7 @@ fn add_numbered(
     Ok(())
 }
 
-// Adds so many lines of a text, each with blanks after it up to a width.
+// Adds this many lines of a text, each with blanks after it up to a width.
 fn add_wide(
     input: &mut Vec<u8>,
     count: u32,

@@ -1,8 +1,8 @@
 //! The worked rows: scripts with what the program has to write of them, as files. Each name in `rows` is a row: its exit
 //! status, with the line and the kind of the fault where the input is no script, and its arguments. Its input is in
 //! `NAME.in`, and the output that is wanted in `NAME.out`; long ones are made of the pieces in `NAME.in.parts` and
-//! `NAME.out.parts`. The program runs each over memory, compares, and prints a line a row and the sum. Then it reads inputs of
-//! scripts, and texts of rows and of journals, which stand as files too.
+//! `NAME.out.parts`. The program runs each over memory, compares, and prints a line for each row and the sum. Then it reads inputs of
+//! scripts, and texts of rows and of journals, which are files too.
 #![tactic(auto)]
 
 mod cuts;
@@ -52,7 +52,7 @@ fn main(rt: HostRuntime) -> io::Result<()> {
     try_journals(&rt)
 }
 
-// Runs each row, and prints a line a row, and the sum.
+// Runs each row, and prints a line for each row, and the sum.
 fn try_rows<R: Files + Print + AllocGlobal + Threads + Wait + Sync>(rt: &R) -> io::Result<()> {
     let list = fs::read_to_string(rt, "rows")?;
     let mut passed = 0u32;
@@ -72,7 +72,7 @@ fn try_rows<R: Files + Print + AllocGlobal + Threads + Wait + Sync>(rt: &R) -> i
 }
 
 // Whether the program ends a row with its status and writes its output, in whatever pieces its input is read, and whether
-// a read that fails is told, whichever it is, and so a write.
+// a read that fails is reported, whichever it is, and so a write.
 fn passes<R: Files + AllocGlobal + Threads + Wait + Sync>(rt: &R, row: &Row) -> io::Result<bool> {
     let alloc = rt.alloc();
     let name = row.name.as_str();
@@ -131,7 +131,7 @@ fn run<R: Threads + Wait + Sync>(
     Ok((status, sink.as_bytes() == wanted))
 }
 
-// Whether the program, which reads so many bytes at once, ends a row with its status and writes its output.
+// Whether the program, which reads this many bytes at once, ends a row with its status and writes its output.
 fn answers<R: Threads + Wait + Sync>(
     rt: &R,
     alloc: Global,
@@ -150,7 +150,7 @@ fn answers<R: Threads + Wait + Sync>(
     Ok(same && row.is_end(status))
 }
 
-// Whether the program, which reads one byte at once, tells that the read of this number fails, or, where the row is no
+// Whether the program, which reads one byte at once, reports that the read of this number fails, or, where the row is no
 // script, its fault, and writes nothing.
 fn tells_failure<R: Threads + Wait + Sync>(
     rt: &R,
@@ -188,7 +188,7 @@ fn reads_no_further<R: Threads + Wait + Sync>(
     Ok(same && row.is_end(status))
 }
 
-// Whether the program tells of each write of a row's output that it fails, with what was written before it in the sink.
+// Whether the program reports of each write of a row's output that it fails, with what was written before it in the sink.
 fn tells_lost_writes<R: Threads + Wait + Sync>(
     rt: &R,
     alloc: Global,

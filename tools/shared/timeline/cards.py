@@ -3,8 +3,9 @@ import collections
 import html
 
 from .. import rules
-from ..resources import WORD
 from ..shown import shown
+from ..teller import LOST
+from ..urls import WORD
 from ..words import counted
 from .view import number_of
 
@@ -113,7 +114,7 @@ def refused_words(key, group):
     kind, name, rule, tag = key
     lines = [str(refusal.at) for refusal in group]
     times = f'line {lines[0]}' if len(lines) == 1 else f'{len(lines)} times, lines {", ".join(lines[:MOST_LINES])}{" .." if len(lines) > MOST_LINES else ""}'
-    why = group[0].why() or rules.WORDS.get(int(rule[1:]), '')
+    why = group[0].why() or rules.words(int(rule[1:]), group[0].profile)
     return f'{sign(tag)} {WORD[kind]} <b>{text(name, 40)}</b> by <b>{rule}</b> ({TAG_WORDS[tag]}), {times}: {text(why, 90)}'
 
 
@@ -208,7 +209,10 @@ def holding_words(holding, end):
 def connections(view):
     found, lost = view.connections(), view.lost()
     bad = [connection for connection in found if connection.not_served()]
-    summary = f'Served: {len(found) - len(bad)}; not served: {len(bad)}; found no listener: {len(lost)}.'
+    undecided = [connection for connection in found if connection.result == 'undecided']
+    chainless = sum(words == LOST['noChain'] for *_, words in lost)
+    summary = (f'Served: {len(found) - len(bad) - len(undecided)}; not served: {len(bad)}; found no listener: {len(lost) - chainless}'
+               + f'; no filter chain: {chainless}' * bool(chainless) + f'; undecided: {len(undecided)}' * bool(undecided) + '.')
     items = lost_items(view, lost)
     if len(found) <= 12:
         items += [connection_words(view, connection) for connection in sorted(found, key=lambda c: (not c.not_served(), c.x))]
@@ -220,9 +224,13 @@ def connections(view):
 def lost_items(view, lost):
     if not lost:
         return []
-    x, worker, members, held, last = lost[0]
-    return [f'✕ <b>no listener</b>: {len(lost)}, first {counted_connection(worker, members["conn"], x)} to {text(members["address"], 40)}:{members["port"]}: '
-            f'w{worker} holds picture {held}; {last} is published']
+    return [lost_words(words, found) for words, found in by(lost, lambda one: one[-1])]
+
+
+def lost_words(words, lost):
+    x, worker, members, held, last, _ = lost[0]
+    return (f'✕ <b>{words}</b>: {len(lost)}, first {counted_connection(worker, members["conn"], x)} to {text(members["address"], 40)}:{members["port"]}: '
+            f'w{worker} holds picture {held}; {last} is published')
 
 
 def counted_connection(worker, conn, x):
@@ -232,7 +240,7 @@ def counted_connection(worker, conn, x):
 def end_words(view, connection):
     life = view.history.lives.get(connection.cluster)
     name = f'{text(life.name, 40)} g{life.number} ' if life else ''
-    return f'{name}{text(connection.target)}'
+    return f'{name}{text(connection.target)}' + (f', since {text(connection.why, 300)}' if connection.why else '')
 
 
 def connection_words(view, connection):

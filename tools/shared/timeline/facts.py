@@ -1,5 +1,6 @@
 """The facts of a history as one object: what tools/timeline --json prints. Places are lines of the script, a quarter more for each step after
 one; docs/TIMELINE.md lists the members. Not proved."""
+from ..teller import LOST
 
 
 def facts(view):
@@ -25,8 +26,7 @@ def told(view):
             'settles': {f'w{worker}': [{'at': x, 'version': version} for x, version in settles] for worker, settles in history.settles.items()},
             'streams': [{'from': start, 'to': stop} for start, stop in history.streams],
             'connections': [connection(found) for found in view.connections()],
-            'noListener': [{'at': x, 'worker': worker, 'connection': members['conn'], 'address': members['address'], 'port': members['port'], 'picture': held}
-                           for x, worker, members, held, _ in view.lost()],
+            **{name: lost for name in LOST for lost in [lost_ones(view, name)] if lost or name == 'noListener'},
             'envoy': [envoy_wait(wait) for wait in history.waits if view.at(wait.at) and view.names(wait.name)]}
 
 
@@ -39,8 +39,14 @@ def generation(history, life):
 
 def connection(found):
     members = {'worker': found.worker, 'connection': found.conn, 'from': found.x, 'to': found.closed, 'counted': found.counted, 'result': found.result,
-               'listener': found.listener, 'cluster': found.cluster, 'target': found.target}
+               'listener': found.listener, 'cluster': found.cluster, 'target': found.target, 'chain': found.chain or None, 'why': found.why or None}
     return {name: value for name, value in members.items() if value is not None}
+
+
+def lost_ones(view, name):
+    """The connections that found no listener, or no filter chain."""
+    return [{'at': x, 'worker': worker, 'connection': members['conn'], 'address': members['address'], 'port': members['port'], 'picture': held}
+            for x, worker, members, held, _, words in view.lost() if words == LOST[name]]
 
 
 def envoy_wait(wait):

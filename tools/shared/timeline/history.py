@@ -6,11 +6,11 @@ import bisect
 import collections
 
 from .. import rules
-from ..machine import Machine
-from ..resources import WORD, WORDS
+from ..pictures import follower
 from ..shown import named, quoted
-from ..teller import ENDS, Teller, refusal_words
-from ..words import clusters_of, targets
+from ..teller import ENDS, LOST, OPEN_ENDS, Teller, choice_of, refusal_words
+from ..urls import WORD, WORDS
+from ..words import listener_targets
 
 SIGNALS = ('health', 'drainTimeout', 'fetchTimeout', 'ttlExpired')
 
@@ -48,8 +48,9 @@ class Life:
 
 
 class Connection:
-    def __init__(self, worker, conn, x, answer, target):
+    def __init__(self, worker, conn, x, answer, target, choice):
         self.worker, self.conn, self.x, self.result = worker, conn, x, answer['result']
+        self.chain, self.why = choice.chain, choice.why
         self.listener, self.cluster, self.target = answer['listener'], answer.get('cluster'), target
         self.closed, self.counted, self.forced = None, None, False
 
@@ -61,8 +62,9 @@ class Connection:
 
 
 class Refusal:
-    def __init__(self, x, at, kind, name, rule, tag, complaints):
-        self.x, self.at, self.kind, self.name, self.rule, self.tag, self.complaints = x, at, kind, name, rule, tag, complaints
+    def __init__(self, x, at, kind, item, rule, tag, complaints):
+        self.x, self.at, self.kind, self.name, self.rule, self.tag, self.complaints = x, at, kind, item.name, rule, tag, complaints
+        self.profile = item.profile
 
     def why(self):
         """The first members that break the rule, each by the end of its path."""
@@ -89,7 +91,7 @@ class History:
 
     def __init__(self, pair):
         self.pair, self.reading = pair, pair.reading
-        self.machine = Machine(pair.reading.workers, pair.format)
+        self.machine = follower(pair.reading, pair.format)
         self.bands, self.lives, self.refusals, self.connections = {}, {}, [], []
         self.pictures, self.settles = [], {worker: [(1, 0)] for worker in range(pair.reading.workers)}
         self.streams, self.responses, self.lost, self.late = [], [], [], []
@@ -183,8 +185,7 @@ class History:
 
     def targets_of(self, row):
         """The serving clusters that a listener leads to."""
-        serves = (row.content.get('serves') or {}) if row.kind == 'lds' else {}
-        names = clusters_of(serves['target']) if 'target' in serves else targets(serves.get('routes') or row.assigned) if serves else ()
+        names = listener_targets(row.content, row.tables) if row.kind == 'lds' and row.content else ()
         found = (self.machine.named.get(('cds', name), {}).get('active') for name in names[:100])
         return {target.number for target in found if target}
 
@@ -205,7 +206,7 @@ class History:
 
     def refuse(self, x, at, line, index, verdict):
         kind, item = line.response.kind, line.response.items[index]
-        refusal = Refusal(x, at, kind, item.name, verdict, *refusal_words(line, index, verdict))
+        refusal = Refusal(x, at, kind, item, verdict, *refusal_words(line, index, verdict))
         self.refusals.append(refusal)
         if kind in ('cds', 'lds'):
             self.band(kind, item.name).refusals.append(refusal)
@@ -258,13 +259,14 @@ class History:
             self.settles[worker].append((x, row.answer['version']))
 
     def accept(self, x, row, members, worker):
-        if row.answer == 'noListener':
-            self.lost.append((x, worker, members, self.machine.held[worker], self.machine.published_before(row.at)))
+        if row.answer in ('noListener', 'noChain'):
+            self.lost.append((x, worker, members, self.machine.held[worker], self.machine.published_before(row.at), LOST[row.answer]))
         if not isinstance(row.answer, dict):
             return
-        answer = row.answer
-        target = f'{named(answer["address"])}:{answer["port"]}' if answer['result'] == 'served' else ENDS.get(answer['result'], 'answered here')
-        found = Connection(worker, members['conn'], x, answer, target)
+        answer, choice = row.answer, choice_of(self.machine, members, worker, row.answer)
+        target = (f'{named(answer["address"])}:{answer["port"]}' if answer['result'] == 'served'
+                  else OPEN_ENDS.get(answer['result']) or ENDS.get(answer['result'], 'answered here'))
+        found = Connection(worker, members['conn'], x, answer, target, choice)
         self.open[worker, members['conn']] = found
         self.connections.append(found)
         for number in {found.listener, found.cluster} - {None}:

@@ -1,7 +1,7 @@
 """The rows of the picture: what stands above the names, and a band for each name."""
 from .. import rules
-from ..resources import WORD
 from ..shown import named, shown
+from ..urls import WORD
 from ..words import counted
 from . import drawing
 from .cards import CLASSES, SIGNS, TAG_WORDS, holdings, line_words
@@ -84,7 +84,7 @@ def refusal_mark(view, refusal, y):
 def refusal_title(refusal):
     whose = {rules.ENVOY: 'Envoy refuses it too', rules.PROFILE: 'This profile alone refuses it',
              rules.UNKNOWN: 'Whether Envoy refuses it is not known'}[refusal.tag]
-    why = refusal.why() or rules.WORDS.get(int(refusal.rule[1:]), '')
+    why = refusal.why() or rules.words(int(refusal.rule[1:]), refusal.profile)
     return f'line {refusal.at}: {WORD[refusal.kind]} {shown(refusal.name, 60)} refused by {refusal.rule}: {shown(why, 300)}. {whose}'
 
 
@@ -102,9 +102,9 @@ def picture_row(view):
 def lost_row(view):
     lost = view.lost()
     marks = ''.join(mark('failed', view.percent(x), 8, f'line {number_of(x)}: w{worker}\'s connection {members["conn"]} to '
-                         f'{members["address"]}:{members["port"]}: no listener; w{worker} holds picture {held}; {last} is published')
-                    for x, worker, members, held, last in lost)
-    return Row('', 'no listener', [counted(len(lost), 'connection')], marks, 18)
+                         f'{members["address"]}:{members["port"]}: {words}; w{worker} holds picture {held}; {last} is published')
+                    for x, worker, members, held, last, words in lost)
+    return Row('', ', '.join(sorted({words for *_, words in lost})), [counted(len(lost), 'connection')], marks, 18)
 
 
 def worker_row(view, holding):
@@ -317,6 +317,7 @@ class BandDrawer:
 
     def connection_title(self, connection):
         words = f'line {number_of(connection.x)}: {self.connection_words(connection)}, listener g{connection.listener}'
+        words += f', {connection.chain}' * bool(connection.chain) + f', since {connection.why}' * bool(connection.why)
         if connection.closed is not None:
             words += f'; closes at line {number_of(connection.closed)}'
         if connection.forced:

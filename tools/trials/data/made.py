@@ -7,7 +7,7 @@ import random
 from shared import script
 from shared.json_text import compact
 from shared.machine import Machine
-from shared.resources import MANAGER, TCP_PROXY, URLS
+from shared.urls import MANAGER, TCP_PROXY, URLS
 
 
 def address_of(port):
@@ -113,7 +113,7 @@ class Made:
             rows = machine.named.get(('cds', members['cluster']), {}).values()
             return {'requests': []} if any(row.checked and host in row.usable for row in rows) else 'ignored'
         key = (members['type'], members['name'])
-        waits = key not in machine.told and key not in machine.timed and any(row.limited() for row in machine.dependents.get(key, {}).values())
+        waits = key not in machine.told and key not in machine.timed and any(row.has_limit(key) for row in machine.dependents.get(key, {}).values())
         return {'requests': []} if waits else 'ignored'
 
     def published(self):
@@ -125,9 +125,11 @@ class Made:
         return {'version': machine.last + 1}
 
     def target(self, row):
-        if 'target' in row.content['serves']:
-            return row.content['serves']['target']
-        return row.assigned[0][2][0][2] if row.assigned else None
+        serves = row.content['chains'][0]['serves']
+        if 'target' in serves:
+            return serves['target']
+        table = row.tables['rds', serves['rds']]
+        return table[0][2][0][2] if table else None
 
     def reply(self, line):
         response, ports, verdicts = line.response, {}, []

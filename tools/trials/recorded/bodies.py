@@ -1,6 +1,6 @@
 """Resources as a control plane builds them: (full name, message) for each."""
 from recording.messages import CLASSES
-from shared.resources import TYPE
+from shared.urls import TYPE
 
 CLUSTER = 'envoy.config.cluster.v3.Cluster'
 ASSIGNMENT = 'envoy.config.endpoint.v3.ClusterLoadAssignment'

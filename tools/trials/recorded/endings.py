@@ -15,8 +15,8 @@ from recording.messages import CLASSES
 from recording.protocols import DELTA, DISCOVERY, METHODS, RESPONSES, STATE_OF_THE_WORLD
 from recording.wires import OPTIONS
 from shared import script
-from shared.resources import TYPE, URLS
 from shared.shown import read_file
+from shared.urls import TYPE, URLS
 
 from trials import written
 

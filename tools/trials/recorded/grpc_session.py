@@ -5,7 +5,7 @@ import subprocess
 import time
 
 import grpc
-from shared.resources import URLS
+from shared.urls import URLS
 
 from . import bodies
 from .planes import CachePlane, Server

@@ -7,7 +7,7 @@ import grpc
 from recording.messages import CLASSES
 from recording.protocols import DELTA, DISCOVERY, METHODS, REQUESTS, STATE_OF_THE_WORLD
 from recording.wires import Tls, server_at
-from shared.resources import URLS
+from shared.urls import URLS
 
 from .bodies import any_of
 

@@ -15,8 +15,8 @@ from recording.program import commands_of
 from recording.protocols import DELTA, DISCOVERY, METHODS, RESPONSES, STATE_OF_THE_WORLD
 from recording.wires import OPTIONS
 from shared import script
-from shared.resources import URLS
 from shared.shown import read_file
+from shared.urls import URLS
 
 from trials import written
 

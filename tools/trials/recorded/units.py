@@ -13,8 +13,8 @@ from recording.messages import CLASSES
 from recording.protocols import DELTA, DISCOVERY, STATE_OF_THE_WORLD
 from recording.replies import Replies
 from shared import script
-from shared.resources import TYPE, URLS
 from shared.statuses import WrongInput
+from shared.urls import TYPE, URLS
 
 from . import bodies
 from .processes import lines_of

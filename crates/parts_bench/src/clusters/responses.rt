@@ -10,7 +10,7 @@ use ev_types::{
 };
 use std::alloc::Global;
 
-/// A response of so many clusters, each of which waits for the endpoints of a name of its own.
+/// A response of this many clusters, each of which waits for the endpoints of a name of its own.
 pub(crate) fn response(alloc: Global, size: u16) -> Result<Response>
     ensures kind { IfOk result (λ response. response.kind ≡ Some Cds) }
     ensures count { IfOk result (λ response. length response.items ≡ size) }

@@ -14,7 +14,7 @@ use std::alloc::Global;
 use std::mem::drop;
 use std::sync::ledger::Ledger;
 
-/// What the calls that go over all clusters tell, one after another: how many are live, how many a picture shows, how many are live
+/// What the calls that go over all clusters answer, one after another: how many are live, how many a picture shows, how many are live
 /// in a copy; and whether the first cluster goes once its time to live has ended.
 #[derive(Clone, Copy, Debug)]
 pub(crate) struct Counts {

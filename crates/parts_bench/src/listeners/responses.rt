@@ -10,7 +10,7 @@ use ev_types::{
 };
 use std::alloc::Global;
 
-/// A response of so many listeners, each of which has an address of its own and waits for the routes of a name of its own.
+/// A response of this many listeners, each of which has an address of its own and waits for the routes of a name of its own.
 pub(crate) fn response(alloc: Global, size: u16) -> Result<Response>
     ensures kind { IfOk result (λ response. response.kind ≡ Some Lds) }
     ensures count { IfOk result (λ response. length response.items ≡ size) }

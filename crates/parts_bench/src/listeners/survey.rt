@@ -6,7 +6,7 @@ use ev_types::TryCopy;
 use std::alloc::Global;
 use std::mem::drop;
 
-/// What the calls that go over all listeners tell: how many are live, how many a picture shows, and how many are live in a copy.
+/// What the calls that go over all listeners answer: how many are live, how many a picture shows, and how many are live in a copy.
 #[derive(Clone, Copy)]
 pub(crate) struct Counts {
     pub(crate) live: usize,

@@ -5,7 +5,7 @@ use ev_snapshot::{Changes, ClusterChange, ListenerChange};
 use ev_types::{Ask, Assignment, Gen, Host, HostRow, Name, Seq, Target, Text};
 use std::alloc::Global;
 
-/// The changes after which so many clusters are shown, each with so many hosts, and as many listeners, each with a cluster of its
+/// The changes after which this many clusters are shown, each with this many hosts, and as many listeners, each with a cluster of its
 /// own.
 pub(crate) fn all_shown(alloc: Global, size: u16, hosts: u16) -> Result<Changes> {
     let mut clusters = Seq::new(alloc);

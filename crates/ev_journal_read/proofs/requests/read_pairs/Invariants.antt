@@ -3,7 +3,7 @@ use Rattle.serde_json.specs.View.{members_view}
 use Rattle.ev_journal_read.specs.Trees.{pairs_of}
 use Rattle.ev_journal_read.proofs.requests.read_pairs.Given as goal
 
--- what the rest reads as stands behind what was read
+-- what the rest reads as comes after what was read
 abbrev pub invariant-loop-key : goal.invariant-loop-key
 invariant-loop-key l =
     pairs_of (members_view l.members.entries)

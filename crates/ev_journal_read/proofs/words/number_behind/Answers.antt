@@ -1,4 +1,4 @@
--- A word without the letter has no number behind it.
+-- A word without the letter has no number after it.
 use Rattle.std.proofs.Common.{ap, sym, ◌∙◌, ◌++◌}
 use Rattle.std.proofs.lemmas.Str.{encode_ascii}
 use Rattle.ev_journal_read.proofs.WordLemmas.{nothing_behind}

@@ -19,7 +19,7 @@ overflow_cast-place c =
     let below : c.loop-place.place < length c.as_slice-lines.result.now = c.loop-place-test.true in
     omega arith
 
--- a line of the actor's own, put behind what is due
+-- a line of the actor's own, put after what is due
 own_put : (script : ScriptParts) (actor : Actor) (dues put : List Due) (waiting left left_then place : ℕ) (line : Line) (auto : Bool)
     → IsScript script → slice_get script.lines place ≡ Some line → AreDueSoFar script actor dues waiting place → actor_same line.actor actor ≡ true
     → auto ≡ script.auto → put ≡ dues ++ dues_at auto place line waiting → left ≡ waiting_after line waiting → left < 256 → left_then ≡ left

@@ -5,7 +5,7 @@ use Rattle.std.specs.Vec.Iter.{into_iter_items}
 use Rattle.ev_route_json.specs.Domains.{has_repeat}
 use Rattle.ev_route_json.proofs.domains.has_repeat.Given as goal
 
--- a text of the rest was seen, or stands in the rest twice
+-- a text of the rest was seen, or occurs in the rest twice
 abbrev pub invariant-loop-text : goal.invariant-loop-text
 invariant-loop-text l =
     (list_any (contains_text l.seen) (map string_bytes (into_iter_items l.text-iterator)) || has_repeat (map string_bytes (into_iter_items l.text-iterator)))

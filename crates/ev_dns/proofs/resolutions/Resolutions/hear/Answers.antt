@@ -20,7 +20,7 @@ use Rattle.ev_dns.proofs.ProgressLemmas.{WentOn, complete_after, passed_still, w
 use Rattle.ev_dns.proofs.StateLemmas.{extended, stream_now, touched_now}
 use Rattle.ev_dns.proofs.resolutions.Resolutions.hear.Goals as goal
 
--- what waits and what is complete behind the line
+-- what waits and what is complete after the line
 progress : (c : goal.Joined-name-5) (before : List Data) → IsBehind c.args.self.now before → guarded_so_far c.args.numbers.now ≡ guarded_at dns_rules (front_of before (view c.args.line.now))
     → AreWaiting c.take_given.new.answers (guarded_so_far c.args.numbers.now) c.advance_all.new.self × AreComplete c.take_given.new.answers (guarded_so_far c.args.numbers.now) c.enter_all.new.self
 progress c before behind kept =

@@ -1,0 +1,271 @@
+"""What a picture chooses for a connection, and why, by the rules of both profiles. Not proved.
+
+A script of this project's own profile has none of what makes a choice undecided or takes it elsewhere, so that the same rules serve both.
+"""
+from .chain_matches import CRITERIA_WORDS, bits_of, ip_address
+from .fields import lower
+from .routes import ELSEWHERE, OPEN
+from .shown import quoted
+from .words import type_words
+
+NO, OPEN_ANSWER, YES = 'no', 'open', 'yes'
+
+
+class Choice:
+    """`answer` is what a journal writes. `chain` is the label of the filter chain that took the connection, where the listener has several,
+    and `why` says what made the answer undecided, or took it elsewhere; else they are empty."""
+
+    def __init__(self, answer, chain='', why=''):
+        self.answer, self.chain, self.why = answer, chain, why
+
+
+class Ask:
+    """What a connection asks for: its address, host and path as bytes, headers by their names in small letters."""
+
+    def __init__(self, members):
+        self.members, self.address, self.port, self.pick = members, members['address'], members['port'], members['pick']
+        self.host, self.path = members['host'].encode(), members['path'].encode()
+        self.name, self.alpn = lower(members.get('serverName', '')), members.get('alpn', [])
+        self.transport = 'tls' if members.get('tls', False) else 'raw_buffer'
+
+    def headers(self):
+        given = self.members.get('headers', {})
+        found = {lower(name): given[name] for name in sorted(given, key=str.encode)}
+        return {**found, ':authority': self.members['host'], ':path': self.members['path']}
+
+
+def choose(picture, members):
+    """The choice of a picture for an accept: `picture` gives the `listener` and the `cluster` that it shows, with what it shows of them."""
+    ask = Ask(members)
+    found = listener_for(picture, ask)
+    if found is None:
+        return Choice('noListener')
+    listener, tables = found
+    chains, default = listener.content['chains'], listener.content['default']
+    chain, why = chain_for(chains, default, ask)
+    undecided = {'listener': listener.number, 'result': 'undecided'}
+    if why:
+        return Choice(undecided, why=why)
+    if chain is None:
+        return Choice('noChain')
+    label = str(chain['label']) if len(chains) + bool(default) > 1 else ''
+    answer, why = served(picture, chain['serves'], tables, ask)
+    return Choice({'listener': listener.number, **answer}, label, why)
+
+
+def served(picture, serves, tables, ask):
+    """(the answer without its listener, why) of what a filter chain serves."""
+    if 'other' in serves:
+        return elsewhere(f'its filter chain has {serves["other"]}')
+    if 'target' in serves:
+        return answer_of_target(picture, serves['target'], ask)
+    route, why = route_for(tables.get(serves['rds'], ()) if 'rds' in serves else serves['routes'], ask)
+    if why:
+        return {'result': 'undecided'}, why
+    if route is None:
+        return {'result': 'noRoute'}, ''
+    _, actions, action = route
+    if actions == ('direct_response',):
+        return {'result': 'local', 'status': action}, ''
+    if actions == (ELSEWHERE,):
+        return elsewhere(f'its route has {action}')
+    return answer_of_target(picture, action, ask) if actions == ('route',) else ({'result': 'redirect'}, '')
+
+
+def answer_of_target(picture, target, ask):
+    if isinstance(target, tuple) and target[:1] == (ELSEWHERE,):
+        return elsewhere(f'its route\'s cluster is told by {target[1]}')
+    name, weight = target_of(target, ask.pick)
+    found = picture.cluster(name)
+    if found is None:
+        return {'result': 'noCluster'}, ''
+    cluster, hosts = found
+    if 'elsewhere' in cluster.content:
+        why = f'cluster {quoted(name)} is of {type_words(cluster.content)}: Envoy or an extension finds its host'
+        return {'cluster': cluster.number, 'result': 'elsewhere'}, why
+    least = min((priority for _, _, priority, _ in hosts), default=None)
+    hosts = [(host, share) for host, share, priority, _ in hosts if priority == least]
+    if not hosts:
+        return {'result': 'noEndpoint'}, ''
+    address, port = by_weight(hosts, ask.pick // weight)
+    return {'address': address, 'cluster': cluster.number, 'port': port, 'result': 'served'}, ''
+
+
+def elsewhere(why):
+    return {'result': 'elsewhere'}, why
+
+
+# The listener, and its filter chain
+
+def listener_for(picture, ask):
+    found = picture.listener(ask.address, ask.port)
+    if found is not None:
+        return found
+    address = ip_address(ask.address)
+    if address is None:
+        return None
+    every = ('0.0.0.0', '::') if address.version == 4 else ('::',)
+    found = (picture.listener(text, ask.port) for text in every)
+    return next((one for one in found if one is not None and one[0].content['takes_all']), None)
+
+
+def chain_for(chains, default, ask):
+    """(the chain that takes the connection or None, why that isn't decided)."""
+    left = list(chains)
+    for criterion, narrowed in NARROWING:
+        left = narrowed(left, ask) or [chain for chain in left if not getattr(chain['match'], criterion)]
+    asking = next((chain for chain in left if chain['match'].sources), None)
+    if asking:
+        return None, f'{asking["label"]} asks for a source by {", ".join(asking["match"].sources)}, and no script tells one'
+    return (left[0] if left else default), ''
+
+
+def by_port(chains, ask):
+    return [chain for chain in chains if ask.port in chain['match'].ports]
+
+
+def by_range(chains, ask):
+    """The chains with the longest range that holds the address."""
+    address = ip_address(ask.address)
+    found = [(length, chain) for chain in chains for family, length, bits in chain['match'].ranges
+             if address is not None and address.version == family and bits_of(address, length) == bits]
+    longest = max((length for length, _ in found), default=None)
+    return [chain for chain in chains if any(one is chain and length == longest for length, one in found)]
+
+
+def by_name(chains, ask):
+    """The chains with the name itself, else with the longest *.x of it."""
+    if not ask.name:
+        return []
+    equal = [chain for chain in chains if ask.name in chain['match'].names]
+    if equal:
+        return equal
+    found = [(len(name.encode()), chain) for chain in chains for name in chain['match'].names
+             if name[:2] == '*.' and ask.name.endswith(name[1:]) and len(ask.name) > len(name) - 1]
+    longest = max((length for length, _ in found), default=None)
+    return [chain for chain in chains if any(one is chain and length == longest for length, one in found)]
+
+
+def by_transport(chains, ask):
+    return [chain for chain in chains if ask.transport in chain['match'].transports]
+
+
+def by_protocol(chains, ask):
+    for protocol in ask.alpn:
+        found = [chain for chain in chains if protocol in chain['match'].protocols]
+        if found:
+            return found
+    return []
+
+
+NARROWING = tuple(zip(CRITERIA_WORDS, (by_port, by_range, by_name, by_transport, by_protocol)))
+
+
+# The route
+
+def route_for(hosts, ask):
+    """(the first route of the host's virtual host that doesn't say no, or None, why it is open)."""
+    name, routes = virtual_host(hosts, ask.host.lower())
+    cut, headers = ask.path.partition(b'?')[0], None
+    for place, route in enumerate(routes or ()):
+        match = route[0]
+        if headers is None and (len(match) > 1 or match[0][0] == 'connect_matcher'):
+            headers = ask.headers()
+        answer, why = said_by(match, ask.path, cut, headers)
+        if answer == OPEN_ANSWER:
+            return None, f'route {place + 1} of virtual host {quoted(name)} has {why}, which nothing here decides'
+        if answer == YES:
+            return route, ''
+    return None, ''
+
+
+def said_by(match, path, cut, headers):
+    """(no, open or yes, what is open) of the tests of a match."""
+    found = [path_says(match[0], path, cut, headers)] + [condition_says(condition, headers) for condition in match[1:]]
+    if NO in found:
+        return NO, ''
+    place = found.index(OPEN_ANSWER) if OPEN_ANSWER in found else None
+    return (OPEN_ANSWER, open_words(match[place])) if place is not None else (YES, '')
+
+
+def open_words(test):
+    """What is open of a test, in words."""
+    return f'{test[2][1]} of header {quoted(test[1])}' if test[0] == 'header' else str(test[1])
+
+
+def path_says(test, path, cut, headers):
+    way = test[0]
+    if way == OPEN:
+        return OPEN_ANSWER
+    if way == 'connect_matcher':
+        return YES if headers.get(':method') == 'CONNECT' else NO
+    text = test[1].encode()
+    if len(test) > 2:
+        text, path, cut = text.lower(), path.lower(), cut.lower()
+    fits = path.startswith(text) if way == 'prefix' else cut == text or (way == 'path_separated_prefix' and cut.startswith(text + b'/'))
+    return YES if fits else NO
+
+
+def condition_says(condition, headers):
+    if condition[0] == OPEN:
+        return OPEN_ANSWER
+    if condition[0] == 'grpc':
+        kind = headers.get('content-type', '')
+        return YES if kind == 'application/grpc' or kind.startswith('application/grpc+') else NO
+    _, name, test, inverted, is_empty = condition
+    if name not in headers and not is_empty:
+        return YES if test[0] == 'present' and inverted else NO
+    if test[0] == OPEN:
+        return OPEN_ANSWER
+    return YES if value_fits(test, headers.get(name, '')) != inverted else NO
+
+
+def value_fits(test, value):
+    if test[0] == 'present':
+        return True
+    text = test[1]
+    if len(test) > 2:
+        text, value = lower(text), lower(value)
+    return {'is': value == text, 'begins': value.startswith(text), 'ends': value.endswith(text), 'contains': text in value}[test[0]]
+
+
+def virtual_host(hosts, host):
+    """(name, routes) of the virtual host that a host falls to: an equal domain, the longest *suffix, the longest prefix*, then *."""
+    best, found = (0, 0), (None, None)
+    for name, domains, routes in hosts:
+        for domain in domains:
+            fit = fit_of(domain.encode().lower(), host)
+            if fit and fit > best:
+                best, found = fit, (name, routes)
+    return found
+
+
+def fit_of(domain, host):
+    if domain == host:
+        return 4, 0
+    if domain == b'*':
+        return 1, 0
+    if domain[:1] == b'*':
+        return (3, len(domain)) if host.endswith(domain[1:]) and len(host) >= len(domain) else None
+    if domain[-1:] == b'*':
+        return (2, len(domain)) if host.startswith(domain[:-1]) and len(host) >= len(domain) else None
+    return None
+
+
+# The cluster and the host
+
+def target_of(target, pick):
+    """(name of the cluster that a pick falls on, sum of the weights)."""
+    if isinstance(target, str):
+        return target, 1
+    return by_weight(target, pick), sum(weight for _, weight in target)
+
+
+def by_weight(entries, pick):
+    """The first entry whose running sum of weights is above the pick, modulo their sum."""
+    rest = pick % sum(weight for _, weight in entries)
+    for entry, weight in entries:
+        if rest < weight:
+            return entry
+        rest -= weight
+    return None
