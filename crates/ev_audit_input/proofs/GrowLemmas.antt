@@ -1,6 +1,6 @@
 -- What is said of places before the last of some bytes stays where more bytes follow: so a fault of the bytes taken is one of the
 -- whole input.
-use Rattle.std.proofs.Common.{◌≡◌, ℕ, suc, ◌+◌, ◌-◌, ◌<◌, ◌≤◌, Bool, true, false, List, [], ◌++◌, length, take, drop, get_or, option_and_then, sym, ap, subst, ◌∙◌, ◌⊎◌, inl, inr, arith, append_assoc, length-append, add-one}
+use Rattle.std.proofs.Common.{◌≡◌, ℕ, suc, ◌+◌, ◌-◌, ◌<◌, ◌≤◌, Bool, true, false, List, [], ◌++◌, length, take, drop, get_or, Option, option_and_then, sym, ap, subst, ◌∙◌, ◌⊎◌, inl, inr, arith, append_assoc, length-append, add-one}
 use Rattle.std.proofs.Math.ListN.{get_or-append}
 use Rattle.std.proofs.lemmas.List.{take-append-le, take-append-drop}
 use Rattle.ev_io.specs.Lines.{lines_of, feeds_in, IsClosed}
@@ -8,7 +8,8 @@ use Rattle.ev_io.proofs.LineLemmas.{lines_of-append, feeds_in-closed, closed-app
 use Rattle.ev_script.specs.declared.fault_kinds.FaultKind.{FaultKind}
 use Rattle.ev_script.specs.declared.fault_kinds.FaultKind.TheVariants.{TooLong, TooMany, TooLarge, NotJson, NotHeader, NotLine, NoSuchWorker, NoByte, NotJournal}
 use Rattle.ev_script.specs.Members.{tree_of}
-use Rattle.ev_script.specs.Faults.{Input, index_at, tree_at, EndsLine, BeginsJournal, EndsScriptLine, Stands, plain_lines, workers_in}
+use Rattle.ev_script.specs.declared.forms.Settings.{Settings}
+use Rattle.ev_script.specs.Faults.{Input, index_at, tree_at, EndsLine, BeginsJournal, EndsScriptLine, Stands, plain_lines, settings_in, profile_by, profile_in, named_at}
 use Rattle.ev_script.proofs.LimitLemmas.{feeds_with}
 use Rattle.ev_script.proofs.PrefixLemmas.{stands_more}
 use Rattle.ev_audit_input.specs.Faults.{StartsJournal, IsNoText, HasEndBefore, IsMisplacedAt, StandsWithJournal}
@@ -50,7 +51,7 @@ module _ (xs ys : List ℕ) (near_end far_end audit : Bool) where
       ap (λ (i : ℕ). tree_of (get_or (lines_of (xs ++ ys)) i [])) (index_same place (omega arith))
       ∙ ap tree_of (text_same place (feeds_in (take place xs)) h feed (omega arith))
 
-  heads_same : (place : ℕ) → place < length xs → get_or xs place 0 ≡ 10 → workers_in plain_lines (lines_of (xs ++ ys)) ≡ workers_in plain_lines (lines_of xs)
+  heads_same : (place : ℕ) → place < length xs → get_or xs place 0 ≡ 10 → settings_in plain_lines (lines_of (xs ++ ys)) ≡ settings_in plain_lines (lines_of xs)
   heads_same place h feed = ap (λ (text : List ℕ). option_and_then plain_lines.heads (tree_of text)) (text_same place 0 h feed (omega arith))
 
   -- a line that ends there is closed
@@ -87,10 +88,11 @@ module _ (xs ys : List ℕ) (near_end far_end audit : Bool) where
   line_near place h s = record { ends = ends_near place h s.ends; before = λ start up_to b. s.before start up_to (begins_far start (omega arith) b) }
 
   named_same : (place : ℕ) → place < length xs → get_or xs place 0 ≡ 10
-      → option_and_then (plain_lines.lines (index_at far place + 1)) (tree_at far place) ≡ option_and_then (plain_lines.lines (index_at near place + 1)) (tree_at near place)
+      → named_at plain_lines far place ≡ named_at plain_lines near place
   named_same place h feed =
-      ap (λ (i : ℕ). option_and_then (plain_lines.lines (i + 1)) (tree_at far place)) (index_same place (omega arith))
-      ∙ ap (option_and_then (plain_lines.lines (feeds_in (take place xs) + 1))) (tree_same place h feed)
+      ap (λ (s : Option Settings). option_and_then (plain_lines.lines (profile_by s) (index_at far place + 1)) (tree_at far place)) (heads_same place h feed)
+      ∙ ap (λ (i : ℕ). option_and_then (plain_lines.lines (profile_in plain_lines (lines_of xs)) (i + 1)) (tree_at far place)) (index_same place (omega arith))
+      ∙ ap (option_and_then (plain_lines.lines (profile_in plain_lines (lines_of xs)) (feeds_in (take place xs) + 1))) (tree_same place h feed)
 
   -- a fault of the script that is there in the whole is there in the part
   pub stands_near : (place : ℕ) (kind : FaultKind) → place < length xs → Stands plain_lines far place kind → Stands plain_lines near place kind
@@ -114,7 +116,7 @@ module _ (xs ys : List ℕ) (near_end far_end audit : Bool) where
         subst (λ (i : ℕ). 0 < i) (index_same place (omega arith)) s.1,
         record {
           worker = s.2.worker;
-          workers = s.2.workers;
+          settings = s.2.settings;
           names = sym (named_same place h (feed_near place h ends)) ∙ s.2.names;
           heads = sym (heads_same place h (feed_near place h ends)) ∙ s.2.heads;
           above = s.2.above;
@@ -154,9 +156,9 @@ module _ (xs ys : List ℕ) (near_end far_end audit : Bool) where
         starts = starts_far m.start (omega arith) m.starts;
         behind = behind;
         ends = ends_far place h m.ends;
-        workers = m.workers;
+        settings = m.settings;
         heads = heads_same place h feed ∙ m.heads;
-        wrong = wrong_far m.workers m.start place behind h feed m.wrong;
+        wrong = wrong_far m.settings.workers m.start place behind h feed m.wrong;
       }
 
 -- the bytes taken, the source not having given its end

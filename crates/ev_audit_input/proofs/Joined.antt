@@ -11,7 +11,8 @@ use Rattle.ev_types.specs.declared.journals.Format.{Format}
 use Rattle.ev_types.specs.declared.journals.Row.{Row}
 use Rattle.ev_script.specs.declared.fault_kinds.FaultKind.{FaultKind}
 use Rattle.ev_script.specs.declared.fault_kinds.FaultKind.TheVariants.{TooLong, TooMany, TooLarge, NotJson, NotHeader, NotLine, NoSuchWorker, NoByte, NotJournal}
-use Rattle.ev_script.specs.Faults.{Input, index_at, EndsLine, Stands, fault_order, fault_number, plain_lines, workers_in}
+use Rattle.ev_script.specs.declared.forms.Settings.{Settings}
+use Rattle.ev_script.specs.Faults.{Input, index_at, EndsLine, Stands, fault_order, fault_number, plain_lines, settings_in}
 use Rattle.ev_script.specs.Script.{script_of}
 use Rattle.ev_script.specs.ReadInput.{input_of, IsUpToJournal}
 use Rattle.ev_script.proofs.PlaceLemmas.{ends_within, feeds_up_to, feeds_below}
@@ -23,7 +24,7 @@ use Rattle.ev_audit_input.specs.Faults.{StartsJournal, HasEndBefore, IsMisplaced
 use Rattle.ev_audit_input.specs.Parts.{IsParts}
 use Rattle.ev_audit_input.proofs.InPlace.{Wrong, count_open, none_wrong, has_end, no_end, wrong_first}
 use Rattle.ev_audit_input.proofs.ScriptFaults.{by_kind, least_limit, limit_stands, stands_so, not_before}
-use Rattle.ev_audit_input.proofs.UpTo.{heads_of}
+use Rattle.ev_audit_input.proofs.UpTo.{settings_in_script, heads_of}
 
 -- ---- an input in which a journal begins after a script
 
@@ -53,14 +54,14 @@ module _ (all : List ℕ) (state : LinesState) (script : ScriptParts) (text : Li
   first_is : (start : ℕ) → StartsJournal input start → index_at input start ≡ script.count
   first_is start s = ap (index_at input) (one_start start s) ∙ start_is
 
-  heads : workers_in plain_lines texts ≡ Some script.workers
+  heads : settings_in plain_lines texts ≡ Some (settings_in_script script)
   heads = heads_of texts script reads
 
   -- what it says that a line is out of its place
   misplaced_is : (place : ℕ) → IsMisplacedAt input place → Wrong script.workers texts script.count (index_at input place)
   misplaced_is place m =
       subst (λ (first : ℕ). Wrong script.workers texts first (index_at input place)) (first_is m.start m.starts)
-      (subst (λ (workers : ℕ). Wrong workers texts (index_at input m.start) (index_at input place)) (some_same m.workers script.workers (workers_in plain_lines texts) m.heads heads) m.wrong)
+      (subst (λ (s : Settings). Wrong s.workers texts (index_at input m.start) (index_at input place)) (some_same m.settings (settings_in_script script) (settings_in plain_lines texts) m.heads heads) m.wrong)
 
   misplaced_late : (place : ℕ) → IsMisplacedAt input place → up.place ≤ place
   misplaced_late place m =
@@ -74,7 +75,7 @@ module _ (all : List ℕ) (state : LinesState) (script : ScriptParts) (text : Li
     starts = starts;
     behind = behind;
     ends = ends;
-    workers = script.workers;
+    settings = settings_in_script script;
     heads = heads;
     wrong = subst (λ (first : ℕ). Wrong script.workers texts first (index_at input place)) (sym start_is) wrong;
   }

@@ -9,9 +9,10 @@ use Rattle.ev_types.specs.Scripts.{ScriptParts}
 use Rattle.ev_types.specs.declared.events.Line.{Line}
 use Rattle.ev_script.specs.declared.header.Header.{Header}
 use Rattle.ev_script.specs.Members.{tree_of}
-use Rattle.ev_script.specs.Header.{header_of}
-use Rattle.ev_script.specs.Faults.{Input, EndsLine, plain_lines, workers_in}
-use Rattle.ev_script.specs.Script.{lines_from, script_with, script_from, begins_journal, before_journal, script_texts, script_of}
+use Rattle.ev_script.specs.Header.{header_of, settings_of}
+use Rattle.ev_script.specs.declared.forms.Settings.{Settings}
+use Rattle.ev_script.specs.Faults.{Input, EndsLine, plain_lines, settings_in}
+use Rattle.ev_script.specs.Script.{lines_from, script_made, script_with, script_from, begins_journal, before_journal, script_texts, script_of}
 use Rattle.ev_script.specs.ReadInput.{input_of, IsUpToJournal}
 use Rattle.ev_script.proofs.PlaceLemmas.{ends_within}
 use Rattle.ev_journal_read.specs.Journals.{GoesOn}
@@ -43,22 +44,26 @@ same_texts (suc n) (x ∷ xs) (y ∷ ys) some h k same begins =
     let others : before_journal ys ≡ before_journal xs = same_before n xs ys (omega arith) (omega arith) (λ i most. same (suc i) (omega arith)) begins in
     λ i. first i ∷ others i
 
--- how many workers the header of a script names
-pub heads_of : (texts : List (List ℕ)) (script : ScriptParts) → script_from (script_texts true texts) ≡ Some script → workers_in plain_lines texts ≡ Some script.workers
+-- what a script sets
+abbrev pub settings_in_script : ScriptParts → Settings
+settings_in_script script = record { workers = script.workers; profile = script.profile }
+
+-- its header sets that
+pub heads_of : (texts : List (List ℕ)) (script : ScriptParts) → script_from (script_texts true texts) ≡ Some script → settings_in plain_lines texts ≡ Some (settings_in_script script)
 heads_of [] script e = cc
 heads_of (first ∷ rest) script e = by_tree (tree_of first) e
   where
     by_lines : (header : Header) (lines : Option (List Line))
-        → option_map (λ ls. record { workers = header.workers; auto = header.auto; node = header.node; lines = ls; count = length ls + 1 }) lines ≡ Some script
-        → Some header.workers ≡ Some script.workers
+        → option_map (script_made header) lines ≡ Some script
+        → Some (settings_of header) ≡ Some (settings_in_script script)
     by_lines header None e = cc
-    by_lines header (Some lines) e = ap (option_map (λ (s : ScriptParts). s.workers)) e
+    by_lines header (Some lines) e = ap (option_map settings_in_script) e
 
-    by_header : (found : Option Header) → option_and_then (script_with (before_journal rest)) found ≡ Some script → option_map (λ (h : Header). h.workers) found ≡ Some script.workers
+    by_header : (found : Option Header) → option_and_then (script_with (before_journal rest)) found ≡ Some script → option_map settings_of found ≡ Some (settings_in_script script)
     by_header None e = cc
-    by_header (Some header) e = by_lines header (lines_from 2 (before_journal rest)) e
+    by_header (Some header) e = by_lines header (lines_from header.profile 2 (before_journal rest)) e
 
-    by_tree : (tree : Option Data) → option_and_then (script_with (before_journal rest)) (option_and_then header_of tree) ≡ Some script → option_and_then plain_lines.heads tree ≡ Some script.workers
+    by_tree : (tree : Option Data) → option_and_then (script_with (before_journal rest)) (option_and_then header_of tree) ≡ Some script → option_and_then plain_lines.heads tree ≡ Some (settings_in_script script)
     by_tree None e = cc
     by_tree (Some tree) e = by_header (header_of tree) e
 

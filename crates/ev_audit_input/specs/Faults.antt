@@ -6,7 +6,8 @@ use Rattle.ev_io.specs.Lines.{lines_of}
 use Rattle.ev_types.specs.declared.journals.Format.{Format}
 use Rattle.ev_script.specs.declared.fault_kinds.FaultKind.{FaultKind}
 use Rattle.ev_script.specs.declared.fault_kinds.FaultKind.TheVariants.{TooLong, TooMany, TooLarge, NotJson, NotHeader, NotLine, NoSuchWorker, NoByte, NotJournal}
-use Rattle.ev_script.specs.Faults.{Input, index_at, EndsLine, BeginsJournal, Stands, fault_order, fault_line, fault_number, plain_lines, workers_in}
+use Rattle.ev_script.specs.declared.forms.Settings.{Settings}
+use Rattle.ev_script.specs.Faults.{Input, index_at, EndsLine, BeginsJournal, Stands, fault_order, fault_line, fault_number, plain_lines, settings_in}
 use Rattle.ev_journal_read.specs.Journals.{first_text, end_text}
 use Rattle.ev_journal_read.specs.Reading.{IsNoRow}
 
@@ -38,9 +39,9 @@ pub record IsMisplacedAt (input : Input) (place : ℕ) : Type 0 where
   pub starts : StartsJournal input start
   pub behind : start ≤ place
   pub ends : EndsLine input place
-  pub workers : ℕ
-  pub heads : workers_in plain_lines (lines_of input.bytes) ≡ Some workers
-  pub wrong : IsNoText workers (index_at input place - index_at input start) (slice_index_or (lines_of input.bytes) (index_at input place) [])
+  pub settings : Settings
+  pub heads : settings_in plain_lines (lines_of input.bytes) ≡ Some settings
+  pub wrong : IsNoText settings.workers (index_at input place - index_at input start) (slice_index_or (lines_of input.bytes) (index_at input place) [])
       ⊎ HasEndBefore (lines_of input.bytes) (index_at input start) (index_at input place)
 
 -- the input ends at the place, and no journal in it has its end line

@@ -17,7 +17,7 @@ use Rattle.ev_script.specs.ReadInput.{IsUpToJournal}
 use Rattle.ev_script.proofs.SoundLemmas.{no_journal}
 use Rattle.ev_script.proofs.FirstLemmas.{IsReadBefore, nothing_before, no_journal_before, of_content, json_first, header_first, line_first, worker_first}
 
--- the line behind the first n ones ends at a place and is this text, and those before it were read
+-- the line after the first n ones ends at a place and is this text, and those before it were read
 pub record IsGiven (forms : LineForms) (input : Input) (settings : Settings) (n : ℕ) (text : List ℕ) : Type 0 where
   pub place : ℕ
   pub before : IsReadBefore forms input settings place
@@ -110,7 +110,7 @@ begins_there forms input settings n text g some c =
     let both = by_both input.audit (has_format c.tree) c.begins in
     record { audit = both.0; ends = g.before.ends; later = subst (λ (i : ℕ). 0 < i) (sym g.index) some; format = (c.tree, given_tree forms input settings n text g ∙ c.is, both.1) }
 
--- no fault stands at the place where the journal begins
+-- there is no fault at the place where the journal begins
 nothing_there : (forms : LineForms) (input : Input) (settings : Settings) (place : ℕ) (kind : FaultKind) → IsReadBefore forms input settings place → BeginsJournal input place → Stands forms input place kind → ⊥
 nothing_there forms input settings place TooLong read begins s = let h : 4 ≤ 2 = of_content forms input settings place TooLong read s in omega arith
 nothing_there forms input settings place TooMany read begins s = let h : 4 ≤ 1 = of_content forms input settings place TooMany read s in omega arith

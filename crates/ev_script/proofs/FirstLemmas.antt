@@ -32,7 +32,7 @@ sound_before : (forms : LineForms) (input : Input) (settings : Settings) (place 
 sound_before forms input settings place other read ends h =
     sound_at forms input other (index_at input place) settings read.read (index_below input other place ends h (ends_up_to input place read.ends))
 
--- no fault stands before the place
+-- there is no fault before the place
 pub nothing_before : (forms : LineForms) (input : Input) (settings : Settings) (place other : ℕ) (kind : FaultKind) → IsReadBefore forms input settings place → Stands forms input other kind → other < place → ⊥
 nothing_before forms input settings place other TooLong read s h = (read.sound other s.0 (omega arith)).2 s.1
 nothing_before forms input settings place other TooMany read s h = (read.sound other s.0 (omega arith)).1 s.1
@@ -65,7 +65,7 @@ some_line input place (inr end) e =
     let none : length (lines_of input.bytes) ≡ 0 = ap (λ (bs : List ℕ). length (lines_of bs)) e in
     omega arith
 
--- at the place itself stand faults of content alone
+-- at the place itself are faults of content alone
 pub of_content : (forms : LineForms) (input : Input) (settings : Settings) (place : ℕ) (kind : FaultKind) → IsReadBefore forms input settings place → Stands forms input place kind → 4 ≤ fault_order kind
 of_content forms input settings place TooLong read s = absurd ((read.sound place s.0 (omega arith)).2 s.1)
 of_content forms input settings place TooMany read s = absurd ((read.sound place s.0 (omega arith)).1 s.1)
@@ -77,7 +77,7 @@ of_content forms input settings place NoSuchWorker read s = omega arith
 of_content forms input settings place NoByte read s = absurd (some_line input place read.ends s.1)
 of_content forms input settings place NotJournal read s = omega arith
 
--- a fault at the place, where no kind that is looked at before stands there
+-- a fault at the place, where no kind that is looked at before is there
 pub first_at : (forms : LineForms) (input : Input) (settings : Settings) (place : ℕ) (kind : FaultKind) → IsReadBefore forms input settings place → Stands forms input place kind → ((k : FaultKind) → Stands forms input place k → fault_order kind ≤ fault_order k) → IsFirstFault forms input place kind
 first_at forms input settings place kind read stands least = record { stands = stands; first = λ other k s. by_place other k s (cases_lt other place) }
   where
@@ -111,7 +111,7 @@ json_first forms input settings place read e =
 none_some : {A : Type 0} (x : A) (o : Option A) → o ≡ None → o ≡ Some x → ⊥
 none_some x o e f = cc
 
--- where the line is JSON, other kinds stand
+-- where the line is JSON, there are other kinds
 after_json : (forms : LineForms) (input : Input) (settings : Settings) (place : ℕ) (tree : Data) (k : FaultKind) → IsReadBefore forms input settings place → tree_at input place ≡ Some tree → Stands forms input place k → 5 ≤ fault_order k
 after_json forms input settings place tree NotJson read e s = absurd (none_some tree (tree_at input place) s.1 e)
 after_json forms input settings place tree TooLong read e s = let h : 4 ≤ 2 = of_content forms input settings place TooLong read s in omega arith
@@ -136,7 +136,7 @@ header_first forms input settings place tree read first e f =
     (script_line forms input settings place read (λ b. let h : 0 < index_at input place = b.later in omega arith), first, ap (option_and_then forms.heads) e ∙ f)
     (λ k s. after_json forms input settings place tree k read e s)
 
--- where the line isn't the first, other kinds stand
+-- where the line isn't the first, there are other kinds
 after_header : (forms : LineForms) (input : Input) (settings : Settings) (place : ℕ) (tree : Data) (k : FaultKind) → IsReadBefore forms input settings place → 0 < index_at input place → tree_at input place ≡ Some tree → Stands forms input place k → 6 ≤ fault_order k
 after_header forms input settings place tree NotHeader read later e s = let h : index_at input place ≡ 0 = s.1 in omega arith
 after_header forms input settings place tree TooLong read later e s = let h : 5 ≤ 2 = after_json forms input settings place tree TooLong read e s in omega arith
@@ -155,7 +155,7 @@ line_first forms input settings place tree read no_journal later e f =
     (script_line forms input settings place read no_journal, later, named_by forms input settings place tree read later e ∙ f)
     (λ k s. after_header forms input settings place tree k read later e s)
 
--- where the line has its form, other kinds stand
+-- where the line has its form, there are other kinds
 after_line : (forms : LineForms) (input : Input) (settings : Settings) (place : ℕ) (tree : Data) (named : Option ℕ) (k : FaultKind) → IsReadBefore forms input settings place → 0 < index_at input place → tree_at input place ≡ Some tree → forms.lines settings.profile (index_at input place + 1) tree ≡ Some named → Stands forms input place k → 7 ≤ fault_order k
 after_line forms input settings place tree named NotLine read later e f s =
     absurd (none_some named (named_at forms input place) s.2 (named_by forms input settings place tree read later e ∙ f))
@@ -186,7 +186,7 @@ worker_first forms input settings place tree worker read no_journal later e f ab
 
 -- ---- whole inputs
 
--- no fault stands where every line that ends was read and no limit is passed
+-- there is no fault where every line that ends was read and no limit is passed
 pub no_fault : (forms : LineForms) (input : Input) (settings : Settings) (n : ℕ) → AreRead forms input.audit (lines_of input.bytes) settings n → ((place : ℕ) → EndsLine input place → index_at input place < n) → ((other : ℕ) → other < length input.bytes → HasNoLineFault input.bytes other) → (IsTrue input.ended → input.bytes ≡ [] → ⊥) → (IsTrue input.audit → IsTrue input.ended → ⊥) → HasNoFault forms input
 no_fault forms input settings n read all sound some goes_on = by_kind
   where

@@ -29,7 +29,7 @@ Tells limit.OutOfMemory kind = ⊥
 pub sound_line : (forms : LineForms) (input : Input) (settings : Settings) (place other : ℕ) → AreRead forms input.audit (lines_of input.bytes) settings (index_at input place) → place < length input.bytes → EndsLine input other → other < place → IsSoundAt forms input other
 sound_line forms input settings place other read within ends h = sound_at forms input other (index_at input place) settings read (index_below input other place ends h (omega arith))
 
--- no fault stands before the first of the limits
+-- there is no fault before the first of the limits
 pub nothing_before_limit : (forms : LineForms) (input : Input) (settings : Settings) (place other : ℕ) (kind : FaultKind) → ((p : ℕ) → p < place → HasNoLineFault input.bytes p) → place < length input.bytes → AreRead forms input.audit (lines_of input.bytes) settings (index_at input place) → Stands forms input other kind → other < place → ⊥
 nothing_before_limit forms input settings place other TooLong sound within read s h = (sound other h).2 s.1
 nothing_before_limit forms input settings place other TooMany sound within read s h = (sound other h).1 s.1

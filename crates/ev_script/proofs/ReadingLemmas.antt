@@ -49,7 +49,7 @@ pub record IsReading {A : Type 0} (forms : LineForms) (keeps : Profile → ℕ �
 abbrev pub Exits : {A : Type 0} → LineForms → (Profile → ℕ → Data → A → Type 0) → Bool → Option (List ℕ) → Option (List ℕ) → LinesState → Result (ReadLines A) ScriptFault → Type 0
 Exits forms keeps audit before after new result = (bytes : List ℕ) × Takes before after bytes × HasTaken new bytes × IsAnswer forms keeps (input_of audit new bytes) result
 
--- where a failed read is told, the source isn't known to be at its end
+-- where a failed read is reported, the source isn't known to be at its end
 pub told_open : {A : Type 0} (forms : LineForms) (keeps : Profile → ℕ → Data → A → Type 0) (audit : Bool) (before after : Option (List ℕ)) (new : LinesState) (result : Result (ReadLines A) ScriptFault) → Exits forms keeps audit before after new result → result ≡ Err Read → ¬ (IsTrue new.ended)
 told_open {A = A} forms keeps audit before after new result exits failed =
     let told : IsTold forms (input_of audit new exits.0) Read = subst (λ (r : Result (ReadLines A) ScriptFault). IsAnswer forms keeps (input_of audit new exits.0) r) failed exits.3 in

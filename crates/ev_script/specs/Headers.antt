@@ -20,7 +20,7 @@ name_order name other = slice_cmp nat_cmp name other
 abbrev pub is_member_of_ask : List ℕ → Bool
 is_member_of_ask name = bytes_eq name (codes ":authority") || bytes_eq name (codes ":path")
 
--- one header more, whose value stands in the place of an earlier one's of its name
+-- one header more, whose value takes the place of an earlier one's of its name
 abbrev pub with_header : List ℕ → List ℕ → Headers → Headers
 with_header name value headers = if is_member_of_ask name then headers else insert_entry name_order headers name value
 

@@ -75,7 +75,7 @@ IsAnswer forms keeps input (Ok read) = IsReadOf forms keeps input read
 IsAnswer forms keeps input (Err fault) = IsTold forms input fault
 
 -- what an answer about the first line means: a header was given, and the line is this text, or the first fault of the bytes
--- taken stands in the first line, whether a journal has to follow or not
+-- taken is in the first line, whether a journal has to follow or not
 abbrev pub IsHeadAnswer : LineForms → LinesState → List ℕ → List ℕ → Result Settings ScriptFault → Type 0
 IsHeadAnswer forms state bytes text (Ok settings) =
     (state.told ≡ None) × (state.given ≡ 1) × (first_content forms (slice_index_or (lines_of bytes) 0 []) ≡ first.Header settings) × (slice_index_or (lines_of bytes) 0 [] ≡ text)

@@ -3,7 +3,7 @@ use Rattle.serde_json.specs.View.{items_view}
 use Rattle.ev_script.specs.Members.{texts_of}
 use Rattle.ev_script.proofs.members.texts_of.Given as goal
 
--- what the rest reads as stands after what was read
+-- what was read, and what the rest reads as after it
 abbrev pub invariant-loop-value : goal.invariant-loop-value
 invariant-loop-value l =
     texts_of (items_view l.values)
