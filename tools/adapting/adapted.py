@@ -1,12 +1,9 @@
 """Inputs as they come, made a script: what tools/adapt and tools/look share."""
-from shared.profiles import OWN
 from shared.shown import read_file, shown
 
 from .capture import Unreadable, documents, kind_of, text_of
 from .script_of import ScriptOf
 
-# The profile that a script gets where nothing else is asked for: ENVOY once the program takes it, with an option for OWN.
-PROFILE = OWN
 SOURCES = ('auto', 'config-dump', 'delta', 'sotw', 'envoy-log')
 
 

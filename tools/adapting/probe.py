@@ -1,20 +1,25 @@
-"""Connections that try each listener, virtual host, domain and route of what a script ends with."""
+"""Connections that try each listener, filter chain, virtual host, domain and route of what a script ends with."""
 import ipaddress
+import itertools
 
+from shared.choices import NO, Ask, chain_for, condition_says, path_says
 from shared.fields import MAX_NAME, size
 from shared.routes import ELSEWHERE, PATHS, TEXT_TESTS
 from shared.script import MAX_LINES, MAX_PATH
 from shared.words import chains_of
 
 HOST = 'probe.invalid'
-VALUE = 'probe'
+VALUE, OTHER = 'probe', 'other'
+# How many values of one criterion of a filter chain are tried.
+MOST_TRIED = 4
 
 
 class Probes:
-    """Follows the good resources of responses; `lines` are the settle and the accepts at the end."""
+    """Follows the good resources of responses; `lines` are the settle and the accepts at the end. `unreached` has then (listener, words) of
+    each filter chain that takes none of the connections by which its match was tried."""
 
     def __init__(self):
-        self.listeners, self.routes, self.conn = {}, {}, 0
+        self.listeners, self.routes, self.conn, self.unreached = {}, {}, 0, []
 
     def take(self, response):
         """Takes a response as it was read."""
@@ -31,21 +36,22 @@ class Probes:
 
     def lines(self, room):
         """At most `room` lines; the second result says whether more were wanted."""
-        asks = {repr(ask): ask for name in self.listeners for ask in self.asks(self.listeners[name])
+        asks = {repr(ask): ask for name in self.listeners for ask in self.asks(name, self.listeners[name])
                 if size(ask['host']) <= MAX_NAME and size(ask['path']) <= MAX_PATH}
         kept = list(asks.values())[:max(0, min(room, MAX_LINES) - 2)]
         found = [{'op': 'publish'}, {'op': 'settle', 'worker': 0}]
         found += [{'op': 'accept', 'worker': 0, 'conn': place, **ask} for place, ask in enumerate(kept, self.conn + 1)]
         return found, len(kept) < len(asks)
 
-    def asks(self, listener):
+    def asks(self, name, listener):
         """Members of an accept, for each filter chain of a listener and each way on from there."""
-        address, port = listener['address']
         for chain in chains_of(listener):
-            begun = {'address': address, 'port': port}
-            asked = asked_by(chain['match'], listener)
+            begun = begun_for(chain, listener)
+            if begun is None:
+                self.unreached.append((name, unreached_words(chain, listener)))
+                continue
             for ask in self.asks_of(chain['serves']):
-                yield {**begun, **ask, **asked}
+                yield {'address': begun['address'], 'port': begun['port'], **ask, **begun}
 
     def asks_of(self, serves):
         """Host, path and pick for each way of what a filter chain serves, with headers where a route asks for some."""
@@ -61,21 +67,50 @@ class Probes:
                     yield {'host': host_of(domain), **found}
 
 
-def asked_by(match, listener):
-    """What an accept asks for besides, so that a filter chain takes it, as far as its listener's address lets it."""
-    found = {}
-    if match.ranges and listener['takes_all']:
-        family, length, bits = match.ranges[0]
-        kind = ipaddress.IPv4Address if family == 4 else ipaddress.IPv6Address
-        found['address'] = str(kind(bits << (kind(0).max_prefixlen - length)))
-    if match.names:
-        found['serverName'] = match.names[0].replace('*', VALUE, 1) if match.names[0][:1] == '*' else match.names[0]
-    if 'tls' in match.transports:
-        found['tls'] = True
-    if match.protocols:
-        found['alpn'] = list(match.protocols[:1])
-    return found
+# The filter chain
 
+def begun_for(chain, listener):
+    """What an accept asks for so that this chain takes it, else so that it is undecided which does; None where neither is found."""
+    chains, default, undecided = listener['chains'], listener['default'], None
+    for begun in beginnings(chain['match'], listener, chain is default):
+        found, why = chain_for(chains, default, Ask({'host': '', 'path': '', 'pick': 0, **begun}))
+        if found is chain:
+            return begun
+        undecided = undecided or why and begun
+    return undecided or None
+
+
+def beginnings(match, listener, is_default):
+    """What an accept may ask for, by each criterion of a match in turn."""
+    address, port = listener['address']
+    ranges = match.ranges[:MOST_TRIED] if listener['takes_all'] else ()
+    addresses = list(dict.fromkeys([*(text for one in ranges for text in ends_of(one, address)), address]))
+    names = [name.replace('*', VALUE, 1) if name[:1] == '*' else name for name in match.names[:MOST_TRIED]] or ['', HOST][:1 + is_default]
+    transports = [transport == 'tls' for transport in match.transports] or [False, True]
+    protocols = match.protocols[:MOST_TRIED] or [None]
+    for place, name, over_tls, protocol in itertools.product(addresses, names, transports, protocols):
+        more = {'serverName': name, 'tls': over_tls, 'alpn': [protocol] if protocol else []}
+        yield {'address': place, 'port': port, **{member: value for member, value in more.items() if value}}
+
+
+def ends_of(one, address):
+    """The first and the last address of a range; none where such a connection doesn't come to a listener at this address of every one."""
+    family, length, bits = one
+    if family == 6 and address == '0.0.0.0':
+        return []
+    kind = ipaddress.IPv4Address if family == 4 else ipaddress.IPv6Address
+    rest = kind(0).max_prefixlen - length
+    return [str(kind(bits << rest)), str(kind(((bits + 1) << rest) - 1))]
+
+
+def unreached_words(chain, listener):
+    ports, (address, port) = chain['match'].ports, listener['address']
+    if ports and port not in ports:
+        return f'{chain["label"]} asks for port {ports[0]}, and connections of a script come at {port}'
+    return f'{chain["label"]} takes none of the connections that were tried at {address}:{port}: another goes before it'
+
+
+# The route
 
 def host_of(domain):
     """A host that a domain takes."""
@@ -92,21 +127,35 @@ def ways(routes):
         yield {'path': '/', 'pick': 0}
     for match, actions, action in routes:
         way, *text = match[0] if match else ('prefix', None)
-        headers = headers_for(way, match[1:])
+        path, headers = text[0] if way in PATHS and text[0] else '/', headers_for(way, match[1:])
+        asked = headers.pop(':path', path)
+        path = asked if match and path_says(match[0], asked.encode(), asked.encode().partition(b'?')[0], headers) != NO else path
+        headers.pop(':authority', None)
         for pick in picks(action) if 'route' in actions else [0]:
-            yield {'path': text[0] if way in PATHS and text[0] else '/', 'pick': pick, **({'headers': headers} if headers else {})}
+            yield {'path': path, 'pick': pick, **({'headers': headers} if headers else {})}
 
 
 def headers_for(way, conditions):
-    """Headers by which a route's conditions say yes, as far as one is known."""
+    """Headers by which no condition of a route says no, as far as some are known."""
     found = {':method': 'CONNECT'} if way == 'connect_matcher' else {}
-    for condition in conditions:
-        if condition[0] == 'grpc':
-            found['content-type'] = 'application/grpc'
-        elif condition[0] == 'header' and not condition[3]:
-            test = condition[2]
-            found[condition[1]] = test[1] if test[0] in TEXT_TESTS.values() else VALUE
+    if any(condition[0] == 'grpc' for condition in conditions):
+        found['content-type'] = 'application/grpc'
+    of_headers = [condition for condition in conditions if condition[0] == 'header']
+    for name in dict.fromkeys(condition[1] for condition in of_headers):
+        mine = [condition for condition in of_headers if condition[1] == name]
+        values = [found[name]] if name in found else [None, *values_for(mine)]
+        fitting = [value for value in values if NO not in [condition_says(one, {} if value is None else {name: value}) for one in mine]]
+        value = fitting[0] if fitting else values[-1]
+        if value is not None:
+            found[name] = value
     return found
+
+
+def values_for(conditions):
+    """Values of a header that its conditions may say yes to."""
+    texts = {word: [one[2][1] for one in conditions if one[2][0] == word and not one[3]] for word in TEXT_TESTS.values()}
+    joined = ''.join(sorted(texts['begins'], key=len)[-1:] + texts['contains'] + sorted(texts['ends'], key=len)[-1:])
+    return [*texts['is'], *([joined] if joined else []), VALUE, OTHER, '']
 
 
 def picks(target):

@@ -3,9 +3,9 @@ import contextlib
 import copy
 import json
 
-from shared.profiles import ENVOY, OWN
+from shared.profiles import ENVOY, OF_OPTIONS, OWN, USUAL
 from shared.resources import read_message
-from shared.script import MAX_INPUT, MAX_LINE, MAX_LINES
+from shared.script import ASK_OF_ENVOY, MAX_INPUT, MAX_LINE, MAX_LINES
 from shared.shown import quoted
 from shared.urls import KINDS
 from shared.words import counted
@@ -42,7 +42,7 @@ class ScriptOf:
     def __init__(self, chosen, report):
         self.chosen, self.report = chosen, report
         self.profile, self.probes = OWN, Probes()
-        self.go_by(chosen.profile)
+        self.go_by(OF_OPTIONS.get(chosen.profile, USUAL))
         self.whole = WholeOf(report) if chosen.sotw else None
         self.header, self.lines, self.size = {}, [], 0
         self.place, self.origins, self.header_place = 'no input', [], 'the header'  # what a line is made of
@@ -99,8 +99,12 @@ class ScriptOf:
         if not self.lines:
             self.header = dict(tree)
             self.header_place = self.place
-            if tree.get('profile') == ENVOY:
-                self.go_by(ENVOY)
+            given = tree.get('profile', OWN)
+            if not self.chosen.profile:
+                self.go_by(ENVOY if given == ENVOY else OWN)
+            elif given != self.profile:
+                self.header.pop('profile', None)
+                self.report.add('made', member='profile', before=given or 'the own profile', after=self.profile or 'the own profile', turns=True)
 
     def request(self, tree):
         self.named(text_in(get(tree, 'node'), 'id'))
@@ -133,7 +137,14 @@ class ScriptOf:
             self.open = tree['op'] == 'connect'
         if tree['op'] == 'accept' and type(tree.get('conn')) is int:
             self.probes.conn = max(self.probes.conn, tree['conn'])
-        self.put(compact(tree))
+        self.put(compact(self.accept(tree) if tree['op'] == 'accept' else tree))
+
+    def accept(self, tree):
+        """A connection without what its line can't have by this project's own profile."""
+        strange = [name for name in ASK_OF_ENVOY if name in tree] if self.profile == OWN and self.chosen.profile else []
+        for name in strange:
+            self.report.add('left-out', member=name, before=tree[name], turns=True)
+        return {name: value for name, value in tree.items() if name not in strange}
 
     # A state
 
@@ -207,11 +218,11 @@ class ScriptOf:
         if not self.good.get(name):
             return
         if not kept and kind in ('eds', 'rds'):
-            self.report.add('absent', kind, name, before='Envoy has none, and this profile goes on with what Envoy refused', turns=True)
+            self.report.add('absent', kind, name, before='Envoy has none, and the script goes on with what Envoy refused', turns=True)
             return
         again = [message_of(kind, [one]) for one in kept] or [message_of(kind, [], [name])]
         for place, message in enumerate(again):
-            self.report.add('made', kind, name, before='Envoy refused the one before, and this profile doesn\'t',
+            self.report.add('made', kind, name, before='Envoy refused the one before, and its profile doesn\'t',
                             after='a response with what Envoy has' if kept else 'a removal: Envoy has none', turns=True)
             self.delta(message)
             if is_active and place == 0 and self.good.get(name):
@@ -377,6 +388,8 @@ class ScriptOf:
             self.place = '--probe'
             found, more = self.probes.lines(MAX_LINES - len(self.lines) - 2)
             self.report.add('probe', before=f'{len(found) - 2} connections', after='accepts at the end' + (', and more were wanted' if more else ''))
+            for name, words in self.probes.unreached:
+                self.report.add('unreached', 'lds', name, 'filter_chains', before=words)
             for operation in found:
                 self.put(compact(operation))
         if self.chosen.workers:

@@ -7,10 +7,11 @@ import threading
 from collections import Counter
 
 from shared import script
+from shared.profiles import USUAL
 from shared.shown import escaped, quoted
 
 from .decoding import NotDecoded, Printer, decoded, outline
-from .protocols import PROFILE, REQUESTS, RESPONSES, STATE_OF_THE_WORLD
+from .protocols import REQUESTS, RESPONSES, STATE_OF_THE_WORLD
 from .replies import Lines
 from .sotw import Incremental
 
@@ -135,18 +136,18 @@ class Recording:
 
     NAME.jsonl is the script, incremental whatever the protocol is; NAME.requests.jsonl has what the client sent. Of the state
     of the world NAME.sotw.jsonl has the responses as they came. NAME.notes.txt is there where something has to be told.
-    `replies`, where they are given, take each line of the script, of the state of the world of NAME.sotw.jsonl.
+    `replies`, where they are given, take each line of the script, of the state of the world of NAME.sotw.jsonl. `profile` is that of the script.
     """
 
-    def __init__(self, folder, name, protocol, replies=None):
-        self.folder, self.name, self.protocol, self.replies = folder, name, protocol, replies
+    def __init__(self, folder, name, protocol, replies=None, profile=USUAL):
+        self.folder, self.name, self.protocol, self.replies, self.profile = folder, name, protocol, replies, profile
         self.notes = Notes(name, f'{folder}/{name}.notes.txt')
         self.printer, self.incremental = Printer(), Incremental()
         self.lock, self.open, self.begun, self.closed, self.node = threading.RLock(), False, False, False, None
         self.script = self.file('')
         self.requests = self.file('.requests')
         self.whole = self.file('.sotw') if protocol == STATE_OF_THE_WORLD else None
-        self.lines = {self.script: Lines(), **({self.whole: Lines(whole=True)} if self.whole else {})}
+        self.lines = {self.script: Lines(profile), **({self.whole: Lines(profile, whole=True)} if self.whole else {})}
         self.asked = self.whole or self.script
         self.seen = {'requests': 0, 'responses': 0}
 
@@ -157,13 +158,13 @@ class Recording:
         """Writes the header, once, with the node's id where it can stand there."""
         if self.begun:
             return
-        header = {'workers': 1, **({'node': node} if node else {}), **({'profile': PROFILE} if PROFILE else {})}
+        header = {'workers': 1, **({'node': node} if node else {}), **({'profile': self.profile} if self.profile else {})}
         if script.read_script(text_of(header)).faults:
             self.notes.add(f'the node\'s id has {len(node.encode())} bytes: it is left out of the header')
             del header['node']
         self.begun, self.node = True, header.get('node')
         if self.replies:
-            self.replies.begin(self.node or 'warmgate')
+            self.replies.begin(self.node or 'warmgate', self.profile)
         for file in self.lines:
             file.write(text_of(header))
 

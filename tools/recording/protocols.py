@@ -1,8 +1,4 @@
 """The two protocols of an aggregated stream, by the words that recordings have for them."""
-from shared.profiles import OWN
-
-# The profile of what is recorded: ENVOY once the program takes it.
-PROFILE = OWN
 DELTA, STATE_OF_THE_WORLD = 'incremental', 'state of the world'
 DISCOVERY = 'envoy.service.discovery.v3.'
 SERVICE = f'/{DISCOVERY}AggregatedDiscoveryService/'

@@ -14,16 +14,16 @@ from shared.urls import KINDS
 from shared.whole import Whole
 
 from .program import answers_of
-from .protocols import COMMANDS, PROFILE, STATE_OF_THE_WORLD
+from .protocols import COMMANDS, STATE_OF_THE_WORLD
 
 
 class Lines:
     """Reads the lines of a script after its header, each once as it comes. Where `whole`, those of the state of the world."""
 
-    def __init__(self, whole=False):
+    def __init__(self, profile, whole=False):
         self.reading = script.Reading()
         self.reading.workers, self.reading.whole = 1, Whole() if whole else None
-        self.reading.takes(PROFILE)
+        self.reading.takes(profile)
         self.count = 0
 
     def read(self, text):
@@ -48,8 +48,8 @@ class Replies:
         self.protocol, self.machine, self.whole = protocol, None, None
         self.waiting, self.sums, self.lost_nonces = [], {}, {}
 
-    def begin(self, node):
-        self.machine = Answering(1, 2, node, PROFILE)
+    def begin(self, node, profile):
+        self.machine = Answering(1, 2, node, profile)
         self.whole = WholeRequests(self.machine) if self.protocol == STATE_OF_THE_WORLD else None
 
     def take(self, line, at):
