@@ -6,14 +6,14 @@ from .chain_matches import CRITERIA_WORDS, bits_of, ip_address
 from .fields import lower
 from .routes import ELSEWHERE, OPEN
 from .shown import quoted
-from .words import type_words
+from .words import match_words, type_words
 
 NO, OPEN_ANSWER, YES = 'no', 'open', 'yes'
 
 
 class Choice:
-    """`answer` is what a journal writes. `chain` is the label of the filter chain that took the connection, where the listener has several,
-    and `why` says what made the answer undecided, or took it elsewhere; else they are empty."""
+    """`answer` is what a journal writes. `chain` says which filter chain took the connection and what that one asks for, where the listener
+    has several, and `why` what made the answer undecided, took it elsewhere, or left it without a chain; else they are empty."""
 
     def __init__(self, answer, chain='', why=''):
         self.answer, self.chain, self.why = answer, chain, why
@@ -47,10 +47,15 @@ def choose(picture, members):
     if why:
         return Choice(undecided, why=why)
     if chain is None:
-        return Choice('noChain')
-    label = str(chain['label']) if len(chains) + bool(default) > 1 else ''
+        return Choice('noChain', why=f'listener {quoted(listener.name)} (generation {listener.number}) has none for it and no default one')
+    label = chain_words(chain) if len(chains) + bool(default) > 1 else ''
     answer, why = served(picture, chain['serves'], tables, ask)
     return Choice({'listener': listener.number, **answer}, label, why)
+
+
+def chain_words(chain):
+    asked = match_words(chain['match'])
+    return str(chain['label']) + (f' ({asked})' if asked else '')
 
 
 def served(picture, serves, tables, ask):

@@ -158,12 +158,12 @@ class Teller:
         asked = f'connection {members["conn"]} to {where}, host {quoted(members["host"])}, path {quoted(members["path"])}{more_asked(members)}'
         if answer == 'inUse':
             return f'{asked}: the number is in use, ignored'
+        choice = choice_of(self.machine, members, int(row.actor[1:]), answer)
+        why = f', since {choice.why}' if choice.why else ''
         if isinstance(answer, str):
             held, last = self.machine.held[int(row.actor[1:])], self.machine.published_before(row.at)
             behind = f'{last} is published' if held < last else 'the last that was published'
-            return f'{asked}: {LOST[answer]}: {row.actor} holds picture {held}; {behind}'
-        choice = choice_of(self.machine, members, int(row.actor[1:]), answer)
-        why = f', since {choice.why}' if choice.why else ''
+            return f'{asked}: {LOST[answer]}{why}: {row.actor} holds picture {held}; {behind}'
         listener = f'listener generation {answer["listener"]}' + (f', {choice.chain}' if choice.chain else '')
         if answer['result'] in OPEN_ENDS:
             cluster = f'cluster generation {answer["cluster"]}, ' if 'cluster' in answer else ''

@@ -1,4 +1,6 @@
 """What resources contain, in words: addresses, routes and where they lead."""
+import ipaddress
+
 from .routes import ELSEWHERE
 from .shown import named, quoted
 
@@ -77,6 +79,22 @@ def serves_words(serves):
 def hosts_words(rows):
     hosts = [f'{named(address, 60)}:{port}' for (address, port), *_ in rows]
     return 'no hosts' if not hosts else 'hosts ' + few(hosts)
+
+
+def match_words(match):
+    """What a filter chain asks for, in words; empty where it asks for nothing."""
+    parts = [f'port {port}' for port in match.ports]
+    parts += [f'addresses {few(f"{prefix}/{length}" for prefix, length in map(range_words, match.ranges))}'] if match.ranges else []
+    parts += [f'server name {few(quoted(name, 60) for name in match.names)}'] if match.names else []
+    parts += [{'tls': 'over TLS', 'raw_buffer': 'without TLS'}.get(transport, f'transport {quoted(transport, 40)}') for transport in match.transports]
+    return ', '.join(parts + ([f'alpn {few(quoted(protocol, 40) for protocol in match.protocols)}'] if match.protocols else []))
+
+
+def range_words(one):
+    """(the first address, the length) of a range."""
+    family, length, bits = one
+    kind = ipaddress.IPv4Address if family == 4 else ipaddress.IPv6Address
+    return kind(bits << (kind(0).max_prefixlen - length)), length
 
 
 def more_asked(members):
