@@ -2,7 +2,7 @@
 import ipaddress
 import itertools
 
-from shared.choices import NO, Ask, chain_for, condition_says, path_says
+from shared.choices import NO, Ask, by_range, chain_for, condition_says, path_says
 from shared.fields import MAX_NAME, size
 from shared.routes import ELSEWHERE, PATHS, TEXT_TESTS
 from shared.script import MAX_LINES, MAX_PATH
@@ -50,8 +50,11 @@ class Probes:
             if begun is None:
                 self.unreached.append((name, unreached_words(chain, listener)))
                 continue
-            for ask in self.asks_of(chain['serves']):
+            asks = list(self.asks_of(chain['serves']))
+            for ask in asks:
                 yield {'address': begun['address'], 'port': begun['port'], **ask, **begun}
+            for other in others_than(begun, chain['match'], listener):
+                yield {'address': other['address'], 'port': other['port'], **asks[0], **other}
 
     def asks_of(self, serves):
         """Host, path and pick for each way of what a filter chain serves, with headers where a route asks for some."""
@@ -80,17 +83,30 @@ def begun_for(chain, listener):
     return undecided or None
 
 
+def others_than(begun, match, listener):
+    """The same with each further server name, protocol and range of a match."""
+    yield from ({**begun, 'serverName': name_of(name)} for name in match.names if name_of(name) != begun.get('serverName'))
+    yield from ({**begun, 'alpn': [protocol]} for protocol in match.protocols if [protocol] != begun.get('alpn'))
+    for one in match.ranges[1:] if listener['takes_all'] else ():
+        yield from ({**begun, 'address': text} for text in ends_of(one, listener['address'][0])[:1])
+
+
+def name_of(name):
+    """A server name that one of a match takes."""
+    return name.replace('*', VALUE, 1) if name[:1] == '*' else name
+
+
 def beginnings(match, listener, is_default):
     """What an accept may ask for, by each criterion of a match in turn."""
     address, port = listener['address']
     ranges = match.ranges[:MOST_TRIED] if listener['takes_all'] else ()
     addresses = list(dict.fromkeys([*(text for one in ranges for text in ends_of(one, address)), address]))
-    names = [name.replace('*', VALUE, 1) if name[:1] == '*' else name for name in match.names[:MOST_TRIED]] or ['', HOST][:1 + is_default]
-    transports = [transport == 'tls' for transport in match.transports] or [False, True]
+    names = list(map(name_of, match.names[:MOST_TRIED])) or ['', HOST][:1 + is_default]
+    transports = [transport == 'tls' for transport in match.transports] or ([True, False] if match.names else [False, True])
     protocols = match.protocols[:MOST_TRIED] or [None]
     for place, name, over_tls, protocol in itertools.product(addresses, names, transports, protocols):
         more = {'serverName': name, 'tls': over_tls, 'alpn': [protocol] if protocol else []}
-        yield {'address': place, 'port': port, **{member: value for member, value in more.items() if value}}
+        yield {'address': place, 'port': port} | {member: value for member, value in more.items() if value}
 
 
 def ends_of(one, address):
@@ -104,10 +120,13 @@ def ends_of(one, address):
 
 
 def unreached_words(chain, listener):
-    ports, (address, port) = chain['match'].ports, listener['address']
-    if ports and port not in ports:
-        return f'{chain["label"]} asks for port {ports[0]}, and connections of a script come at {port}'
-    return f'{chain["label"]} takes none of the connections that were tried at {address}:{port}: another goes before it'
+    """Why no connection that is tried comes to a filter chain: a script's connection has the address of its listener, and no other before it."""
+    match, (address, port) = chain['match'], listener['address']
+    if match.ports and port not in match.ports:
+        return f'{chain["label"]} asks for port {match.ports[0]}, and connections of a script come at {port}'
+    if match.ranges and not by_range([chain], Ask({'host': '', 'path': '', 'pick': 0, 'address': address, 'port': port})) and not listener['takes_all']:
+        return f'{chain["label"]} asks for other addresses than {address}, at which connections of a script come'
+    return f'{chain["label"]} takes none of the connections that were tried at {address}:{port}: another one does'
 
 
 # The route

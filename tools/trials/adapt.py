@@ -16,7 +16,7 @@ from trials import TOP, content
 
 CAPTURES = f'{TOP}/examples/captures'
 ADAPTED = f'{CAPTURES}/adapted'
-# Exit statuses of --strict for none, safe and all.
+# Exit statuses of --strict for none, safe and all, by this project's own profile.
 LEVELS = {
     'istio_sidecar.json': (4, 4, 4), 'go_control_plane.json': (1, 1, 4), 'envoy_gateway.jsonl': (1, 4, 4),
     'consul.json': (1, 4, 4), 'delta_push.jsonl': (4, 4, 4),
@@ -66,9 +66,10 @@ def names_of(data):
 
 
 def levels(check, name, statuses):
+    """What each level changes by this project's own profile."""
     found = {}
     for level, wanted in zip(('none', 'safe', 'all'), statuses):
-        status, data, report, errors = adapted('--strict', '--project', level, *FLAGS, f'{CAPTURES}/{name}')
+        status, data, report, errors = adapted('--own-profile', '--strict', '--project', level, *FLAGS, f'{CAPTURES}/{name}')
         check(status == wanted, f'adapt --project {level} {name}: status {status}, wanted {wanted}: {errors}')
         check(not script.read_script(data).faults, f'adapt --project {level} {name} is no script')
         found[level] = data
@@ -79,14 +80,14 @@ def levels(check, name, statuses):
             told = any(line['action'] == 'passed-over' and line['member'] == member for line in report)
             check(capture != name or told, f'adapt --project {level} {name} says nothing of {member}')
     check(names_of(found['none']) == names_of(found['safe']) <= names_of(found['all']), f'adapt {name}: a level drops a resource')
-    return found['all']
 
 
-def stored(check, name, data):
+def stored(check, name):
     """The stored script, report, journal and account are what the tools make, and the journal has no refusal of this profile alone."""
+    _, data, report, errors = adapted('--project', 'all', *FLAGS, f'{CAPTURES}/{name}')
     base, reading = f'{ADAPTED}/{name.rsplit(".", 1)[0]}', script.read_script(data)
+    check(not reading.faults, f'adapt --project all {name} is no script: {errors}')
     pages = replayed(data)
-    report = adapted('--project', 'all', *FLAGS, f'{CAPTURES}/{name}')[2]
     texts = {'jsonl': data, 'journal.jsonl': pages, 'report.jsonl': ''.join(json_shown(line) + '\n' for line in report).encode()}
     with tempfile.TemporaryDirectory() as folder:
         for ending in ('jsonl', 'journal.jsonl'):
@@ -100,7 +101,7 @@ def stored(check, name, data):
     if trials.program():
         check(trials.ran(trials.program(), 'replay', data=data)[:2] == (0, pages), f'the program writes another journal of {base}.jsonl')
     for entry in Pair('adapt', reading, pages).entries():
-        if entry.row.op == 'response':
+        if entry.row.op == 'response' and isinstance(entry.row.answer, dict):
             for item, verdict in zip(entry.line.response.items, entry.row.answer['verdicts']):
                 check(verdict[0] != 'V' or item.whose(entry.line.response.kind, verdict) != rules.PROFILE, f'{base}: {item.name} {verdict}')
 
@@ -152,7 +153,7 @@ def chains(check):
         return {'typeUrl': url, 'nonce': nonce, 'resources': [{'name': 'in', 'resource': body}] if count else [], 'removedResources': list(removed)}
     data = '\n'.join(map(json.dumps, (push('1', 3), push('2', 2), push('3', 0, ['in'])))).encode()
     found = [([resource['name'] for resource in message.get('resources', [])], message.get('removedResources', []))
-             for message in messages(adapted('--project', 'all', data=data)[1])]
+             for message in messages(adapted('--own-profile', '--project', 'all', data=data)[1])]
     check(found == [(['in', 'in#n1', 'in#n2'], []), (['in', 'in#n1'], ['in#n2']), ([], ['in', 'in#n1'])], f'listeners for filter chains: {found}')
 
 
@@ -190,6 +191,9 @@ def run(check):
     for name, statuses in LEVELS.items():
         kinds = {kind_of(document.tree) for document in documents(text_of(content(f'{CAPTURES}/{name}')))}
         check(None not in kinds, f'{name} has a document that isn\'t known')
-        stored(check, name, levels(check, name, statuses))
+        levels(check, name, statuses)
+    for name in sorted(os.listdir(CAPTURES)):
+        if name != 'adapted':
+            stored(check, name)
     for trial in (encodings, stable, long_response, warming, chains, log_events, endings):
         trial(check)

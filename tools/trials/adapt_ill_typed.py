@@ -40,7 +40,7 @@ def run(check):
         check(status == 3 and 'out of range' in errors, f'adapt of a number of 5,000 digits: status {status} {errors}')
         for number in range(ROUNDS):
             name = draw.choice(NAMES)
-            words = ['--project', draw.choice(LEVELS), *draw.choice(FLAGS)]
+            words = ['--project', draw.choice(LEVELS), *draw.choice(FLAGS), *draw.choice(([], ['--own-profile']))]
             data = '\n'.join(json.dumps(tree) for tree in changed(trees_of(texts[name]), draw))
             status, out, errors = tried(folder, data, words)
             good = status in statuses and (status == 3 or not script.read_script(out, command='sotw' if '--sotw' in words else None).faults)

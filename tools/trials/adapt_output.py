@@ -83,11 +83,12 @@ def ended(row):
 
 
 def stand_ins(check):
-    """Each has the name by which Envoy finds its hosts, so that another name is another host, and waits for no health result."""
+    """By this project's own profile each has the name by which Envoy finds its hosts, so that another name is another host, and waits for no
+    health result."""
     def hosts(name, kind, port=443, **members):
         row = {'endpoint': {'address': {'socket_address': {'address': name, 'port_value': port}}}}
         body = cluster('c', type=kind, load_assignment={'endpoints': [{'lb_endpoints': [row]}]}, **members)
-        _, data, report, errors = adapted('--project', 'all', data=dump(clusters(body)))
+        _, data, report, errors = adapted('--own-profile', '--project', 'all', data=dump(clusters(body)))
         resource, = messages(data)[0]['resources']
         check(came(resource) == body, f'the body as it came of {body}: {came(resource)} {errors}')
         item, = script.read_script(data).lines[1].response.items
@@ -100,11 +101,11 @@ def stand_ins(check):
     for endpoint, wanted in (({'pipe': {'path': '/run/x'}}, ('/run/x', 0)), ({'socket_address': {'address': 'h', 'named_port': 'http'}}, ('h', 0)),
                              ({'envoy_internal_address': {'server_listener_name': 'l'}}, ('internal:l', 0))):
         body = cluster('c', load_assignment={'endpoints': [{'lb_endpoints': [{'endpoint': {'address': endpoint}}]}]})
-        item, = script.read_script(adapted('--project', 'all', data=dump(clusters(body)))[1]).lines[1].response.items
+        item, = script.read_script(adapted('--own-profile', '--project', 'all', data=dump(clusters(body)))[1]).lines[1].response.items
         check([row[0] for row in item.content['rows']] == [wanted], f'the stand-in for a host at {endpoint}')
-        check('left-out' in str(adapted('--project', 'safe', data=dump(clusters(body)))[2]), f'--project safe keeps a host at {endpoint}')
+        check('left-out' in str(adapted('--own-profile', '--project', 'safe', data=dump(clusters(body)))[2]), f'--project safe keeps a host at {endpoint}')
     body = cluster('c', cluster_type={'name': 'envoy.clusters.aggregate'})
-    item, = script.read_script(adapted('--project', 'all', data=dump(clusters(body)))[1]).lines[1].response.items
+    item, = script.read_script(adapted('--own-profile', '--project', 'all', data=dump(clusters(body)))[1]).lines[1].response.items
     check([row[0] for row in item.content['rows']] == [('envoy.clusters.aggregate', 0)], 'the host of a cluster_type')
 
 
@@ -127,7 +128,7 @@ def escapes(check):
     data = dump(clusters(cluster(name, type='STRICT_DNS')))
     with tempfile.TemporaryDirectory() as folder:
         path = trials.written(f'{folder}/in{name[:1]}\x9b', data.decode())
-        done = subprocess.run([f'{TOP}/tools/adapt', '--project', 'all', '--report', f'{folder}/report', '--to', f'{folder}/script', path], capture_output=True)
+        done = subprocess.run([f'{TOP}/tools/adapt', '--own-profile', '--project', 'all', '--report', f'{folder}/report', '--to', f'{folder}/script', path], capture_output=True)
         report = content(f'{folder}/report').decode()
         check(done.returncode == 0 and all(text.isprintable() for text in report.splitlines()) and json.loads(report.splitlines()[-1])['name'] == name, f'a report with {name!r}: {report!r}')
         top, bottom = pty.openpty()

@@ -78,39 +78,44 @@ def without_listener(dump):
     part['dynamic_listeners'] = [entry for entry in part['dynamic_listeners'] if entry['name'] != 'virtualInbound']
 
 
-# Each change with what is said of it: without --project, and with it.
+# Each change with what is said of it: by this project's own profile without --project and with it, and by the profile envoy.
 CHANGES = [
     (without_chains, (1, 'REGRESSION', 'lds', 'virtualInbound', 'V16 as before, which was (profile) and is (Envoy too)'),
+     (1, 'REGRESSION', 'lds', 'virtualInbound', 'newly refused by V16 (Envoy too)'),
      (1, 'REGRESSION', 'lds', 'virtualInbound', 'newly refused by V16 (Envoy too)')),
     (another_port, (3, 'UNJUDGED', 'lds', 'virtualInbound', 'filterChains[virtualInbound-blackhole].filterChainMatch.destinationPort differs; refused by V16'),
-     (3, 'UNJUDGED', 'lds', 'virtualInbound', 'filterChains[virtualInbound-blackhole].filterChainMatch.destinationPort differs')),
-    (route_to_nothing, (3, 'UNJUDGED', 'rds', '9080', '.route.cluster differs'), (3, 'UNJUDGED', 'rds', '9080', '.route.cluster differs')),
-    (another_host, (3, 'UNJUDGED', 'cds', PARTNER, 'api.other.example'), (3, None, 'cds', PARTNER, 'api.other.example')),
-    (without_listener, (3, 'CHANGED', 'lds', 'virtualInbound', 'is gone; it was refused by V16 (profile)'), (1, 'CHANGED', 'lds', 'virtualInbound', 'is gone')),
+     (3, 'UNJUDGED', 'lds', 'virtualInbound', 'filterChains[virtualInbound-blackhole].filterChainMatch.destinationPort differs'),
+     (3, 'CHANGED', 'lds', 'virtualInbound', 'in another way than before')),
+    (route_to_nothing, (3, 'UNJUDGED', 'rds', '9080', '.route.cluster differs'), (3, 'UNJUDGED', 'rds', '9080', '.route.cluster differs'),
+     (3, 'CHANGED', 'rds', '9080', 'other routes, 3 and before 3')),
+    (another_host, (3, 'UNJUDGED', 'cds', PARTNER, 'api.other.example'), (3, None, 'cds', PARTNER, 'api.other.example'),
+     (3, 'CHANGED', 'cds', PARTNER, 'hosts new: api.other.example:443')),
+    (without_listener, (3, 'CHANGED', 'lds', 'virtualInbound', 'is gone; it was refused by V16 (profile)'), (1, 'CHANGED', 'lds', 'virtualInbound', 'is gone'),
+     (3, 'CHANGED', 'lds', 'virtualInbound', 'is gone')),
 ]
 
 
 def sidecars(check, adapt, folder, told):
     dump = json.loads(content(SIDECAR))
-    for place, level in enumerate(('none', 'all'), 1):
+    for place, level in enumerate((('--own-profile', '--project', 'none'), ('--own-profile', '--project', 'all'), ()), 1):
         old = adapted(adapt, folder, dump, level)
-        check(told(old, old)[:2] == (0, []), f'diff of a sidecar with itself, --project {level}')
+        check(told(old, old)[:2] == (0, []), f'diff of a sidecar with itself, {level}')
         for change in CHANGES:
             changed = copy.deepcopy(dump)
             change[0](changed)
             status, kind, *wanted = change[place]
             found = told(old, adapted(adapt, folder, changed, level))
             good = found[0] == status and (has(found[1], kind, *wanted) if kind else any(has(found[1], of, *wanted) for of in ('CHANGED', 'UNJUDGED')))
-            check(good, f'diff of {change[0].__name__}, --project {level}: {found}')
+            check(good, f'diff of {change[0].__name__}, {level}: {found}')
             check(not any('not refused by V16 any more' in one['words'] for one in found[1]), f'diff of {change[0].__name__}: a refusal that is gone')
             back = told(adapted(adapt, folder, changed, level), old)[0]
-            check(back in (1, 3), f'diff of {change[0].__name__}, the other way round, --project {level}: status {back}')
+            check(back in (1, 3), f'diff of {change[0].__name__}, the other way round, {level}: status {back}')
 
 
 def adapted(adapt, folder, dump, level):
     """The script that tools/adapt makes of a dump."""
     path = written(f'{folder}/dump.json', json.dumps(dump))
-    called(adapt, '--auto', '--stable', '--probe', '--project', level, '--to', f'{folder}/adapted', path)
+    called(adapt, '--auto', '--stable', '--probe', *level, '--to', f'{folder}/adapted', path)
     return content(f'{folder}/adapted')
 
 

@@ -41,7 +41,7 @@ def of_a_dump(check, folder, looked):
     tree = dump(part('Clusters', dynamic_active_clusters=[failed, {'cluster': eds('a')}, {'cluster': eds('lost')}, {'cluster': cluster('dns', type='STRICT_DNS')}],
                      dynamic_warming_clusters=[{'cluster': eds('w')}]), endpoints('a'),
                 part('Listeners', dynamic_listeners=[{'name': 'l', 'active_state': {'listener': listener('l', 80, 'a')}}]))
-    status, out, errors = looked('--project', 'none', trials.written(f'{folder}/dump.json', tree.decode()))
+    status, out, errors = looked('--own-profile', '--project', 'none', trials.written(f'{folder}/dump.json', tree.decode()))
     lines, page = out.decode().splitlines(), content(f'{folder}/out/page.html').decode()
     check(status == 0 and not errors, f'look at a dump: status {status} {errors}')
     wanted = ["Envoy's own errors: 1", "    cluster 'bad': 'no such <b>\\u202e\\x1b[31m'; here: refused by V10 (profile): resource.eds_cluster_config.eds_config.path is given",

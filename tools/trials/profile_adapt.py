@@ -1,22 +1,19 @@
-"""tools/adapt --envoy: the header's profile; what that profile takes stays as it is, and what it refuses is stood in for as ever."""
+"""tools/adapt by the profile envoy: the header's profile; what that profile takes stays as it is, what it refuses is stood in for, and
+connections are tried by filter chains' matches and routes' conditions."""
 import json
 from collections import Counter
 
 from shared import script
-from shared.profiles import ENVOY
 from shared.replayed import replayed
-from shared.urls import MANAGER
-from trials import called, tool
-from trials.adapt import CAPTURES, LEVELS, adapted, messages
+from shared.urls import MANAGER, URLS
+from trials.adapt import adapted, messages
 from trials.adapt_dumps import assignment, cluster, clusters, dump, eds, endpoints, listener, part
 
-ALL = ('--envoy', '--project', 'all', '--auto', '--probe')
+ALL = ('--project', 'all', '--auto', '--probe')
 TLS = {'server_names': ['*.shop'], 'transport_protocol': 'tls', 'application_protocols': ['h2']}
 
 
 def run(check):
-    for name in LEVELS:
-        capture(check, name)
     left_alone(check)
     stood_in(check)
     probed(check)
@@ -38,22 +35,6 @@ def actions(report):
     return Counter(line['action'] for line in report)
 
 
-def capture(check, name):
-    """Of what a real system gave nothing is refused, and nothing stands in but for a listener on UDP."""
-    status, data, report, errors = adapted(*ALL, f'{CAPTURES}/{name}')
-    reading = script.read_script(data)
-    check(status == 0 and not reading.faults and reading.profile == ENVOY, f'adapt --envoy {name}: status {status} {errors}')
-    refused = [verdict for answer in answers(data, 'response') if isinstance(answer, dict) for verdict in answer['verdicts'] if verdict[0] == 'V']
-    check(not refused, f'adapt --envoy {name}: refused by {refused}')
-    changed = [line for line in report if line['action'] in ('stand-in', 'left-out') and not line['name'].endswith('/udp')
-               and 'udp' not in json.dumps([line['before'], line['after']]).lower() and line['after'] != 'one without filters']
-    check(not changed, f'adapt --envoy {name} changes {changed}')
-    lost = [answer for answer in answers(data) if result(answer) in ('noListener', 'noChain')]
-    check(not lost, f'adapt --envoy --probe {name}: connections that nothing takes: {lost}')
-    plain = adapted('--project', 'all', '--auto', '--probe', f'{CAPTURES}/{name}')
-    check(b'"profile"' not in plain[1], f'adapt {name} has the profile unasked')
-
-
 def left_alone(check):
     """What --project stands in for by this project's own profile, and the profile envoy takes."""
     bodies = [cluster('dns', type='STRICT_DNS', load_assignment=assignment('x')), cluster('dst', type='ORIGINAL_DST'),
@@ -64,12 +45,12 @@ def left_alone(check):
     chains = [dict(one['filter_chains'][0], filter_chain_match=TLS), {'filters': [{'name': 'mongo'}]}]
     tree = dump(clusters(*bodies), endpoints('file'), part('Listeners', dynamic_listeners=[
         {'name': 'in', 'active_state': {'listener': {**one, 'filter_chains': chains, 'default_filter_chain': chains[1]}}}]))
-    status, data, report, errors = adapted('--envoy', '--project', 'all', '--strict', data=tree)
+    status, data, report, errors = adapted('--project', 'all', '--strict', data=tree)
     found = [resource['resource'] for message in messages(data) for resource in message.get('resources', [])]
-    check({'stand-in', 'left-out', 'refused'}.isdisjoint(actions(report)) and all(body in found for body in bodies), f'adapt --envoy changes: {status} {report} {errors}')
-    check(any(body.get('filter_chains') == chains for body in found), f'adapt --envoy changes filter chains: {found}')
-    refused = actions(adapted('--project', 'none', data=tree)[2])['refused']
-    check(refused == 6, f'by the profile of its own {refused} of them are refused')
+    check({'stand-in', 'left-out', 'refused'}.isdisjoint(actions(report)) and all(body in found for body in bodies), f'adapt changes: {status} {report} {errors}')
+    check(any(body.get('filter_chains') == chains for body in found), f'adapt changes filter chains: {found}')
+    refused = actions(adapted('--own-profile', data=tree)[2])['refused']
+    check(refused == 6, f'by the own profile {refused} of them are refused')
 
 
 def stood_in(check):
@@ -81,9 +62,9 @@ def stood_in(check):
     named = cluster('named', load_assignment={'endpoints': [{'lb_endpoints': [{'endpoint': {'address': {'socket_address': {'address': 'a', 'named_port': 'x'}}}}]}]})
     tree = dump(clusters(named), part('Listeners', dynamic_listeners=[{'name': body['name'], 'active_state': {'listener': body}} for body in (quic, bare)]))
     for level, wanted in (('none', {'refused': 3}), ('safe', {'refused': 2, 'left-out': 1}), ('all', {'stand-in': 4})):
-        status, data, report, errors = adapted('--envoy', '--project', level, data=tree)
+        status, data, report, errors = adapted('--project', level, data=tree)
         found = {action: count for action, count in actions(report).items() if action not in ('made', 'nonce')}
-        check(status == 0 and found == wanted, f'adapt --envoy --project {level}: {found} {errors}')
+        check(status == 0 and found == wanted, f'adapt --project {level}: {found} {errors}')
     check(all(line['turns'] for line in report if line['action'] == 'stand-in'), f'a stand-in may turn an answer: {report}')
 
 
@@ -100,25 +81,34 @@ def probed(check):
         **listener('in', 80), 'filter_chains': chains, 'default_filter_chain': chain(204, {})}}}]))
     data = adapted(*ALL, data=tree)[1]
     found = [answer if isinstance(answer, str) else answer.get('status') for answer in answers(data)]
-    check(found == [201, 202, 203, 204], f'adapt --envoy --probe reaches {found}: {data}')
+    check(found == [201, 202, 203, 204], f'adapt --probe reaches {found}: {data}')
 
 
 def sent_again(check):
     """What Envoy has in place of what it refused comes again, and its endpoints with it: else it would warm on by this profile."""
     failed = {'version_info': '1', 'cluster': eds('a'), 'error_state': {'failed_configuration': {**eds('a'), 'lb_policy': 'MAGLEV'}, 'details': 'x'}}
     for more, wanted in (([endpoints('a')], ['eds', 'eds']), ([], ['fetchTimeout', 'fetchTimeout'])):
-        data = adapted('--envoy', '--auto', '--no-endpoints', data=dump(part('Clusters', dynamic_active_clusters=[failed]), *more))[1]
+        data = adapted('--auto', '--no-endpoints', data=dump(part('Clusters', dynamic_active_clusters=[failed]), *more))[1]
         lines = [line.response.kind if line.response else line.op for line in script.read_script(data).lines]
         check([word for word in lines if word in ('eds', 'fetchTimeout')] == wanted, f'endpoints of a cluster that is sent again: {lines}')
         check('ignored' not in answers(data, 'fetchTimeout') and answers(data, 'publish')[-1] == {'version': 2}, f'a cluster that is sent again warms on: {data}')
 
 
 def header(check):
-    """A script's own header says how it is read, and a recorded one gets the profile where it is asked for."""
-    text = b'{"workers":1,"profile":"envoy"}\n{"op":"connect"}\n'
-    status, data, _, errors = adapted('--project', 'all', data=text)
-    check(status == 0 and data.startswith(b'{"workers":1,"profile":"envoy"}\n'), f'adapt of a script of the profile: {data} {errors}')
-    status, data, _, errors = adapted('--envoy', '--sotw', data=text.replace(b',"profile":"envoy"', b''))
-    check(status == 0 and data.startswith(b'{"workers":1,"profile":"envoy"}\n'), f'adapt --envoy --sotw: {data} {errors}')
-    out = called(tool('adapt'), '--help')[1]
-    check('the program doesn\'t take it yet' in out, 'adapt --help says that the program doesn\'t take the profile yet')
+    """A script keeps the profile of its header, and all else gets envoy, where no option says otherwise."""
+    mine = b'{"workers":1}\n'
+    connect, other = b'{"op":"connect"}\n', b'{"workers":1,"profile":"envoy"}\n'
+    for data, words, wanted in ((mine, (), mine), (other, (), other), (mine, ('--envoy-profile',), other), (other, ('--own-profile',), mine),
+                                (other, ('--sotw',), other), (mine, ('--own-profile',), mine)):
+        status, out, report, errors = adapted('--project', 'all', *words, data=data + connect)
+        check(status == 0 and out.startswith(wanted), f'adapt {words} of a script with {data}: {out} {errors}')
+        turned = [line['turns'] for line in report if line['member'] == 'profile']
+        check(turned == [True] * (data != wanted), f'adapt {words} of a script with {data} reports {report}')
+    push = json.dumps({'typeUrl': URLS['cds'], 'nonce': '1', 'resources': []}).encode()
+    for words, wanted in (((), other), (('--own-profile',), mine), (('--envoy-profile',), other)):
+        check(adapted(*words, data=push)[1].startswith(wanted), f'adapt {words} of a response has not {wanted}')
+    accept = {'op': 'accept', 'worker': 0, 'conn': 1, 'address': 'a', 'port': 1, 'tls': True, 'alpn': ['h2'], 'headers': {'x': 'y'}, 'serverName': 'n'}
+    status, out, report, errors = adapted('--own-profile', data=other + json.dumps(accept).encode())
+    check(status == 0 and actions(report) == {'made': 1, 'left-out': 4}, f'adapt --own-profile of an accept by TLS: {status} {report} {errors}')
+    check(adapted('--own-profile', '--envoy-profile', data=push)[0] == 2, 'adapt takes both profiles')
+    check(adapted(data=b'{"workers":1,"profile":"Envoy"}\n' + connect)[0] == 3, 'adapt takes a profile that is none')
