@@ -14,7 +14,7 @@ use Rattle.ev_types.specs.declared.events.Event.{Event}
 use Rattle.ev_types.specs.declared.events.Event.TheVariants.{Connect, Disconnect, Response, Health, FetchTimeout, DrainTimeout, TtlExpired, Publish, Reap, Accept, Close, Settle}
 use Rattle.ev_types.specs.declared.journals.Format.{Format}
 use Rattle.ev_model.specs.declared.pictures.Choice.{Choice}
-use Rattle.ev_model.specs.declared.pictures.Choice.TheVariants.{NoListener, NoRoute, Local, Redirect, NoCluster, NoEndpoint, Served}
+use Rattle.ev_model.specs.declared.pictures.Choice.TheVariants.{NoListener, NoChain, Undecided, Elsewhere, NoRoute, Local, Redirect, NoCluster, NoEndpoint, Served}
 use Rattle.ev_model.specs.declared.pictures.Picture.{Picture}
 use Rattle.ev_model.specs.declared.pictures.Shown.{Shown}
 use Rattle.ev_model.specs.World.{World, OpenMember, nothing_shown, last_version}
@@ -71,6 +71,9 @@ module _ (number : ℕ) (picture : Picture) (opened : List OpenMember) where
 
       by : (choice : Choice) → filter (is_member number connection) (members_of worker other choice) ≡ []
       by NoListener = refl
+      by NoChain = refl
+      by (Undecided listener) = simp no refl
+      by (Elsewhere listener cluster) = simp no refl
       by (NoRoute listener) = simp no refl
       by (Local listener status) = simp no refl
       by (Redirect listener) = simp no refl

@@ -9,6 +9,7 @@ use Rattle.ev_types.specs.Scripts.{IsScript, items_in, items_of}
 use Rattle.ev_types.specs.declared.events.Line.{Line}
 use Rattle.ev_types.specs.declared.events.Actor.TheVariants.{Stream}
 use Rattle.ev_types.specs.declared.events.Event.TheVariants.{Connect}
+use Rattle.ev_types.specs.declared.events.Profile.TheVariants.{Own}
 use Rattle.ev_soak.specs.declared.forms.Form.{Form}
 use Rattle.ev_soak.specs.declared.forms.Form.TheVariants.{Clusters, Endpoints, Listeners, RouteTables, HealthResults, FetchTimeouts, DrainTimeouts, Removals, Settles, Accepts, Closes}
 use Rattle.ev_soak.specs.Draws.{next_state, behind, drawn}
@@ -128,6 +129,6 @@ all_drawn lines all count at state so_far =
 
 -- a script of these lines
 pub script_of : (seed count : ℕ) (node : List ℕ) (lines : List Line) → node ≡ codes "soak" → lines ≡ (soak_script seed count).lines → 1 ≤ count → count ≤ 100000
-    → IsScript record { workers = 2; auto = true; node = node; lines = lines; count = count + 1 }
+    → IsScript record { workers = 2; auto = true; profile = Own; node = node; lines = lines; count = count + 1 }
 script_of seed count node lines named are some few =
-    subst IsScript (λ i. record { workers = 2; auto = true; node = sym named i; lines = sym are i; count = count + 1 }) (is_script seed count some few)
+    subst IsScript (λ i. record { workers = 2; auto = true; profile = Own; node = sym named i; lines = sym are i; count = count + 1 }) (is_script seed count some few)

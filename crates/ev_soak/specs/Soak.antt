@@ -1,7 +1,8 @@
 -- The script of a seed: which lines it has, and what is drawn for each. This project's own.
-use Rattle.std.specs.Prelude.{ℕ, zero, suc, ◌+◌, ◌-◌, Bool, true, false, not, ◌==◌, nat_lt, if◌then◌else◌, List, [], ◌∷◌, ◌++◌, map, codes, decimal, Some}
+use Rattle.std.specs.Prelude.{ℕ, zero, suc, ◌+◌, ◌-◌, Bool, true, false, not, ◌==◌, nat_lt, if◌then◌else◌, List, [], ◌∷◌, ◌++◌, map, codes, decimal, Some, None}
 use Rattle.std.specs.List.{range_with_len}
 use Rattle.ev_types.specs.Hosts.{HostRowParts}
+use Rattle.ev_types.specs.Ips.{ip_of}
 use Rattle.ev_types.specs.Items.{ItemParts}
 use Rattle.ev_types.specs.Scripts.{ScriptParts}
 use Rattle.ev_types.specs.declared.clusters.Discovery.TheVariants.{Eds as by_service}
@@ -15,8 +16,13 @@ use Rattle.ev_types.specs.declared.events.Actor.TheVariants.{Stream, Health, Tim
 use Rattle.ev_types.specs.declared.events.Event.{Event}
 use Rattle.ev_types.specs.declared.events.Event.TheVariants.{Connect, Response, Health as health, FetchTimeout, DrainTimeout, Accept, Close, Settle}
 use Rattle.ev_types.specs.declared.events.Line.{Line}
+use Rattle.ev_types.specs.declared.events.Profile.TheVariants.{Own}
+use Rattle.ev_types.specs.declared.filter_chains.FilterChainMatch.{FilterChainMatch}
 use Rattle.ev_types.specs.declared.hosts.Host.{Host}
+use Rattle.ev_types.specs.declared.listeners.FilterChain.{FilterChain}
 use Rattle.ev_types.specs.declared.listeners.Serve.TheVariants.{Rds as by_routes}
+use Rattle.ev_types.specs.declared.matchers.PathSpecifier.TheVariants.{Cased}
+use Rattle.ev_types.specs.declared.matchers.RouteMatch.{RouteMatch}
 use Rattle.ev_types.specs.declared.routes.Action.TheVariants.{Forward}
 use Rattle.ev_types.specs.declared.routes.PathMatch.TheVariants.{Prefix}
 use Rattle.ev_types.specs.declared.routes.Target.TheVariants.{One}
@@ -56,21 +62,44 @@ listening port = record { address = codes "10.1.0.1"; port = port }
 abbrev pub cluster_content : ℕ → Bool → Content
 cluster_content n checked = Cluster (record {
   name = cluster_name n;
-  discovery = by_service (cluster_name n) true;
+  discovery = by_service (cluster_name n) true false;
   checked = checked;
+  body_text = [];
 })
 
 -- the first hosts, this many
 abbrev pub hosts_content : ℕ → Content
 hosts_content count = Assignment (map host_row (range_with_len 1 count))
 
+-- what a filter chain asks for that takes every connection
+abbrev pub no_criteria : FilterChainMatch
+no_criteria = record {
+  destination_port = None;
+  prefix_ranges = [];
+  server_names = [];
+  transport_protocol = None;
+  application_protocols = [];
+  asks_source = false;
+}
+
+-- a filter chain that takes every connection, with the routes of this number
+abbrev pub chain_for : ℕ → FilterChain
+chain_for n = record { criteria = no_criteria; serve = by_routes (routes_name n) true }
+
 -- the listener of this number, whose routes come by the name of this number
 abbrev pub listener_content : ℕ → ℕ → Content
 listener_content n port = Listener (record {
   name = listener_name n;
   address = listening port;
-  serve = by_routes (routes_name n) true;
+  takes_every_address = false;
+  filter_chains = chain_for n ∷ [];
+  default_filter_chain = None;
+  body_text = [];
 })
+
+-- every path is taken
+abbrev pub every_path : RouteMatch
+every_path = record { path = Cased (Prefix (codes "/")); conditions = [] }
 
 -- one virtual host for all, with one route for all paths, to the cluster of this number
 abbrev pub routes_content : ℕ → Content
@@ -78,7 +107,7 @@ routes_content n = Routes (record {
   hosts = record {
     name = codes "v";
     domains = codes "*" ∷ [];
-    routes = record { path = Prefix (codes "/"); action = Forward (One (cluster_name n)) } ∷ [];
+    routes = record { route_match = every_path; action = Forward (One (cluster_name n)) } ∷ [];
   } ∷ [];
 })
 
@@ -115,7 +144,18 @@ abbrev pub accept_line : ℕ → ℕ → ℕ → ℕ → ℕ → Line
 accept_line at worker connection port pick = record {
   at = at;
   actor = Worker worker;
-  event = Accept (record { conn = connection; address = listening port; host = codes "a"; path = codes "/"; pick = pick });
+  event = Accept (record {
+    conn = connection;
+    address = listening port;
+    ip = ip_of (listening port).address;
+    server_name = [];
+    tls = false;
+    alpn = [];
+    host = codes "a";
+    path = codes "/";
+    headers = [];
+    pick = pick;
+  });
 }
 
 abbrev pub close_line : ℕ → ℕ → ℕ → Line
@@ -182,6 +222,7 @@ abbrev pub soak_script : ℕ → ℕ → ScriptParts
 soak_script seed count = record {
   workers = 2;
   auto = true;
+  profile = Own;
   node = codes "soak";
   lines = record { at = 2; actor = Stream; event = Connect } ∷ lines_drawn (count - 1) 3 seed;
   count = count + 1;

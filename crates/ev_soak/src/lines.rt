@@ -11,7 +11,7 @@ use crate::parts::{
     listening, numbered_text, routes_content, routes_name,
 };
 use ev_types::{
-    Actor, Ask, Body, Content, Event, FetchTimeout, Item, Kind, Line, Name, Response, Seq, Text,
+    Actor, Ask, Body, Content, Event, FetchTimeout, Ip, Item, Kind, Line, Name, Response, Seq, Text,
 };
 use std::alloc::{AllocError, Global};
 
@@ -189,11 +189,17 @@ fn accepts(alloc: Global, draws: &mut Draws, at: u32) -> Result<Line, AllocError
     let conn = u64::from(draws.draw(200));
     let port = FIRST_PORT + draws.draw(6) as u16;
     let pick = u64::from(draws.draw(1000));
+    let address = listening(alloc, port)?;
     let ask = Ask {
         conn,
-        address: listening(alloc, port)?,
+        ip: Ip::read(address.address.as_str()),
+        address,
+        server_name: Text::new(alloc, "")?,
+        tls: false,
+        alpn: Seq::new(alloc),
         host: Text::new(alloc, "a")?,
         path: Text::new(alloc, "/")?,
+        headers: Seq::new(alloc),
         pick,
     };
     Ok(Line {

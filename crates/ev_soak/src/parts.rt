@@ -4,11 +4,12 @@ ghost use Rattle.ev_types.specs.Items.{IsOwnName, content_kind};
 ghost use Rattle.ev_types.specs.declared.contents.Body.TheVariants.{Good};
 ghost use Rattle.ev_types.specs.declared.contents.Kind.TheVariants.{Cds, Eds, Lds, Rds};
 ghost use Rattle.ev_types.specs.declared.limits.TheConstants.{ROW_LIMIT};
-ghost use Rattle.ev_soak.specs.Soak.{numbered, cluster_name, listener_name, routes_name, host_numbered, host_row, listening, cluster_content, hosts_content, listener_content, routes_content};
+ghost use Rattle.ev_soak.specs.Soak.{numbered, cluster_name, listener_name, routes_name, host_numbered, host_row, listening, cluster_content, hosts_content, no_criteria, chain_for, listener_content, routes_content};
 
 use ev_types::{
-    Action, Assignment, Cluster, Content, Discovery, Host, HostRow, Listener, Name, NameError,
-    PathMatch, Route, RouteTable, Seq, Serve, Shared, Target, Text, VirtualHost,
+    Action, Assignment, Cluster, Content, Discovery, FilterChain, FilterChainMatch, Host, HostRow,
+    Listener, Name, NameError, PathMatch, PathSpecifier, Route, RouteMatch, RouteTable, Seq, Serve,
+    Shared, Target, Text, VirtualHost,
 };
 use std::alloc::{AllocError, Global};
 
@@ -88,8 +89,10 @@ pub(crate) fn cluster_content(
         discovery: Discovery::Eds {
             service: cluster_name(alloc, number)?,
             limited: true,
+            fresh: false,
         },
         checked,
+        body_text: Text::new(alloc, "")?,
     };
     Ok(Content::Cluster(Shared::new(alloc, cluster)?))
 }
@@ -130,12 +133,39 @@ pub(crate) fn listener_content(alloc: Global, number: u32, port: u16) -> Result<
     let listener = Listener {
         name: listener_name(alloc, number)?,
         address: listening(alloc, port)?,
+        takes_every_address: false,
+        filter_chains: Seq::from_vec(vec![in alloc; chain_for(alloc, number)?]?),
+        default_filter_chain: None,
+        body_text: Text::new(alloc, "")?,
+    };
+    Ok(Content::Listener(Shared::new(alloc, listener)?))
+}
+
+// A filter chain that takes every connection, with the routes of this number.
+fn chain_for(alloc: Global, number: u32) -> Result<FilterChain, AllocError>
+    ensures { IfOk result (λ chain. chain ≡ chain_for number) }
+{
+    Ok(FilterChain {
+        criteria: Shared::new(alloc, no_criteria(alloc))?,
         serve: Serve::Rds {
             name: routes_name(alloc, number)?,
             limited: true,
         },
-    };
-    Ok(Content::Listener(Shared::new(alloc, listener)?))
+    })
+}
+
+// What a filter chain asks for that takes every connection.
+fn no_criteria(alloc: Global) -> FilterChainMatch
+    ensures { result ≡ no_criteria }
+{
+    FilterChainMatch {
+        destination_port: None,
+        prefix_ranges: Seq::new(alloc),
+        server_names: Seq::new(alloc),
+        transport_protocol: None,
+        application_protocols: Seq::new(alloc),
+        asks_source: false,
+    }
 }
 
 // Routes to the cluster of this number.
@@ -143,7 +173,10 @@ pub(crate) fn routes_content(alloc: Global, number: u32) -> Result<Content, Allo
     ensures { IfOk result (λ content. content ≡ routes_content number) }
 {
     let route = Route {
-        path: PathMatch::Prefix(Text::new(alloc, "/")?),
+        route_match: RouteMatch {
+            path: PathSpecifier::Cased(PathMatch::Prefix(Text::new(alloc, "/")?)),
+            conditions: Seq::new(alloc),
+        },
         action: Action::Forward(Target::One(numbered_text(alloc, "c", number)?)),
     };
     let host = VirtualHost {

@@ -3,7 +3,7 @@ ghost use Rattle.ev_soak.specs.Soak.{soak_script};
 
 use crate::draws::Draws;
 use crate::lines::draw_line;
-use ev_types::{Actor, Event, Line, Script, Seq, Text};
+use ev_types::{Actor, Event, Line, Profile, Script, Seq, Text};
 use std::alloc::{AllocError, Global};
 
 /// The most lines that a script of a seed has after its header.
@@ -19,6 +19,7 @@ pub fn script(alloc: Global, seed: u64, count: u32) -> Result<Script, AllocError
     Ok(Script {
         workers: 2,
         auto: true,
+        profile: Profile::Own,
         node: Text::new(alloc, "soak")?,
         lines,
         count: count + 1,

@@ -2,7 +2,7 @@
 use Rattle.std.specs.Prelude.{ℕ, Bool, true, false, not, List, filter, length}
 use Rattle.std.specs.List.{list_any, flat_map}
 use Rattle.ev_types.specs.declared.events.Answer.{Answer}
-use Rattle.ev_types.specs.declared.events.Answer.TheVariants.{Ignored, Done, Moved, Replied, Version, Unchanged, Reaped, InUse, NoListener, NoRoute, Redirect, NoCluster, NoEndpoint, Local, Served, NotOpen, Settled}
+use Rattle.ev_types.specs.declared.events.Answer.TheVariants.{Ignored, Done, Moved, Replied, Version, Unchanged, Reaped, InUse, NoListener, NoChain, Undecided, Elsewhere, NoRoute, Redirect, NoCluster, NoEndpoint, Local, Served, NotOpen, Settled}
 use Rattle.ev_types.specs.declared.events.Entry.{Entry}
 use Rattle.ev_types.specs.declared.events.Verdict.{Verdict}
 use Rattle.ev_types.specs.declared.events.Verdict.TheVariants.{New, Same, Kept, Unasked, Renewed, Refused}
@@ -30,7 +30,7 @@ abbrev pub is_nack : Answer → Bool
 is_nack (Replied requests verdicts) = list_any is_refusal verdicts
 is_nack answer = false
 
--- an accept opens a connection: a listener takes it, whatever becomes of it there
+-- an accept opens a connection: a filter chain of a listener takes it, whatever becomes of it there
 abbrev pub is_opened : Answer → Bool
 is_opened Ignored = false
 is_opened Done = false
@@ -41,6 +41,9 @@ is_opened Unchanged = false
 is_opened (Reaped numbers) = false
 is_opened InUse = false
 is_opened NoListener = false
+is_opened NoChain = false
+is_opened (Undecided listener) = true
+is_opened (Elsewhere listener cluster) = true
 is_opened (NoRoute listener) = true
 is_opened (Redirect listener) = true
 is_opened (NoCluster listener) = true

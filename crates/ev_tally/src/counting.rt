@@ -122,13 +122,15 @@ fn is_refusal(verdict: Verdict) -> bool
     matches!(verdict, Verdict::Refused(_))
 }
 
-// Whether an accept opened a connection: a listener took it, whatever became of it there.
+// Whether an accept opened a connection: a filter chain of a listener took it, whatever became of it there.
 fn is_opened(answer: &Answer) -> bool
     ensures { result ≡ is_opened answer.now }
 {
     matches!(
         answer,
-        Answer::NoRoute { .. }
+        Answer::Undecided { .. }
+            | Answer::Elsewhere { .. }
+            | Answer::NoRoute { .. }
             | Answer::Redirect { .. }
             | Answer::NoCluster { .. }
             | Answer::NoEndpoint { .. }

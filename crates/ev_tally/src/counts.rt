@@ -5,7 +5,7 @@ pub struct Tally {
     pub acks: u64,
     /// The responses that were answered, one of whose resources is refused.
     pub nacks: u64,
-    /// The accepts that opened a connection: a listener took them, whatever became of them there.
+    /// The accepts that opened a connection: a filter chain of a listener took them, whatever became of them there.
     pub opened: u64,
     /// The accepts that were answered with a host.
     pub served: u64,

@@ -1,6 +1,7 @@
-use ev_model::{Picture, Routing, ServedCluster, ServedListener, Shown};
+use ev_model::{Picture, Routing, ServedChain, ServedCluster, ServedListener, Shown};
 use ev_types::{
-    Assignment, Gen, Host, HostRow, Name, RouteTable, Seq, Shared, Target, Text, TryCopy,
+    Assignment, FilterChainMatch, Gen, Host, HostRow, Name, RouteTable, Seq, Shared, Target, Text,
+    TryCopy,
 };
 use std::alloc::Global;
 use std::mem::drop;
@@ -27,6 +28,7 @@ fn cluster(alloc: Global) -> Result<ServedCluster, Fail> {
         number: Gen::new(1),
         name,
         hosts: Assignment::new(rows),
+        elsewhere: false,
     })
 }
 
@@ -41,6 +43,23 @@ fn routing(alloc: Global, tcp: bool) -> Result<Routing, Fail> {
     Ok(Routing::Table(Shared::new(alloc, table)?))
 }
 
+// A filter chain that takes every connection.
+fn chain(alloc: Global, tcp: bool) -> Result<ServedChain, Fail> {
+    let criteria = FilterChainMatch {
+        destination_port: None,
+        prefix_ranges: Seq::new(alloc),
+        server_names: Seq::new(alloc),
+        transport_protocol: None,
+        application_protocols: Seq::new(alloc),
+        asks_source: false,
+    };
+    let routing = routing(alloc, tcp)?;
+    Ok(ServedChain {
+        criteria: Shared::new(alloc, criteria)?,
+        routing,
+    })
+}
+
 fn listeners(
     alloc: Global,
     number: Gen,
@@ -49,12 +68,14 @@ fn listeners(
 ) -> Result<Seq<ServedListener>, Fail> {
     let name = Name::new(alloc, "in")?;
     let address = host(alloc, port)?;
-    let routing = routing(alloc, tcp)?;
+    let chain = chain(alloc, tcp)?;
     let listener = ServedListener {
         number,
         name,
         address,
-        routing,
+        takes_every_address: false,
+        filter_chains: Seq::from_vec(vec![in alloc; chain]?),
+        default_filter_chain: None,
     };
     Ok(Seq::from_vec(vec![in alloc; listener]?))
 }

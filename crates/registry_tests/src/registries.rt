@@ -7,7 +7,7 @@ use ev_journal::render_journal;
 use ev_mentions::LiveRow;
 use ev_model_laws::{acknowledges_exactly, has_a_replay, has_one_replay, replay_holds_operations};
 use ev_registry::Registry;
-use ev_types::{Actor, Body, Event, Format, Gen, Response, Text, Verdict};
+use ev_types::{Actor, Body, Event, Format, Gen, Profile, Response, Text, Verdict};
 use ev_verdicts::{Listed, verdicts};
 use ev_wire::read_response;
 use serde_json::Value;
@@ -17,7 +17,7 @@ use std::test::Fail;
 
 fn read(alloc: Global, message: &str) -> Result<Response, Fail> {
     let tree = Value::from_str(alloc, message)?;
-    Ok(read_response(alloc, &tree)?)
+    Ok(read_response(alloc, Profile::Own, &tree)?)
 }
 
 // The resources of a response as live generations.

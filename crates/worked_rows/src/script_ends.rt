@@ -62,6 +62,7 @@ fn trees_text(alloc: Global, trees: &ScriptTrees) -> io::Result<String> {
         workers,
         auto,
         node,
+        profile: _,
     } = &trees.header;
     let node = node.as_str();
     let count = trees.lines.len().saturating_add(1);
