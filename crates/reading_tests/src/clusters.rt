@@ -1,5 +1,5 @@
 use ev_cluster_json::{read_assignment, read_cluster};
-use ev_types::{Assignment, Cluster, Discovery};
+use ev_types::{Assignment, Cluster, Discovery, Profile};
 use serde_json::Value;
 use std::alloc::{AllocError, Global};
 use std::test::Fail;
@@ -30,10 +30,25 @@ pub(crate) const CLUSTERS: &str = r#"[
   ["V11", {"name":"a","connectTimeout":"0s","loadAssignment":{"endpoints":[{"lbEndpoints":[{}],"priority":200}]}}],
   ["V12", {"name":"a","loadAssignment":{"endpoints":[{"priority":200},{"lbEndpoints":[{}]}]}}],
   ["V6", {"name":"a","loadAssignment":{"endpoints":[{"priority":200},{"lbEndpoints":[null]}]}}],
-  ["a by a, limited true, checked false", {"name":"a","type":"EDS","edsClusterConfig":{"edsConfig":{"ads":{}}},"loadAssignment":7}],
+  ["a by a, limited true, fresh false, checked false", {"name":"a","type":"EDS","edsClusterConfig":{"edsConfig":{"ads":{}}},"loadAssignment":7}],
   ["a static, checked false", {"name":"a","type":null,"loadAssignment":null,"edsClusterConfig":null,"healthChecks":null}],
   ["V6", {"name":"a","loadAssignment":7}],
   ["V6", {"name":"a","edsClusterConfig":{"edsConfig":"ads"}}]
+]"#;
+
+// The same as Envoy reads them.
+pub(crate) const ENVOY_CLUSTERS: &str = r#"[
+  ["a static, checked false", {"name":"a"}],
+  ["a static, checked false", {"name":"a","type":"STRICT_DNS","loadAssignment":{"endpoints":[{"lbEndpoints":[{%}]}]}}],
+  ["V12", {"name":"a","type":2,"loadAssignment":{"endpoints":[{"lbEndpoints":[{}]}]}}],
+  ["a elsewhere, checked false", {"name":"a","type":"ORIGINAL_DST","loadAssignment":7}],
+  ["a elsewhere, checked true", {"name":"a","type":"EDS","clusterType":{},"healthChecks":[{}]}],
+  ["a by b, limited true, fresh true, checked false", {"name":"a","type":3,"edsClusterConfig":{"serviceName":"b","edsConfig":{"pathConfigSource":{"path":"/x"}}}}],
+  ["V6", {"name":"a","type":"EDS","clusterType":7}],
+  ["V8", {"name":"a","type":"EDS"}],
+  ["V9", {"name":"a","type":"EDS","clusterType":{},"edsClusterConfig":{"edsConfig":{"ads":{}}}}],
+  ["V9", {"name":"a","type":"LOGICAL_DNS","edsClusterConfig":{"edsConfig":{"ads":{}}}}],
+  ["V10", {"name":"a","type":"EDS","edsClusterConfig":{"edsConfig":{"ads":{},"path":"/x"}}}]
 ]"#;
 
 // The same of assignments: `address:port*weight@priority` of each host, with `+` where it is usable and `-` where it isn't.
@@ -55,9 +70,16 @@ pub(crate) const ASSIGNMENTS: &str = r#"[
   ["V6", {"endpoints":[{"lbEndpoints":[{%,"loadBalancingWeight":0},{}]},{"lbEndpoints":[{"healthStatus":"SICK"}]}]}]
 ]"#;
 
+// The same as Envoy reads them.
+pub(crate) const ENVOY_ASSIGNMENTS: &str = r#"[
+  ["a:1*1@0+ pipe:/x:0*1@0+ ", {"endpoints":[{"lbEndpoints":[{%},{"endpoint":{"address":{"pipe":{"path":"/x"}}}}]}]}],
+  ["internal:l/i:0*2@1- ", {"endpoints":[{"priority":1,"lbEndpoints":[{"endpoint":{"address":{"envoyInternalAddress":{"serverListenerName":"l","endpointId":"i"}}},"healthStatus":2,"loadBalancingWeight":2}]}]}],
+  ["V12", {"endpoints":[{"lbEndpoints":[{"endpoint":{"address":{"pipe":{"path":"/x"},"socketAddress":{"address":"a","portValue":1}}}}]}]}]
+]"#;
+
 // Clusters as control planes write them; the profile passes over most of their fields.
 pub(crate) const CLUSTERS_OF_CONTROL_PLANES: &str = r#"[
-  ["outbound|9080||reviews.default.svc.cluster.local by outbound|9080||reviews.default.svc.cluster.local, limited false, checked true", {"@type":"type.googleapis.com/envoy.config.cluster.v3.Cluster",
+  ["outbound|9080||reviews.default.svc.cluster.local by outbound|9080||reviews.default.svc.cluster.local, limited false, fresh false, checked true", {"@type":"type.googleapis.com/envoy.config.cluster.v3.Cluster",
             "name":"outbound|9080||reviews.default.svc.cluster.local","type":"EDS",
             "edsClusterConfig":{"edsConfig":{"ads":{},"initialFetchTimeout":"0s","resourceApiVersion":"V3"},
             "serviceName":"outbound|9080||reviews.default.svc.cluster.local"},"connectTimeout":"10s",
@@ -66,7 +88,7 @@ pub(crate) const CLUSTERS_OF_CONTROL_PLANES: &str = r#"[
             "typedExtensionProtocolOptions":{"envoy.extensions.upstreams.http.v3.HttpProtocolOptions":{"@type":"x"}},
             "outlierDetection":{"consecutive5xx":5},"transportSocket":{"name":"tls"},
             "commonLbConfig":{"localityWeightedLbConfig":{}},"metadata":{"filterMetadata":{"istio":{}}}}],
-  ["b by b, limited true, checked false", {"name":"b","type":3,"edsClusterConfig":{"edsConfig":{"self":{}}}}]
+  ["b by b, limited true, fresh false, checked false", {"name":"b","type":3,"edsClusterConfig":{"edsConfig":{"self":{}}}}]
 ]"#;
 
 // The same of an assignment.
@@ -85,16 +107,21 @@ fn describe_cluster(alloc: Global, cluster: &Cluster) -> Result<String, AllocErr
     let (name, checked) = (cluster.name.as_str(), cluster.checked);
     match &cluster.discovery {
         Discovery::Static(_) => format!(in alloc; "{name} static, checked {checked}"),
-        Discovery::Eds { service, limited } => {
-            let (service, limited) = (service.as_str(), *limited);
-            format!(in alloc; "{name} by {service}, limited {limited}, checked {checked}")
+        Discovery::Eds {
+            service,
+            limited,
+            fresh,
+        } => {
+            let (service, limited, fresh) = (service.as_str(), *limited, *fresh);
+            format!(in alloc; "{name} by {service}, limited {limited}, fresh {fresh}, checked {checked}")
         }
+        Discovery::Elsewhere => format!(in alloc; "{name} elsewhere, checked {checked}"),
     }
 }
 
 // What a cluster reads as: its content, or the rule that refuses it.
-pub(crate) fn tell_cluster(alloc: Global, body: &Value) -> Result<String, Fail> {
-    match read_cluster(alloc, body) {
+pub(crate) fn tell_cluster(alloc: Global, profile: Profile, body: &Value) -> Result<String, Fail> {
+    match read_cluster(alloc, profile, body) {
         Ok(cluster) => {
             let text = describe_cluster(alloc, &cluster);
             drop(cluster);
@@ -117,8 +144,12 @@ fn describe_assignment(alloc: Global, assignment: &Assignment) -> Result<String,
 }
 
 // What an assignment reads as: its hosts, or the rule that refuses it.
-pub(crate) fn tell_assignment(alloc: Global, body: &Value) -> Result<String, Fail> {
-    match read_assignment(alloc, body) {
+pub(crate) fn tell_assignment(
+    alloc: Global,
+    profile: Profile,
+    body: &Value,
+) -> Result<String, Fail> {
+    match read_assignment(alloc, profile, body) {
         Ok(assignment) => {
             let text = describe_assignment(alloc, &assignment);
             drop(assignment);

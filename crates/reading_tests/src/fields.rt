@@ -1,7 +1,9 @@
 use ev_tree::{
-    BrokenRules, EnumTable, ReadError, Span, boolean, config_source, duration, enumeration, field,
-    is_not_positive, list, member, number32, object, socket_address, text,
+    AnyAddress, BrokenRules, EnumTable, ReadError, Span, any_address, body_text, boolean,
+    config_source, duration, enumeration, field, is_not_positive, list, member, number32, object,
+    text,
 };
+use ev_types::Profile;
 use serde_json::Value;
 use std::alloc::Global;
 use std::process::Abort;
@@ -61,10 +63,10 @@ pub(crate) const DURATIONS: &str = r#"[
   ["V6", {"connectTimeout":"1ms"}]
 ]"#;
 
-// Holders of an address, each after whether it breaks V6 and V12.
+// Holders of an address, each after the address, or whether it breaks V6 and V12.
 pub(crate) const ADDRESSES: &str = r#"[
-  ["V6 false, V12 false", {"address":{"socketAddress":{"address":"10.0.0.1","portValue":80}}}],
-  ["V6 false, V12 false", {"address":{"socket_address":{"address":"10.0.0.1","port_value":"65535"}}}],
+  ["10.0.0.1:80", {"address":{"socketAddress":{"address":"10.0.0.1","portValue":80}}}],
+  ["10.0.0.1:65535", {"address":{"socket_address":{"address":"10.0.0.1","port_value":"65535"}}}],
   ["V6 false, V12 true", {"address":{"socketAddress":{"address":"10.0.0.1","portValue":65536}}}],
   ["V6 false, V12 true", {"address":{"socketAddress":{"address":"","portValue":80}}}],
   ["V6 false, V12 true", {"address":{"socketAddress":{"address":"10.0.0.1","namedPort":"http"}}}],
@@ -72,6 +74,21 @@ pub(crate) const ADDRESSES: &str = r#"[
   ["V6 false, V12 true", {}],
   ["V6 true, V12 true", {"address":{"socketAddress":{"address":"10.0.0.1","portValue":-1}}}],
   ["V6 true, V12 true", {"address":"10.0.0.1:80"}]
+]"#;
+
+// The same as Envoy reads them: an address of any one kind.
+pub(crate) const ENVOY_ADDRESSES: &str = r#"[
+  ["10.0.0.1:80", {"address":{"socketAddress":{"address":"10.0.0.1","portValue":80}}}],
+  ["pipe:/run/x:0", {"address":{"pipe":{"path":"/run/x"}}}],
+  ["internal:in:0", {"address":{"envoyInternalAddress":{"serverListenerName":"in","endpointId":""}}}],
+  ["internal:in/7:0", {"address":{"envoy_internal_address":{"server_listener_name":"in","endpoint_id":"7"}}}],
+  ["V6 false, V12 true", {"address":{"pipe":{"path":""}}}],
+  ["V6 false, V12 true", {"address":{"pipe":{"path":"^"}}}],
+  ["V6 false, V12 true", {"address":{"envoyInternalAddress":{"endpointId":"7"}}}],
+  ["V6 false, V12 true", {"address":{"pipe":{"path":"/run/x"},"socketAddress":{"address":"10.0.0.1","portValue":80}}}],
+  ["V6 false, V12 true", {"address":{}}],
+  ["V6 true, V12 false", {"address":{"pipe":{"path":"/run/x"},"socketAddress":80}}],
+  ["V6 true, V12 true", {"address":{"pipe":{"path":7}}}]
 ]"#;
 
 // Config sources, each after whether its wait ends, and whether it breaks V6 and V10.
@@ -86,6 +103,30 @@ pub(crate) const SOURCES: &str = r#"[
   ["limited true, V6 false, V10 true", {}],
   ["limited true, V6 true, V10 false", {"ads":{},"path_config_source":{},"pathConfigSource":{}}],
   ["limited true, V6 true, V10 true", {"ads":[]}]
+]"#;
+
+// The same as Envoy reads them: any one source will do.
+pub(crate) const ENVOY_SOURCES: &str = r#"[
+  ["limited true, V6 false, V10 false", {"ads":{}}],
+  ["limited false, V6 false, V10 false", {"path":"/etc/x","initialFetchTimeout":"0s"}],
+  ["limited true, V6 false, V10 false", {"pathConfigSource":7}],
+  ["limited true, V6 false, V10 false", {"apiConfigSource":{"apiType":"GRPC"},"path":null}],
+  ["limited true, V6 false, V10 true", {"ads":{},"path":""}],
+  ["limited true, V6 false, V10 true", {"path":"/etc/x","initialFetchTimeout":"-1s"}],
+  ["limited true, V6 false, V10 true", {}],
+  ["limited true, V6 true, V10 false", {"ads":{},"path_config_source":{},"pathConfigSource":{}}],
+  ["limited true, V6 true, V10 true", {"self":1}]
+]"#;
+
+// Bodies, each after the text by which a change of it is told, with -1 for each float.
+pub(crate) const BODIES: &str = r#"[
+  ["{\"n\":[-1,7,-1],\"name\":\"a\",\"z\":null}", {"name":"a","z":null,"n":[0.5,7,18446744073709551616]}],
+  ["{}", {}]
+]"#;
+
+// The same by the own rules, which compare the fields that are read alone.
+pub(crate) const OWN_BODIES: &str = r#"[
+  ["", {"name":"a"}]
 ]"#;
 
 // The number that a field writes.
@@ -108,17 +149,34 @@ pub(crate) fn tell_duration(alloc: Global, body: &Value) -> Result<String, Fail>
     })
 }
 
-// Whether the holder of an address breaks V6 and V12.
-pub(crate) fn tell_address(alloc: Global, body: &Value) -> Result<String, Fail> {
-    let broken = socket_address(alloc, Some(body))?.broken;
-    Ok(format!(in alloc; "V6 {}, V12 {}", broken.v6, broken.v12)?)
+// The address in a holder, or whether the holder breaks V6 and V12.
+pub(crate) fn tell_address(alloc: Global, profile: Profile, body: &Value) -> Result<String, Fail> {
+    let found = any_address(alloc, profile, Some(body))?;
+    describe_address(alloc, found)
+}
+
+// The same of what is found of an address.
+fn describe_address(alloc: Global, found: AnyAddress<'_>) -> Result<String, Fail> {
+    let broken = found.broken;
+    if broken.v6 || broken.v12 {
+        return Ok(format!(in alloc; "V6 {}, V12 {}", broken.v6, broken.v12)?);
+    }
+    let text = found.text.to_text(alloc)?;
+    let port = found.port;
+    Ok(format!(in alloc; "{text}:{port}")?)
 }
 
 // Whether the wait of a config source ends, and whether the source breaks V6 and V10.
-pub(crate) fn tell_source(alloc: Global, body: &Value) -> Result<String, Fail> {
-    let found = config_source(alloc, Some(body))?;
+pub(crate) fn tell_source(alloc: Global, profile: Profile, body: &Value) -> Result<String, Fail> {
+    let found = config_source(alloc, profile, Some(body))?;
     let (v6, v10) = (found.broken.v6, found.broken.v10);
     Ok(format!(in alloc; "limited {}, V6 {v6}, V10 {v10}", found.limited)?)
+}
+
+// The text by which a change of a body is told.
+pub(crate) fn tell_body(alloc: Global, profile: Profile, body: &Value) -> Result<String, Fail> {
+    let text = body_text(alloc, profile, body)?;
+    Ok(String::from_str(alloc, text.as_str())?)
 }
 
 // An object with fields of each form.

@@ -1,16 +1,79 @@
 use ev_listener_json::read_listener;
-use ev_types::{Listener, Serve, Target};
+use ev_types::{
+    CidrRange, FilterChain, FilterChainMatch, Ip, Listener, Profile, Seq, Serve, Target, Text,
+};
 use serde_json::Value;
 use std::alloc::{AllocError, Global};
 use std::test::Fail;
 
-// The listener as text.
+// The listener as text: each chain, and what is served where none takes a connection.
 fn describe(alloc: Global, listener: &Listener) -> Result<String, AllocError> {
-    let serve = describe_serve(alloc, &listener.serve)?;
     let name = listener.name.as_str();
     let address = listener.address.address.as_str();
     let port = listener.address.port;
-    format!(in alloc; "{name} at {address}:{port} serves {serve}")
+    let mut text = format!(in alloc; "{name} at {address}:{port}")?;
+    if listener.takes_every_address {
+        text.push_str(" and every address")?;
+    }
+    for chain in listener.filter_chains.as_slice() {
+        describe_chain(alloc, &mut text, chain)?;
+    }
+    if let Some(serve) = &listener.default_filter_chain {
+        text.push_str(" else ")?;
+        text.push_str(describe_serve(alloc, serve)?.as_str())?;
+    }
+    Ok(text)
+}
+
+// A chain as text: what it asks for, and what it serves.
+fn describe_chain(alloc: Global, text: &mut String, chain: &FilterChain) -> Result<(), AllocError> {
+    describe_criteria(alloc, text, chain.criteria.get())?;
+    text.push_str(" serves ")?;
+    text.push_str(describe_serve(alloc, &chain.serve)?.as_str())
+}
+
+// What a chain asks for, as text.
+fn describe_criteria(
+    alloc: Global,
+    text: &mut String,
+    criteria: &FilterChainMatch,
+) -> Result<(), AllocError> {
+    if let Some(port) = criteria.destination_port {
+        text.push_str(format!(in alloc; " port {port}")?.as_str())?;
+    }
+    for range in criteria.prefix_ranges.as_slice() {
+        describe_range(alloc, text, range)?;
+    }
+    describe_texts(text, " name ", &criteria.server_names)?;
+    if let Some(transport) = &criteria.transport_protocol {
+        text.push_str(" over ")?;
+        text.push_str(transport.as_str())?;
+    }
+    describe_texts(text, " protocol ", &criteria.application_protocols)?;
+    text.push_str(if criteria.asks_source {
+        " by source"
+    } else {
+        ""
+    })
+}
+
+// A range as text: its family, its bits as a number, and its length.
+fn describe_range(alloc: Global, text: &mut String, range: &CidrRange) -> Result<(), AllocError> {
+    let length = range.prefix_len;
+    let told = match range.prefix {
+        Ip::V4(bits) => format!(in alloc; " IPv4 {bits}/{length}")?,
+        Ip::V6(bits) => format!(in alloc; " IPv6 {bits}/{length}")?,
+    };
+    text.push_str(told.as_str())
+}
+
+// Each of these texts after a word.
+fn describe_texts(text: &mut String, word: &str, texts: &Seq<Text>) -> Result<(), AllocError> {
+    for other in texts.as_slice() {
+        text.push_str(word)?;
+        text.push_str(other.as_str())?;
+    }
+    Ok(())
 }
 
 // What is served, as text.
@@ -33,12 +96,14 @@ fn describe_serve(alloc: Global, serve: &Serve) -> Result<String, AllocError> {
             let count = clusters.clusters().len();
             format!(in alloc; "{count} clusters")
         }
+        Serve::Tcp(Target::Elsewhere) => String::from_str(alloc, "a cluster elsewhere"),
+        Serve::Other => String::from_str(alloc, "other"),
     }
 }
 
 // What a listener reads as: its content, or the rule that refuses it.
-pub(crate) fn tell_listener(alloc: Global, body: &Value) -> Result<String, Fail> {
-    match read_listener(alloc, body) {
+pub(crate) fn tell_listener(alloc: Global, profile: Profile, body: &Value) -> Result<String, Fail> {
+    match read_listener(alloc, profile, body) {
         Ok(listener) => {
             let text = describe(alloc, &listener);
             drop(listener);
@@ -57,19 +122,26 @@ const MANAGER: &str =
     r#"{"name":"in","address":{"socket_address":{"address":"10.1.0.1","port_value":8080}},"filter_chains":[{"filters":[{"typed_config":{"@type":"type.googleapis.com/envoy.extensions.filters.network.http_connection_manager.v3.HttpConnectionManager","#;
 
 // The same of the listener whose text is that of a case between two texts.
-fn tell_between(alloc: Global, before: &str, case: &str, after: &str) -> Result<String, Fail> {
+fn tell_between(
+    alloc: Global,
+    profile: Profile,
+    before: &str,
+    case: &str,
+    after: &str,
+) -> Result<String, Fail> {
     let text = format!(in alloc; "{before}{case}{after}")?;
     let body = Value::from_str(alloc, text.as_str())?;
-    let told = tell_listener(alloc, &body);
+    let told = tell_listener(alloc, profile, &body);
     drop(body);
     told
 }
 
 // The same of a good listener with the members of a case.
-pub(crate) fn tell_members(alloc: Global, case: &Value) -> Result<String, Fail> {
+pub(crate) fn tell_members(alloc: Global, profile: Profile, case: &Value) -> Result<String, Fail> {
     let members = case.to_string(alloc)?;
     tell_between(
         alloc,
+        profile,
         LISTENER,
         members.as_str().trim_start_matches('{'),
         "",
@@ -77,10 +149,11 @@ pub(crate) fn tell_members(alloc: Global, case: &Value) -> Result<String, Fail> 
 }
 
 // The same of a listener with a connection manager of the members of a case.
-pub(crate) fn tell_manager(alloc: Global, case: &Value) -> Result<String, Fail> {
+pub(crate) fn tell_manager(alloc: Global, profile: Profile, case: &Value) -> Result<String, Fail> {
     let members = case.to_string(alloc)?;
     tell_between(
         alloc,
+        profile,
         MANAGER,
         members.as_str().trim_start_matches('{'),
         "}]}]}",
@@ -133,7 +206,35 @@ pub(crate) const LISTENERS: &str = r#"[
   ["V24", {"filter_chains":[{"filters":[{"typed_config":{"@type":"type.googleapis.com/envoy.extensions.filters.network.tcp_proxy.v3.TcpProxy","weighted_clusters":{"clusters":[{"name":"a"}]}}}]}]}]
 ]"#;
 
-// The same of the members of its connection manager.
+// The same as Envoy reads them.
+pub(crate) const ENVOY_LISTENERS: &str = r#"[
+  ["in at 10.1.0.1:8080 serves cluster c", {"stat_prefix":0}],
+  ["in at pipe:/s:0 serves cluster c", {"address":{"pipe":{"path":"/s"}}}],
+  ["in at 0.0.0.0:80 and every address serves cluster c", {"address":{"socket_address":{"address":"0.0.0.0","port_value":80}}}],
+  ["in at internal:in:0 serves cluster c", {"address":null,"internal_listener":{}}],
+  ["in at api:in:0 serves 0 hosts", {"address":null,"internal_listener":{},"api_listener":{"api_listener":{"@type":"type.googleapis.com/envoy.extensions.filters.network.http_connection_manager.v3.HttpConnectionManager","route_config":{}}},"filter_chains":7,"default_filter_chain":{}}],
+  ["in at 10.1.0.1:8080 else other", {"filter_chains":[],"default_filter_chain":{"filter_chain_match":7}}],
+  ["in at 10.1.0.1:8080 serves other", {"filter_chains":[{"filters":[{"typed_config":{"@type":"x"}}]}]}],
+  ["in at 10.1.0.1:8080 port 80 IPv4 10/8 IPv6 0/0 name *.a over tls protocol h2 protocol H serves other", {"filter_chains":[{"filter_chain_match":{"destination_port":80,"prefix_ranges":[{"address_prefix":"10.1.2.3","prefix_len":8},{"address_prefix":"::1"}],"server_names":["*.A"],"transport_protocol":"tls","application_protocols":["h2","H"]}}]}],
+  ["in at 10.1.0.1:8080 serves other by source serves other", {"filter_chains":[{"filter_chain_match":{"transport_protocol":"","source_type":"ANY"}},{"filter_chain_match":{"source_ports":["1"]}}]}],
+  ["V6", {"api_listener":7,"filter_chains":[]}],
+  ["V6", {"internal_listener":7}],
+  ["V6", {"default_filter_chain":{"filters":7}}],
+  ["V6", {"filter_chains":[{"filter_chain_match":{"destination_port":0}}]}],
+  ["V6", {"filter_chains":[{"filter_chain_match":{"source_type":"OTHER"}}]}],
+  ["V14", {"address":null}],
+  ["V14", {"address":{},"internal_listener":{}}],
+  ["V14", {"address":{"socketAddress":{"address":"a","portValue":1,"protocol":"UDP"}}}],
+  ["V16", {"filter_chains":[]}],
+  ["V16", {"filter_chains":[{"filter_chain_match":{"prefix_ranges":[{"address_prefix":"10.0.0.0","prefix_len":33}]}}]}],
+  ["V17", {"api_listener":{}}],
+  ["V17", {"api_listener":{"api_listener":{"@type":"type.googleapis.com/envoy.extensions.filters.network.tcp_proxy.v3.TcpProxy","cluster":"c"}}}],
+  ["V17", {"filter_chains":[{"filters":[{"typed_config":{"@type":"type.googleapis.com/envoy.extensions.filters.network.tcp_proxy.v3.TcpProxy","cluster":"a"}},{"typed_config":{"@type":"type.googleapis.com/envoy.extensions.filters.network.tcp_proxy.v3.TcpProxy","cluster":"a"}}]}]}],
+  ["V26", {"filter_chains":[{"filter_chain_match":{"server_names":["a","b"]}},{"filter_chain_match":{"server_names":["B"]}}]}],
+  ["V27", {"filter_chains":[{"filter_chain_match":{"server_names":["*"]}}]}]
+]"#;
+
+// The same of the members of its connection manager, by the own rules.
 pub(crate) const MANAGERS: &str = r#"[
   ["in at 10.1.0.1:8080 serves routes r, limited true", {"rds":{"config_source":{"ads":{}},"route_config_name":"r"}}],
   ["in at 10.1.0.1:8080 serves routes r, limited false", {"rds":{"configSource":{"self":{},"initial_fetch_timeout":"0s"},"routeConfigName":"r"},"route_config":null,"scoped_routes":null}],
@@ -164,6 +265,16 @@ pub(crate) const MANAGERS: &str = r#"[
   ["V22", {"route_config":{"virtual_hosts":[{"name":"h","domains":["*"],"routes":[{"match":{"prefix":"/"}}]}]}}],
   ["V23", {"route_config":{"virtual_hosts":[{"name":"h","domains":["*"],"routes":[{"match":{"prefix":"/"},"route":{"cluster":""}}]}]}}],
   ["V24", {"route_config":{"virtual_hosts":[{"name":"h","domains":["*"],"routes":[{"match":{"prefix":"/"},"route":{"weighted_clusters":{}}}]}]}}]
+]"#;
+
+// The same as Envoy reads them.
+pub(crate) const ENVOY_MANAGERS: &str = r#"[
+  ["in at 10.1.0.1:8080 serves other", {"scoped_routes":{}}],
+  ["in at 10.1.0.1:8080 serves routes r, limited true", {"rds":{"config_source":{"path":"/x"},"route_config_name":"r"}}],
+  ["in at 10.1.0.1:8080 serves 1 hosts", {"route_config":{"virtual_hosts":[{"name":"h","domains":["*"],"routes":[{"match":{"connect_matcher":{}},"filter_action":{}}]}]}}],
+  ["V6", {"scoped_routes":0,"route_config":{}}],
+  ["V18", {"scoped_routes":{},"route_config":{}}],
+  ["V18", {"stat_prefix":"s"}]
 ]"#;
 
 // Listeners as control planes write them.

@@ -1,4 +1,4 @@
-use ev_types::{Body, Content, Kind, Response};
+use ev_types::{Body, Content, Kind, Profile, Response};
 use ev_wire::read_response;
 use serde_json::Value;
 use std::alloc::{AllocError, Global};
@@ -64,6 +64,14 @@ pub(crate) const ONE_REFUSED_OF_TWO: &str = r#"[
   ["cds 7: a@v1=cluster b@v1=V8 ", {"typeUrl":"~cluster.v3.Cluster","nonce":"7","resources":[{"name":"a","version":"v1","resource":{"@type":"~cluster.v3.Cluster","name":"a","type":"STATIC","loadAssignment":{"clusterName":"a","endpoints":[{"lbEndpoints":[{"endpoint":{"address":{"socketAddress":{"address":"10.0.0.1","portValue":80}}}}]}]}}},{"name":"b","version":"v1","resource":{"@type":"~cluster.v3.Cluster","name":"b","type":"EDS"}}]}]
 ]"#;
 
+// Messages as Envoy reads them: its own types of discovery, hosts and listeners.
+pub(crate) const ENVOY_MESSAGES: &str = r#"[
+  ["cds 7: a@=cluster b@=V8 c@=heartbeat,ttl ", {"typeUrl":"~cluster.v3.Cluster","nonce":"7","resources":[{"name":"a","resource":{"@type":"~cluster.v3.Cluster","name":"a","type":2}},{"name":"b","resource":{"@type":"~cluster.v3.Cluster","name":"b","type":"EDS"}},{"name":"c","ttl":"1s"}]}],
+  ["eds 7: a@=assignment ", {"typeUrl":"~endpoint.v3.ClusterLoadAssignment","nonce":"7","resources":[{"name":"a","resource":{"@type":"~endpoint.v3.ClusterLoadAssignment","clusterName":"a","endpoints":[{"lbEndpoints":[{"endpoint":{"address":{"pipe":{"path":"/x"}}}}]}]}}]}],
+  ["lds 7: l@=listener l@=V26 ", {"typeUrl":"~listener.v3.Listener","nonce":"7","resources":[{"name":"l","resource":{"@type":"~listener.v3.Listener","name":"l","internalListener":{},"filterChains":[{}]}},{"name":"l","resource":{"@type":"~listener.v3.Listener","name":"l","internalListener":{},"filterChains":[{},{}]}}]}],
+  ["rds 7: r@=routes ", {"typeUrl":"~route.v3.RouteConfiguration","nonce":"7","resources":[{"name":"r","resource":{"@type":"~route.v3.RouteConfiguration","name":"r","virtualHosts":[{"name":"h","domains":["*"],"routes":[{"match":{"connectMatcher":{}},"filterAction":{}}]}]}}]}]
+]"#;
+
 // The word of a kind in the table.
 fn kind_word(kind: Option<Kind>) -> &'static str {
     match kind {
@@ -110,8 +118,12 @@ fn describe(alloc: Global, response: &Response) -> Result<String, AllocError> {
 }
 
 // What a message reads as, in a line.
-pub(crate) fn tell_message(alloc: Global, message: &Value) -> Result<String, Fail> {
-    match read_response(alloc, message) {
+pub(crate) fn tell_message(
+    alloc: Global,
+    profile: Profile,
+    message: &Value,
+) -> Result<String, Fail> {
+    match read_response(alloc, profile, message) {
         Ok(response) => {
             let text = describe(alloc, &response);
             drop(response);

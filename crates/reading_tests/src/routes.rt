@@ -1,5 +1,8 @@
 use ev_route_json::{read_routes, read_target};
-use ev_types::{Action, PathMatch, RouteTable, Target};
+use ev_types::{
+    Action, HeaderMatcher, HeaderTest, PathMatch, PathSpecifier, Profile, RouteCondition,
+    RouteMatch, RouteTable, StringMatcher, StringPattern, Target,
+};
 use serde_json::Value;
 use std::alloc::{AllocError, Global};
 use std::test::Fail;
@@ -18,6 +21,7 @@ fn describe_target(alloc: Global, text: &mut String, target: &Target) -> Result<
             }
             Ok(())
         }
+        Target::Elsewhere => text.push_str("elsewhere"),
     }
 }
 
@@ -32,12 +36,84 @@ fn describe_path(text: &mut String, path: &PathMatch) -> Result<(), AllocError> 
     text.push_str(path.as_str())
 }
 
+// The paths that are taken, as text.
+fn describe_specifier(text: &mut String, path: &PathSpecifier) -> Result<(), AllocError> {
+    match path {
+        PathSpecifier::Cased(path) => describe_path(text, path),
+        PathSpecifier::Folded(path) => {
+            text.push_str("folded ")?;
+            describe_path(text, path)
+        }
+        PathSpecifier::Connect => text.push_str("connect"),
+        PathSpecifier::Open => text.push_str("open"),
+    }
+}
+
+// A pattern as text, after its kind.
+fn describe_pattern(text: &mut String, pattern: &StringPattern) -> Result<(), AllocError> {
+    let (kind, pattern) = match pattern {
+        StringPattern::Exact(pattern) => (" exact ", pattern),
+        StringPattern::Prefix(pattern) => (" prefix ", pattern),
+        StringPattern::Suffix(pattern) => (" suffix ", pattern),
+        StringPattern::Contains(pattern) => (" contains ", pattern),
+    };
+    text.push_str(kind)?;
+    text.push_str(pattern.as_str())
+}
+
+// What is asked of a header's value, as text.
+fn describe_test(text: &mut String, test: &HeaderTest) -> Result<(), AllocError> {
+    match test {
+        HeaderTest::Text(StringMatcher {
+            pattern,
+            ignore_case,
+        }) => {
+            describe_pattern(text, pattern)?;
+            text.push_str(if *ignore_case { " folded" } else { "" })
+        }
+        HeaderTest::Present => text.push_str(" present"),
+        HeaderTest::Open => text.push_str(" open"),
+    }
+}
+
+// What is asked of a header, as text.
+fn describe_header(text: &mut String, header: &HeaderMatcher) -> Result<(), AllocError> {
+    text.push_str(header.name.as_str())?;
+    describe_test(text, &header.test)?;
+    text.push_str(if header.invert_match { " inverted" } else { "" })?;
+    text.push_str(if header.treat_missing_header_as_empty {
+        " or empty"
+    } else {
+        ""
+    })
+}
+
+// A condition as text.
+fn describe_condition(text: &mut String, condition: &RouteCondition) -> Result<(), AllocError> {
+    match condition {
+        RouteCondition::Header(header) => describe_header(text, header),
+        RouteCondition::Grpc => text.push_str("grpc"),
+        RouteCondition::Open => text.push_str("open"),
+    }
+}
+
+// A match as text: its path, and each condition after `if`.
+fn describe_match(text: &mut String, matched: &RouteMatch) -> Result<(), AllocError> {
+    describe_specifier(text, &matched.path)?;
+    for condition in matched.conditions.as_slice() {
+        text.push_str(" if ")?;
+        describe_condition(text, condition)?;
+    }
+    Ok(())
+}
+
 // The action as text.
 fn describe_action(alloc: Global, text: &mut String, action: &Action) -> Result<(), AllocError> {
     match action {
         Action::Forward(target) => describe_target(alloc, text, target),
         Action::Redirect => text.push_str("redirect"),
         Action::Local(status) => text.push_str(format!(in alloc; "{status}")?.as_str()),
+        Action::Elsewhere => text.push_str("to a filter"),
     }
 }
 
@@ -52,7 +128,7 @@ fn describe(alloc: Global, table: &RouteTable) -> Result<String, AllocError> {
         }
         for route in host.routes.as_slice() {
             text.push_str("; ")?;
-            describe_path(&mut text, &route.path)?;
+            describe_match(&mut text, &route.route_match)?;
             text.push_str(" -> ")?;
             describe_action(alloc, &mut text, &route.action)?;
         }
@@ -73,8 +149,8 @@ fn around(alloc: Global, route: &str) -> Result<String, AllocError> {
 }
 
 // What a route configuration reads as: its content, or the rule that refuses it.
-pub(crate) fn tell_routes(alloc: Global, body: &Value) -> Result<String, Fail> {
-    match read_routes(alloc, body) {
+pub(crate) fn tell_routes(alloc: Global, profile: Profile, body: &Value) -> Result<String, Fail> {
+    match read_routes(alloc, profile, body) {
         Ok(table) => {
             let text = describe(alloc, &table);
             drop(table);
@@ -85,17 +161,17 @@ pub(crate) fn tell_routes(alloc: Global, body: &Value) -> Result<String, Fail> {
 }
 
 // The same of a route configuration with one host that has this route.
-pub(crate) fn tell_route(alloc: Global, route: &Value) -> Result<String, Fail> {
+pub(crate) fn tell_route(alloc: Global, profile: Profile, route: &Value) -> Result<String, Fail> {
     let text = around(alloc, route.to_string(alloc)?.as_str())?;
     let body = Value::from_str(alloc, text.as_str())?;
-    let told = tell_routes(alloc, &body);
+    let told = tell_routes(alloc, profile, &body);
     drop(body);
     told
 }
 
 // What a target reads as.
-pub(crate) fn tell_target(alloc: Global, body: &Value) -> Result<String, Fail> {
-    match read_target(alloc, body) {
+pub(crate) fn tell_target(alloc: Global, profile: Profile, body: &Value) -> Result<String, Fail> {
+    match read_target(alloc, profile, body) {
         Ok(target) => {
             let mut text = String::new(alloc);
             let told = describe_target(alloc, &mut text, &target);
@@ -193,6 +269,35 @@ pub(crate) const ROUTES: &str = r#"[
   ["V24", {"match":{"prefix":"/"},"route":{"weightedClusters":{"clusters":[]}}}]
 ]"#;
 
+// The same as Envoy reads them.
+pub(crate) const ENVOY_ROUTES: &str = r#"[
+  ["h *; folded prefix /A -> redirect\n", {"match":{"prefix":"/A","case_sensitive":false},"redirect":{}}],
+  ["h *; open -> redirect\n", {"match":{"safe_regex":{"regex":"x"},"caseSensitive":false},"redirect":{}}],
+  ["h *; open -> redirect\n", {"match":{"path_match_policy":{}},"redirect":{}}],
+  ["h *; connect -> redirect\n", {"match":{"connect_matcher":{}},"redirect":{}}],
+  ["h *; prefix / if x-a exact A -> redirect\n", {"match":{"prefix":"/","headers":[{"name":"X-A","exact_match":"A"}]},"redirect":{}}],
+  ["h *; prefix / if a exact  inverted -> redirect\n", {"match":{"prefix":"/","headers":[{"name":"a","exact_match":"","invert_match":true}]},"redirect":{}}],
+  ["h *; prefix / if a present inverted if b present -> redirect\n", {"match":{"prefix":"/","headers":[{"name":"a","present_match":false},{"name":"b","presentMatch":false,"invertMatch":true}]},"redirect":{}}],
+  ["h *; prefix / if a prefix B folded or empty -> redirect\n", {"match":{"prefix":"/","headers":[{"name":"a","stringMatch":{"prefix":"B","ignoreCase":true},"treat_missing_header_as_empty":true}]},"redirect":{}}],
+  ["h *; prefix / if a open if b open -> redirect\n", {"match":{"prefix":"/","headers":[{"name":"a","range_match":{}},{"name":"b","string_match":{"custom":{}}}]},"redirect":{}}],
+  ["h *; prefix / if a present if grpc if open -> redirect\n", {"match":{"prefix":"/","grpc":{},"query_parameters":[{}],"tls_context":{},"headers":[{"name":"a"}]},"redirect":{}}],
+  ["h *; prefix / -> redirect\n", {"match":{"prefix":"/","headers":[],"query_parameters":[],"filter_state":null},"redirect":{}}],
+  ["V6", {"match":{"safe_regex":1},"redirect":{}}],
+  ["V6", {"match":{"prefix":"/","headers":{}},"redirect":{}}],
+  ["V6", {"match":{"prefix":"/","headers":[{"name":"a","string_match":{"contains":1}}]},"redirect":{}}],
+  ["V6", {"match":{"prefix":"/","runtime_fraction":false},"redirect":{}}],
+  ["V21", {"match":{"prefix":"/","connect_matcher":{}},"redirect":{}}],
+  ["V21", {"match":{"prefix":"/","headers":[{"name":""}]},"redirect":{}}],
+  ["V21", {"match":{"prefix":"/","headers":[{"name":"a","suffix_match":""}]},"redirect":{}}],
+  ["V21", {"match":{"prefix":"/","headers":[{"name":"a","exact_match":"a","present_match":true}]},"redirect":{}}],
+  ["V21", {"match":{"prefix":"/","headers":[{"name":"a","string_match":{}}]},"redirect":{}}],
+  ["h *; prefix / -> to a filter\n", {"match":{"prefix":"/"},"filter_action":{}}],
+  ["h *; prefix / -> to a filter\n", {"match":{"prefix":"/"},"nonForwardingAction":{}}],
+  ["h *; prefix / -> elsewhere\n", {"match":{"prefix":"/"},"route":{"cluster_header":""}}],
+  ["V6", {"match":{"prefix":"/"},"filter_action":1}],
+  ["V22", {"match":{"prefix":"/"},"filter_action":{},"non_forwarding_action":{}}]
+]"#;
+
 // The same of targets.
 pub(crate) const TARGETS: &str = r#"[
   ["c", {"cluster":"c","cluster_header":null,"stat_prefix":3}],
@@ -220,6 +325,19 @@ pub(crate) const TARGETS: &str = r#"[
   ["V24", {"weighted_clusters":{"clusters":[{"name":"a"},{"name":"b","weight":0}]}}],
   ["V24", {"weighted_clusters":{"clusters":[{"name":"a","weight":4294967295},{"name":"b","weight":1}]}}],
   ["V24", {"weighted_clusters":{"clusters":[{"name":"a","weight":4294967295},{"name":"a","weight":4294967295},{"name":"b","weight":2}]}}]
+]"#;
+
+// The same as Envoy reads them.
+pub(crate) const ENVOY_TARGETS: &str = r#"[
+  ["c", {"cluster":"c","cluster_header":null}],
+  ["elsewhere", {"cluster_header":""}],
+  ["elsewhere", {"clusterSpecifierPlugin":"p"}],
+  ["elsewhere", {"inline_cluster_specifier_plugin":{}}],
+  ["elsewhere", {"weighted_clusters":{"clusters":[{"cluster_header":"h","weight":1},{"name":"a"}]}}],
+  ["V6", {"inline_cluster_specifier_plugin":[]}],
+  ["V22", {"cluster":"c","cluster_header":"h"}],
+  ["V23", {"weighted_clusters":{"clusters":[{"cluster_header":"","weight":1}]}}],
+  ["V24", {"weighted_clusters":{"clusters":[{"clusterHeader":"h"}]}}]
 ]"#;
 
 // A route configuration as control planes write them: retry policies, rewrites, rate limits, header

@@ -1,16 +1,21 @@
 use crate::clusters::{
-    AN_ASSIGNMENT, ASSIGNMENTS, CLUSTERS, CLUSTERS_OF_CONTROL_PLANES, tell_assignment, tell_cluster,
+    AN_ASSIGNMENT, ASSIGNMENTS, CLUSTERS, CLUSTERS_OF_CONTROL_PLANES, ENVOY_ASSIGNMENTS,
+    ENVOY_CLUSTERS, tell_assignment, tell_cluster,
 };
 use crate::fields::{
-    ADDRESSES, DURATIONS, NUMBERS, SOURCES, tell_address, tell_duration, tell_number, tell_source,
+    ADDRESSES, BODIES, DURATIONS, ENVOY_ADDRESSES, ENVOY_SOURCES, NUMBERS, OWN_BODIES, SOURCES,
+    tell_address, tell_body, tell_duration, tell_number, tell_source,
 };
 use crate::listeners::{
-    LISTENERS, MANAGERS, WHOLE_LISTENERS, tell_listener, tell_manager, tell_members,
+    ENVOY_LISTENERS, ENVOY_MANAGERS, LISTENERS, MANAGERS, WHOLE_LISTENERS, tell_listener,
+    tell_manager, tell_members,
 };
-use crate::messages::{MESSAGES, ONE_REFUSED_OF_TWO, tell_message};
+use crate::messages::{ENVOY_MESSAGES, MESSAGES, ONE_REFUSED_OF_TWO, tell_message};
 use crate::routes::{
-    BOOKSHOP, ROUTE_TABLES, ROUTES, TARGETS, tell_route, tell_routes, tell_target,
+    BOOKSHOP, ENVOY_ROUTES, ENVOY_TARGETS, ROUTE_TABLES, ROUTES, TARGETS, tell_route, tell_routes,
+    tell_target,
 };
+use ev_types::Profile;
 use serde_json::Value;
 use std::alloc::{AllocError, Global};
 use std::process::Abort;
@@ -23,6 +28,7 @@ enum Reader {
     Duration,
     Address,
     Source,
+    Body,
     Cluster,
     Assignment,
     Routes,
@@ -34,12 +40,13 @@ enum Reader {
     Message,
 }
 
-// The tables, each with what its bodies are read as and how many rows it has. A row is a text and a body.
-const TABLES: [(Reader, usize, &str); 17] = [
+// The tables by the own rules, each with what its bodies are read as and how many rows it has. A row is a text and a body.
+const TABLES: [(Reader, usize, &str); 18] = [
     (Reader::Number, 22, NUMBERS),
     (Reader::Duration, 22, DURATIONS),
     (Reader::Address, 9, ADDRESSES),
     (Reader::Source, 10, SOURCES),
+    (Reader::Body, 1, OWN_BODIES),
     (Reader::Cluster, 28, CLUSTERS),
     (Reader::Cluster, 2, CLUSTERS_OF_CONTROL_PLANES),
     (Reader::Assignment, 15, ASSIGNMENTS),
@@ -55,30 +62,52 @@ const TABLES: [(Reader, usize, &str); 17] = [
     (Reader::Message, 1, ONE_REFUSED_OF_TWO),
 ];
 
+// The same as Envoy reads them.
+const ENVOY_TABLES: [(Reader, usize, &str); 10] = [
+    (Reader::Address, 11, ENVOY_ADDRESSES),
+    (Reader::Source, 9, ENVOY_SOURCES),
+    (Reader::Body, 2, BODIES),
+    (Reader::Cluster, 11, ENVOY_CLUSTERS),
+    (Reader::Assignment, 3, ENVOY_ASSIGNMENTS),
+    (Reader::Route, 25, ENVOY_ROUTES),
+    (Reader::Target, 9, ENVOY_TARGETS),
+    (Reader::ListenerMembers, 24, ENVOY_LISTENERS),
+    (Reader::Manager, 6, ENVOY_MANAGERS),
+    (Reader::Message, 4, ENVOY_MESSAGES),
+];
+
 #[test]
 fn each_body_reads_as_its_row_tells(rt: HostRuntime) -> Result<(), Fail> {
     for (reader, count, table) in TABLES {
-        assert_told(&rt, rt.alloc(), reader, table, count)?;
+        assert_told(&rt, rt.alloc(), (reader, Profile::Own), table, count)?;
+    }
+    for (reader, count, table) in ENVOY_TABLES {
+        assert_told(&rt, rt.alloc(), (reader, Profile::Envoy), table, count)?;
     }
     Ok(())
 }
 
+// How the bodies of a table are read.
+type Reading = (Reader, Profile);
+
 // What a body reads as, in words.
-fn tell(alloc: Global, reader: Reader, body: &Value) -> Result<String, Fail> {
+fn tell(alloc: Global, reading: Reading, body: &Value) -> Result<String, Fail> {
+    let (reader, profile) = reading;
     match reader {
         Reader::Number => tell_number(alloc, body),
         Reader::Duration => tell_duration(alloc, body),
-        Reader::Address => tell_address(alloc, body),
-        Reader::Source => tell_source(alloc, body),
-        Reader::Cluster => tell_cluster(alloc, body),
-        Reader::Assignment => tell_assignment(alloc, body),
-        Reader::Routes => tell_routes(alloc, body),
-        Reader::Route => tell_route(alloc, body),
-        Reader::Target => tell_target(alloc, body),
-        Reader::Listener => tell_listener(alloc, body),
-        Reader::ListenerMembers => tell_members(alloc, body),
-        Reader::Manager => tell_manager(alloc, body),
-        Reader::Message => tell_message(alloc, body),
+        Reader::Address => tell_address(alloc, profile, body),
+        Reader::Source => tell_source(alloc, profile, body),
+        Reader::Body => tell_body(alloc, profile, body),
+        Reader::Cluster => tell_cluster(alloc, profile, body),
+        Reader::Assignment => tell_assignment(alloc, profile, body),
+        Reader::Routes => tell_routes(alloc, profile, body),
+        Reader::Route => tell_route(alloc, profile, body),
+        Reader::Target => tell_target(alloc, profile, body),
+        Reader::Listener => tell_listener(alloc, profile, body),
+        Reader::ListenerMembers => tell_members(alloc, profile, body),
+        Reader::Manager => tell_manager(alloc, profile, body),
+        Reader::Message => tell_message(alloc, profile, body),
     }
 }
 
@@ -99,13 +128,13 @@ fn write_out(alloc: Global, table: &str) -> Result<String, AllocError> {
 fn assert_told(
     rt: &impl Abort,
     alloc: Global,
-    reader: Reader,
+    reading: Reading,
     table: &str,
     count: usize,
 ) -> Result<(), Fail> {
     let text = write_out(alloc, table)?;
     let table = Value::from_str(alloc, text.as_str())?;
-    let walked = walk(rt, alloc, reader, &table, count);
+    let walked = walk(rt, alloc, reading, &table, count);
     drop(table);
     walked
 }
@@ -114,24 +143,24 @@ fn assert_told(
 fn walk(
     rt: &impl Abort,
     alloc: Global,
-    reader: Reader,
+    reading: Reading,
     table: &Value,
     count: usize,
 ) -> Result<(), Fail> {
     let rows = table.as_array().ok_or("a table")?;
     assert_eq!(rt; rows.len(), count);
     for row in rows {
-        assert_row(rt, alloc, reader, row)?;
+        assert_row(rt, alloc, reading, row)?;
     }
     Ok(())
 }
 
 // Asserts that the body of a row reads as its text says.
-fn assert_row(rt: &impl Abort, alloc: Global, reader: Reader, row: &Value) -> Result<(), Fail> {
+fn assert_row(rt: &impl Abort, alloc: Global, reading: Reading, row: &Value) -> Result<(), Fail> {
     let row = row.as_array().ok_or("a row")?;
     let want = row.first().ok_or("a text")?.as_str().ok_or("a text")?;
     let body = row.get(1).ok_or("a body")?;
-    let got = tell(alloc, reader, body)?;
+    let got = tell(alloc, reading, body)?;
     assert_eq!(rt; got.as_str(), want, "{body}");
     Ok(())
 }

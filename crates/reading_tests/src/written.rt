@@ -1,5 +1,5 @@
 use ev_journal::{write_end_line, write_first_line, write_line};
-use ev_types::{Actor, Answer, Entry, Event, Format, Kind, Name, Request, Seq, Text};
+use ev_types::{Actor, Answer, Entry, Event, Format, Kind, Name, Profile, Request, Seq, Text};
 use ev_wire::{WireError, body_rule_is_least, read_response, request_value, write_request};
 use serde_json::Value;
 use std::alloc::{AllocError, Global};
@@ -72,7 +72,7 @@ fn each_call_writes_its_text(rt: HostRuntime) -> Result<(), Fail> {
     assert_eq!(rt; written?, true);
     body_rule_is_least();
     assert_eq!(rt;
-        read_response(rt.alloc(), &Value::Null).err(),
+        read_response(rt.alloc(), Profile::Envoy, &Value::Null).err(),
         Some(WireError::NotResponse)
     );
     Ok(())
