@@ -17,6 +17,9 @@ pub returns-clause-kind : goal.returns-clause-kind
 unfolding type_of
 returns-clause-kind c = c.given_or-number.ensures ∙ ap (given_or STATIC) c.in_ok-kind.ensures
 
+pub returns-clause-custom : goal.returns-clause-custom
+returns-clause-custom c = c.is_given.ensures ∙ c.in_ok-custom.ensures.given
+
 pub returns-clause-checked : goal.returns-clause-checked
 unfolding is_checked
 returns-clause-checked c =
