@@ -3,6 +3,7 @@ use Rattle.std.proofs.Common.{◌≡◌, ℕ, suc, ◌+◌, ◌<◌, true, false
 use Rattle.std.specs.declared.alloc.Global.{Global}
 use Rattle.std.specs.Io.KnownBytes.{IsAtEnd}
 use Rattle.serde_json.specs.Data.{Data}
+use Rattle.ev_types.specs.declared.events.Profile.{Profile}
 use Rattle.ev_io.specs.declared.faults.ScriptFault.{ScriptFault}
 use Rattle.ev_io.specs.declared.faults.ScriptFault.TheVariants.{Bad, Read, OutOfMemory}
 use Rattle.ev_io.specs.Lines.{lines_of}
@@ -21,30 +22,30 @@ use Rattle.ev_chain_lines.specs.Lines.{event_of, chain_lines, events_from, event
 use Rattle.ev_chain_lines.specs.Texts.{chains_text}
 use Rattle.ev_chain_lines.specs.Inputs.{TakesInput, IsMadeOf, MakesChains}
 
--- an event is kept
-abbrev pub IsEvent : ℕ → Data → ChainEvent → Type 0
-IsEvent at tree event = event_of tree ≡ Some (seen event)
+-- an event is kept, whatever the profile
+abbrev pub IsEvent : Profile → ℕ → Data → ChainEvent → Type 0
+IsEvent profile at tree event = event_of tree ≡ Some (seen event)
 
 -- the events of lines that were kept
-events_by : (at : ℕ) (texts : List (List ℕ)) (kept : List ChainEvent) → length texts ≡ length kept
-    → ((i : ℕ) (other : ChainEvent) → i < length kept → IsKeptOf IsEvent (at + i) (tree_of (get_or texts i [])) (get_or kept i other))
+events_by : (profile : Profile) (at : ℕ) (texts : List (List ℕ)) (kept : List ChainEvent) → length texts ≡ length kept
+    → ((i : ℕ) (other : ChainEvent) → i < length kept → IsKeptOf (IsEvent profile) (at + i) (tree_of (get_or texts i [])) (get_or kept i other))
     → events_from texts ≡ Some (map seen kept)
-events_by at [] [] e h = refl
-events_by at [] (event ∷ kept) e h = absurd (omega (arith, e))
-events_by at (text ∷ texts) [] e h = absurd (omega (arith, e))
-events_by at (text ∷ texts) (event ∷ kept) e h =
-    let k : IsKeptOf IsEvent (at + 0) (tree_of text) event = h 0 event (omega arith) in
+events_by profile at [] [] e h = refl
+events_by profile at [] (event ∷ kept) e h = absurd (omega (arith, e))
+events_by profile at (text ∷ texts) [] e h = absurd (omega (arith, e))
+events_by profile at (text ∷ texts) (event ∷ kept) e h =
+    let k : IsKeptOf (IsEvent profile) (at + 0) (tree_of text) event = h 0 event (omega arith) in
     let here : option_and_then event_of (tree_of text) ≡ Some (seen event) = ap (option_and_then event_of) k.is ∙ k.holds in
-    let others : events_from texts ≡ Some (map seen kept) = events_by (at + 1) texts kept (omega (arith, e)) (λ i other within.
+    let others : events_from texts ≡ Some (map seen kept) = events_by profile (at + 1) texts kept (omega (arith, e)) (λ i other within.
     let r = h (suc i) other (omega arith) in record { tree = r.tree; is = r.is; holds = r.holds }) in
     ap (λ (found : Option Event). option_and_then (λ (l : Event). option_map (λ (ls : List Event). l ∷ ls) (events_from texts)) found) here
     ∙ ap (option_map (λ (ls : List Event). seen event ∷ ls)) others
 
-behind_first : (texts : List (List ℕ)) (kept : List ChainEvent) → length texts ≡ length kept + 1 → AreKept IsEvent texts kept → events_behind texts ≡ Some (map seen kept)
-behind_first [] kept long are = absurd (omega (arith, long))
-behind_first (first ∷ texts) kept long are =
-    events_by 2 texts kept (omega (arith, long)) (λ i other h.
-    let k : IsKeptOf IsEvent (i + 2) (tree_of (get_or (first ∷ texts) (i + 1) [])) (get_or kept i other) = are i other h in
+behind_first : (profile : Profile) (texts : List (List ℕ)) (kept : List ChainEvent) → length texts ≡ length kept + 1 → AreKept (IsEvent profile) texts kept → events_behind texts ≡ Some (map seen kept)
+behind_first profile [] kept long are = absurd (omega (arith, long))
+behind_first profile (first ∷ texts) kept long are =
+    events_by profile 2 texts kept (omega (arith, long)) (λ i other h.
+    let k : IsKeptOf (IsEvent profile) (i + 2) (tree_of (get_or (first ∷ texts) (i + 1) [])) (get_or kept i other) = are i other h in
     let next : get_or (first ∷ texts) (i + 1) [] ≡ get_or texts i [] = ap (λ (n : ℕ). get_or (first ∷ texts) n []) (next_is i) in
     record { tree = k.tree; is = ap tree_of (sym next) ∙ k.is; holds = k.holds })
   where
@@ -83,7 +84,7 @@ makes_text before after state read text within ended r answers =
       is = record {
         ended = ends.ended;
         sound = ends.sound;
-        text_of = record { events = map seen read.kept.items; reads = behind_first (lines_of r.0) read.kept.items ends.lines r.3.kept; answers = answers };
+        text_of = record { events = map seen read.kept.items; reads = behind_first read.settings.profile (lines_of r.0) read.kept.items ends.lines r.3.kept; answers = answers };
       };
     }
 

@@ -3,9 +3,11 @@ use Rattle.std.specs.Prelude.{ℕ, Bool, true, false, List, [], ◌∷◌, if◌
 use Rattle.std.specs.Str.{bytes_eq}
 use Rattle.serde_json.specs.Data.{Data}
 use Rattle.serde_json.specs.Find.{as_str, as_bool}
+use Rattle.ev_types.specs.declared.events.Profile.TheVariants.{Own}
 use Rattle.ev_types.specs.declared.limits.TheConstants.{MAX_NAME_LENGTH}
 use Rattle.ev_tree.specs.Forms.{object_in}
 use Rattle.ev_io.specs.Lines.{lines_of}
+use Rattle.ev_script.specs.declared.forms.Settings.{Settings}
 use Rattle.ev_script.specs.Faults.{LineForms}
 use Rattle.ev_script.specs.LineForms.{with_only}
 use Rattle.ev_script.specs.Members.{tree_of, has_only, whole_within, text_within, member_of, member_or}
@@ -14,13 +16,13 @@ use Rattle.ev_chain_lines.specs.declared.limits.TheConstants.{MAX_NUMBER, MAX_PO
 
 -- ---- the header
 
--- how many workers it names: none, where it is one
-abbrev pub header_by : Bool → Option ℕ
-header_by true = Some 0
+-- what it sets, where it is one: no workers, and the project's own profile
+abbrev pub header_by : Bool → Option Settings
+header_by true = Some record { workers = 0; profile = Own }
 header_by false = None
 
 -- the first line has the member `chains`, which is true, and no other
-abbrev pub header_of : Data → Option ℕ
+abbrev pub header_of : Data → Option Settings
 header_of tree = if has_only (codes "chains" ∷ []) tree then option_and_then header_by (member_of as_bool (codes "chains") tree) else None
 
 -- ---- the other lines
@@ -78,7 +80,7 @@ event_of tree = option_and_then (λ op. event_by op tree) (member_of as_str (cod
 
 -- the forms of the lines: no line names a worker
 abbrev pub chain_lines : LineForms
-chain_lines = record { heads = header_of; lines = λ at tree. option_map (λ (event : Event). None) (event_of tree) }
+chain_lines = record { heads = header_of; lines = λ profile at tree. option_map (λ (event : Event). None) (event_of tree) }
 
 -- the events of lines, where each is one
 abbrev pub events_from : List (List ℕ) → Option (List Event)

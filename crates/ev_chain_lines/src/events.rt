@@ -7,8 +7,8 @@ ghost use Rattle.ev_chain_lines.specs.Lines.{header_of, event_of, event_by, list
 
 use crate::limits::{MAX_NUMBER, MAX_PORT_NUMBER};
 use ev_chains::ChainEvent;
-use ev_script::{FormedLine, Forms, flag_at, has_only, number_at, text_or, word_at};
-use ev_types::{MAX_NAME_LENGTH, Text};
+use ev_script::{FormedLine, Forms, Settings, flag_at, has_only, number_at, text_or, word_at};
+use ev_types::{MAX_NAME_LENGTH, Profile, Text};
 use serde_json::Value;
 use std::alloc::{AllocError, Global};
 
@@ -25,15 +25,16 @@ impl Forms for ChainLines {
 
     ghost forms = { chain_lines };
 
-    ghost keeps = { λ at tree event. event_of tree ≡ Some (seen event) };
+    ghost keeps = { λ profile at tree event. event_of tree ≡ Some (seen event) };
 
-    fn read_head(&self, _alloc: Global, tree: &Value) -> Result<Option<u32>, AllocError> {
+    fn read_head(&self, _alloc: Global, tree: &Value) -> Result<Option<Settings>, AllocError> {
         Ok(header(tree))
     }
 
     fn read(
         &self,
         alloc: Global,
+        _profile: Profile,
         _at: u32,
         tree: Value,
     ) -> Result<Option<FormedLine<ChainEvent>>, AllocError> {
@@ -47,15 +48,18 @@ impl Forms for ChainLines {
     }
 }
 
-// How many workers a header names: none, where the tree is one.
-fn header(tree: &Value) -> Option<u32>
+// What a header sets, where the tree is one: no workers, and the project's own profile.
+fn header(tree: &Value) -> Option<Settings>
     ensures { result ≡ header_of (view tree.now) }
 {
     if !has_only(tree, &["chains"]) {
         return None;
     }
     match flag_at(tree, "chains") {
-        Some(true) => Some(0),
+        Some(true) => Some(Settings {
+            workers: 0,
+            profile: Profile::Own,
+        }),
         _ => None,
     }
 }

@@ -6,7 +6,7 @@ ghost use Rattle.ev_io.specs.declared.limits.TheConstants.{MAX_INPUT_BYTES, MAX_
 ghost use Rattle.ev_types.specs.declared.limits.TheConstants.{ITEM_LIMIT, LINE_LIMIT, MAX_NAME_LENGTH, MAX_WEIGHT_SUM, MAX_WORKERS, ROW_LIMIT};
 ghost use Rattle.ev_tree.specs.declared.limits.TheConstants.{MAX_FRACTION_DIGITS, MAX_NAME_BYTES, MAX_PORT, MAX_SECONDS, MAX_SECONDS_DIGITS, MAX_U32_DIGITS};
 ghost use Rattle.ev_cluster_json.specs.declared.groups.TheConstants.{MAX_PRIORITY};
-ghost use Rattle.ev_cluster_json.specs.declared.parts.TheConstants.{EDS, STATIC};
+ghost use Rattle.ev_cluster_json.specs.declared.parts.TheConstants.{EDS, LOGICAL_DNS, STATIC};
 ghost use Rattle.ev_route_json.specs.declared.routes.TheConstants.{MAX_STATUS, MIN_STATUS};
 ghost use Rattle.ev_script.specs.declared.limits.TheConstants.{MAX_NUMBER, MAX_PATH_LENGTH, MAX_WORKER};
 ghost use Rattle.ev_soak.specs.declared.soaking.TheConstants.{MAX_SOAK};
@@ -37,8 +37,8 @@ pub fn scripts_are_limited()
 {}
 
 /// A name has at most 512 bytes. An assignment has fewer than 2^32 - 1 rows, of priorities up to 128, and weights sum to at most
-/// 2^32 - 1. A port is at most 65,535, a status of a direct response from 200 to 599. Of cluster types, 0 is STATIC and 3 is EDS. It
-/// does nothing.
+/// 2^32 - 1. A port is at most 65,535, a status of a direct response from 200 to 599. Of cluster types, 0 is STATIC, 2
+/// is LOGICAL_DNS and 3 is EDS. It does nothing.
 pub fn resources_are_limited()
     ensures name { MAX_NAME_LENGTH ≡ 512 }
     ensures name_in_trees { MAX_NAME_BYTES ≡ 512 }
@@ -49,6 +49,7 @@ pub fn resources_are_limited()
     ensures least_status { MIN_STATUS ≡ 200 }
     ensures greatest_status { MAX_STATUS ≡ 599 }
     ensures static_type { STATIC ≡ 0 }
+    ensures last_type_with_hosts { LOGICAL_DNS ≡ 2 }
     ensures eds_type { EDS ≡ 3 }
 {}
 
