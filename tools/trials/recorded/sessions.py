@@ -1,5 +1,6 @@
 """What is tried of tools/record: whole sessions on loopback, and what goes wrong."""
 import contextlib
+import json
 import os
 import re
 import shutil
@@ -39,7 +40,7 @@ def run(check, program):
 
     units.run(check)
     trials = [grpc_through_relay, grpc_otherwise, client_alone, raw_through_relay, relay_without_upstream, relay_on_full_disk, wrong_arguments]
-    trials += [client_with_steps, client_of_the_whole, relay_with_tls]
+    trials += [client_with_steps, client_of_the_whole, relay_with_tls, own_profile]
     with futures.ThreadPoolExecutor(AT_ONCE) as pool:
         for going in [pool.submit(in_folder, trial, told, program) for trial in trials] + [pool.submit(with_a_program, trial, told, program) for trial in endings.TRIALS]:
             going.result()
@@ -105,7 +106,8 @@ def grpc_through_relay(check, program, folder):
           f'gRPC\'s names and versions: {status} {out}{errors}')
 
 
-# Rows of docs/ENVOY.md's table: what the comparison of that session says, as patterns.
+# Rows of docs/ENVOY.md's table: what the comparison of that session says, as patterns. Those of OF_OWN_PROFILE the profile envoy does as gRPC.
+OF_OWN_PROFILE = ('no address', 'LOGICAL_DNS')
 OTHERWISE = {
     'it asks by name': r'the client, in names: clusters: asks, names \'a\'\n',
     'the order of asking': r"differ +listeners, nonce 'n1': asks.*\n +the client, in nonce and names and version: listeners: asks, names 'svc'\n",
@@ -127,9 +129,20 @@ def grpc_otherwise(check, program, folder):
     own, requests = f'{session.folder}/out/stream-001.jsonl', f'{session.folder}/out/stream-001.requests.jsonl'
     is_script(check, own)
     if program:
-        status, out, errors = called('--compare', own, requests, '--program', program)
-        for row, pattern in OTHERWISE.items():
-            check(re.search(pattern, out), f'gRPC\'s client, {row}: {status} {out}{errors}')
+        for path, is_own in ((own, False), (without_profile(own), True)):
+            status, out, errors = called('--compare', path, requests, '--program', program)
+            for row, pattern in OTHERWISE.items():
+                wanted = is_own or row not in OF_OWN_PROFILE
+                check(bool(re.search(pattern, out)) == wanted, f'gRPC\'s client, {row}, of {path}: {status} {out}{errors}')
+
+
+def without_profile(path):
+    """The path of the same script by this project's own profile."""
+    header, _, rest = read_file(path).partition(b'\n')
+    made = {name: value for name, value in json.loads(header).items() if name != 'profile'}
+    with open(f'{path}.own', 'wb') as file:
+        file.write(json.dumps(made).encode() + b'\n' + rest)
+    return f'{path}.own'
 
 
 # The client
@@ -174,6 +187,7 @@ def client_with_steps(check, program, folder):
     script, requests = joined(folder, 'relayed', f'{folder}/out/stream-001', f'{folder}/out/stream-002')
     is_script(check, own)
     check(text_of(script) == text_of(own), 'the relay and the client recorded other scripts')
+    check(json.loads(read_file(own).partition(b'\n')[0]) == {'workers': 1, 'node': 'edge-1', 'profile': 'envoy'}, f'the header of {own}')
     for pair in ((own, f'{folder}/client/client.requests.jsonl'), (script, requests)):
         status, out, errors = called('--compare', *pair, '--program', program)
         check(status == 0 and out.splitlines()[-1].endswith('alike'), f'the client beside the program: {status} {out}{errors}')
@@ -335,11 +349,26 @@ def relay_with_tls(check, program, folder):
     check(status == 0 and '2 responses' in errors, f'with TLS on both sides: {status} {errors}')
 
 
+def own_profile(check, program, folder):
+    """With --own-profile the relay's and the client's headers name none, and what Envoy alone takes is refused."""
+    dns = bodies.logical_dns_cluster('dns', 80)
+    server = Server(StepsPlane([response('cds', {'dns': dns}, 'v1')]))
+    try:
+        with relay_started(folder, server.port, '--own-profile') as port:
+            status, _, errors = recorded('--connect', f'127.0.0.1:{port}', '--own-profile', '--until-quiet', '2', '--seconds', '25', '--out', f'{folder}/client',
+                                         '--program', with_command(program, 'replay', folder))
+    finally:
+        server.stop()
+    scripts = [read_file(f'{folder}/{name}.jsonl') for name in ('client/client', 'out/stream-001')]
+    check(status == 0 and not any(b'"profile"' in data for data in scripts), f'record --own-profile: {status} {errors}')
+    check("dns: V7" in text_of(f'{folder}/client/client.requests.jsonl'), 'the client with --own-profile takes a cluster by DNS')
+
+
 def wrong_arguments(check, program, folder):
     for words in ([], ['--listen', '127.0.0.1:0'], ['--connect', 'x:1'], ['--connect', 'x:1', '--listen', 'y:1', '--upstream', 'z:1'],
                   ['--connect', 'x:1', '--out', folder, '--seconds', '-1'], ['--connect', 'x:1', '--out', folder, '--program', '/no/such'],
                   ['--compare', f'{TOOLS}/../examples/connect.jsonl', 'x', '--program', '/no/such'],
-                  ['--connect', 'x:1', '--out', folder, '--program', '/bin/true', '--node', 'n' * 513], ['--compare', 'x', 'y', '--sotw'],
+                  ['--connect', 'x:1', '--out', folder, '--program', '/bin/true', '--node', 'n' * 513], ['--compare', 'x', 'y', '--sotw'], ['--compare', 'x', 'y', '--own-profile'],
                   ['--connect', 'x:1', '--out', folder, '--program', '/bin/true', '--sotw']):
         status, _, errors = called(*words)
         check(status == 2 and 'Traceback' not in errors, f'record {" ".join(words)}: {status} {errors}')
