@@ -76,11 +76,15 @@ def begun_for(chain, listener):
     """What an accept asks for so that this chain takes it, else so that it is undecided which does; None where neither is found."""
     chains, default, undecided = listener['chains'], listener['default'], None
     for begun in beginnings(chain['match'], listener, chain is default):
-        found, why = chain_for(chains, default, Ask({'host': '', 'path': '', 'pick': 0, **begun}))
+        found, why = chain_for(chains, default, asking(begun))
         if found is chain:
             return begun
         undecided = undecided or why and begun
     return undecided or None
+
+
+def asking(begun):
+    return Ask({'host': '', 'path': '', 'pick': 0, **begun})
 
 
 def others_than(begun, match, listener):
@@ -124,7 +128,7 @@ def unreached_words(chain, listener):
     match, (address, port) = chain['match'], listener['address']
     if match.ports and port not in match.ports:
         return f'{chain["label"]} asks for port {match.ports[0]}, and connections of a script come at {port}'
-    if match.ranges and not by_range([chain], Ask({'host': '', 'path': '', 'pick': 0, 'address': address, 'port': port})) and not listener['takes_all']:
+    if match.ranges and not listener['takes_all'] and not by_range([chain], asking({'address': address, 'port': port})):
         return f'{chain["label"]} asks for other addresses than {address}, at which connections of a script come'
     return f'{chain["label"]} takes none of the connections that were tried at {address}:{port}: another one does'
 

@@ -218,11 +218,11 @@ class ScriptOf:
         if not self.good.get(name):
             return
         if not kept and kind in ('eds', 'rds'):
-            self.report.add('absent', kind, name, before='Envoy has none, and the script goes on with what Envoy refused', turns=True)
+            self.report.add('absent', kind, name, before='Envoy has none, and this profile goes on with what Envoy refused', turns=True)
             return
         again = [message_of(kind, [one]) for one in kept] or [message_of(kind, [], [name])]
         for place, message in enumerate(again):
-            self.report.add('made', kind, name, before='Envoy refused the one before, and its profile doesn\'t',
+            self.report.add('made', kind, name, before='Envoy refused the one before, and this profile doesn\'t',
                             after='a response with what Envoy has' if kept else 'a removal: Envoy has none', turns=True)
             self.delta(message)
             if is_active and place == 0 and self.good.get(name):

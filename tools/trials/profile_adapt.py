@@ -17,6 +17,8 @@ def run(check):
     left_alone(check)
     stood_in(check)
     probed(check)
+    chains_reached(check)
+    routes_reached(check)
     sent_again(check)
     header(check)
 
@@ -82,6 +84,61 @@ def probed(check):
     data = adapted(*ALL, data=tree)[1]
     found = [answer if isinstance(answer, str) else answer.get('status') for answer in answers(data)]
     check(found == [201, 202, 203, 204], f'adapt --probe reaches {found}: {data}')
+
+
+def chain_of(name, match, *routes):
+    routes = routes or ({'match': {'prefix': '/'}, 'direct_response': {'status': 200}},)
+    config = {'@type': MANAGER, 'route_config': {'virtual_hosts': [{'name': 'v', 'domains': ['*'], 'routes': list(routes)}]}}
+    return {'name': name, 'filters': [{'typed_config': config}], 'filter_chain_match': match}
+
+
+def tried(*chains, address='0.0.0.0', **more):
+    """(the connections that are tried, their answers, what is said of chains that none reaches) of a listener."""
+    body = {**listener('in', 80), 'filter_chains': list(chains), **more}
+    body['address']['socket_address']['address'] = address
+    tree = dump(clusters(cluster('c')), part('Listeners', dynamic_listeners=[{'name': 'in', 'active_state': {'listener': body}}]))
+    _, data, report, _ = adapted('--auto', '--probe', data=tree)
+    accepts = [line.members for line in script.read_script(data).lines if line.op == 'accept']
+    return accepts, list(map(result, answers(data))), [line['before'] for line in report if line['action'] == 'unreached']
+
+
+def chains_reached(check):
+    """Each chain is tried with what leads to it and to no other. One that nothing leads to is reported; one that asks for a source is undecided."""
+    whole, half = ({'prefix_ranges': [{'address_prefix': '10.0.0.0', 'prefix_len': length}]} for length in (8, 9))
+    accepts, _, unreached = tried(chain_of('whole', whole), chain_of('half', half), chain_of('six', {'prefix_ranges': [{'address_prefix': '::', 'prefix_len': 0}]}))
+    check([one['address'] for one in accepts] == ['10.255.255.255', '10.0.0.0'] and len(unreached) == 1 and "'six'" in unreached[0],
+          f'ranges in each other: {accepts} {unreached}')
+    plain = {'transport_protocol': 'raw_buffer', 'application_protocols': ['http/1.1', 'h2c']}
+    accepts, _, unreached = tried(chain_of('tls', {'server_names': ['a', '*.b'], 'transport_protocol': 'tls'}), chain_of('plain', plain),
+                                  default_filter_chain=chain_of('rest', {}))
+    asked = [(one.get('serverName', ''), one.get('tls', False), one.get('alpn', [])) for one in accepts]
+    check(asked == [('a', True, []), ('probe.b', True, []), ('', False, ['http/1.1']), ('', False, ['h2c']), ('', False, [])] and not unreached,
+          f'names and protocols: {asked} {unreached}')
+    ports = [chain_of('mine', {'destination_port': 80}), chain_of('other', {'destination_port': 81}), chain_of('none', {}), chain_of('far', whole)]
+    accepts, _, unreached = tried(*ports, address='10.1.0.1')
+    check(len(accepts) == 1 and len(unreached) == 3 and unreached[0] == "filter chain 2 'other' asks for port 81, and connections of a script come at 80",
+          f'ports: {accepts} {unreached}')
+    _, found, unreached = tried(chain_of('far', whole), default_filter_chain=chain_of('rest', {}), address='192.0.2.1')
+    check(found == ['local'] and unreached == ["filter chain 1 'far' asks for other addresses than 192.0.2.1, at which connections of a script come"],
+          f'another range: {found} {unreached}')
+    _, found, unreached = tried(chain_of('from', {'source_ports': [7]}), chain_of('any', {}))
+    check(found == ['undecided'] and not unreached, f'a chain that asks for a source: {found} {unreached}')
+
+
+def routes_reached(check):
+    """A route's conditions are met, as far as a text is known that meets them."""
+    def by_headers(*headers, prefix='/'):
+        return {'match': {'prefix': prefix, 'headers': list(headers)}, 'direct_response': {'status': 200}}
+
+    routes = [(by_headers({'name': 'x', 'string_match': {'exact': 'a'}, 'invert_match': True}), 'local'), (by_headers({'name': 'x', 'present_match': False}), 'local'),
+              (by_headers({'name': 'x', 'range_match': {'start': '1', 'end': '9'}}), 'undecided'),
+              (by_headers({'name': 'ABC', 'string_match': {'prefix': 'a'}}, {'name': 'abc', 'string_match': {'suffix': 'd'}}), 'local'),
+              (by_headers({'name': ':path', 'string_match': {'prefix': '/p/q'}}, prefix='/p'), 'local'),
+              (by_headers({'name': 'x', 'present_match': True}, {'name': 'x', 'present_match': False}), 'noRoute'),
+              ({'match': {'connect_matcher': {}}, 'direct_response': {'status': 206}}, 'local')]
+    for route, wanted in routes:
+        accepts, found, _ = tried(chain_of('c', {}, route))
+        check(found == [wanted], f'the route {route} is tried by {accepts}: {found}')
 
 
 def sent_again(check):
