@@ -61,7 +61,7 @@ class Facts:
 
     def sections(self):
         return [self.of_envoy(), self.waiting(), self.without(), Section('Refused here', [times(text, count) for text, count in self.refusals.items()]),
-                self.stand_ins(), self.connections()]
+                self.stand_ins(), self.connections(), *self.unreached()]
 
     def of_envoy(self):
         made = {(line['type'], line['name']): line['line'] for line in self.report.lines if line['before'] == 'failed_configuration'}
@@ -109,6 +109,12 @@ class Facts:
         lines = [f'{count} {words[result]}' for result, count in self.answers.most_common()]
         bad = any(self.answers[result] for result in ('noRoute', 'noCluster', 'noEndpoint', 'noListener', 'noChain'))
         return Section('Connections tried', lines, alarms=bad, count=sum(self.answers.values()))
+
+
+    def unreached(self):
+        """Filter chains to which no connection of a script comes, where there are some."""
+        lines = [f'{WORD[line["type"]]} {quoted(line["name"])}: {shown(line["before"], 200)}' for line in self.report.lines if line['action'] == 'unreached']
+        return [Section('Filter chains that no connection tried', lines, alarms=False)] if lines else []
 
 
 def times(text, count):

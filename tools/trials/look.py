@@ -100,8 +100,9 @@ def of_responses(check, folder, looked):
     for name in ('istio_sidecar.json', 'go_control_plane.json', 'delta_push.jsonl'):
         status, out, errors = looked(f'{CAPTURES}/{name}')
         check(status == 0 and b'(profile)' not in out, f'look at {name}: {status} {out} {errors}')
-    lines = trials.ran('sort', data=out)[1]
-    check(b'Stands in, and for what: ' in lines, f'look at {name} says nothing of stand-ins')
+        check(b'Stands in, and for what: ' in out, f'look at {name} says nothing of stand-ins')
+        unreached = b"    listener 'virtualInbound': filter chain 4 '0.0.0.0_9080' asks for port 9080, and connections of a script come at 15006" in out.splitlines()
+        check(unreached == (name == 'istio_sidecar.json'), f'look at {name} says otherwise of filter chains: {out}')
 
 
 def opened(check, folder, looked):
