@@ -6,12 +6,14 @@ from shared.choices import NO, Ask, by_range, chain_for, condition_says, path_sa
 from shared.fields import MAX_NAME, size
 from shared.routes import ELSEWHERE, PATHS, TEXT_TESTS
 from shared.script import MAX_LINES, MAX_PATH
+from shared.shown import quoted
 from shared.words import chains_of
 
 HOST = 'probe.invalid'
 VALUE, OTHER = 'probe', 'other'
 # How many values of one criterion of a filter chain are tried.
 MOST_TRIED = 4
+TAKEN = 'takes none of the connections that were tried'
 
 
 class Probes:
@@ -46,9 +48,10 @@ class Probes:
     def asks(self, name, listener):
         """Members of an accept, for each filter chain of a listener and each way on from there."""
         for chain in chains_of(listener):
-            begun = begun_for(chain, listener)
+            words = obstacle(chain['match'], listener)
+            begun = None if words else begun_for(chain, listener)
             if begun is None:
-                self.unreached.append((name, unreached_words(chain, listener)))
+                self.unreached.append((name, f'{chain["label"]} {words or TAKEN}'))
                 continue
             asks = list(self.asks_of(chain['serves']))
             for ask in asks:
@@ -123,14 +126,16 @@ def ends_of(one, address):
     return [str(kind(bits << rest)), str(kind(((bits + 1) << rest) - 1))]
 
 
-def unreached_words(chain, listener):
-    """Why no connection that is tried comes to a filter chain: a script's connection has the address of its listener, and no other before it."""
-    match, (address, port) = chain['match'], listener['address']
+def obstacle(match, listener):
+    """Why no connection of a script can come to a chain with this match, in words; empty where one may."""
+    address, port = listener['address']
     if match.ports and port not in match.ports:
-        return f'{chain["label"]} asks for port {match.ports[0]}, and connections of a script come at {port}'
-    if match.ranges and not listener['takes_all'] and not by_range([chain], asking({'address': address, 'port': port})):
-        return f'{chain["label"]} asks for other addresses than {address}, at which connections of a script come'
-    return f'{chain["label"]} takes none of the connections that were tried at {address}:{port}: another one does'
+        return f'asks for port {match.ports[0]}, and connections of a script come at {port}'
+    if match.ranges and not listener['takes_all'] and not by_range([{'match': match}], asking({'address': address, 'port': port})):
+        return f'asks for other addresses than {address}, at which connections of a script come'
+    if match.transports and not set(match.transports) & {'tls', 'raw_buffer'}:
+        return f'asks for transport {quoted(match.transports[0], 40)}, and connections of a script come by TLS or without'
+    return ''
 
 
 # The route

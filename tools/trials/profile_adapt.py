@@ -59,11 +59,12 @@ def stood_in(check):
     """Listeners on UDP, and ports by name."""
     quic = listener('quic', 443)
     quic['address']['socket_address']['protocol'] = 'UDP'
+    quic['filter_chains'][0]['filter_chain_match'] = {'transport_protocol': 'quic'}
     bare = {**listener('bare', 444), 'filter_chains': []}
     bare['address']['socket_address']['protocol'] = 'UDP'
     named = cluster('named', load_assignment={'endpoints': [{'lb_endpoints': [{'endpoint': {'address': {'socket_address': {'address': 'a', 'named_port': 'x'}}}}]}]})
     tree = dump(clusters(named), part('Listeners', dynamic_listeners=[{'name': body['name'], 'active_state': {'listener': body}} for body in (quic, bare)]))
-    for level, wanted in (('none', {'refused': 3}), ('safe', {'refused': 2, 'left-out': 1}), ('all', {'stand-in': 4})):
+    for level, wanted in (('none', {'refused': 3}), ('safe', {'refused': 2, 'left-out': 1}), ('all', {'stand-in': 5})):
         status, data, report, errors = adapted('--project', level, data=tree)
         found = {action: count for action, count in actions(report).items() if action not in ('made', 'nonce')}
         check(status == 0 and found == wanted, f'adapt --project {level}: {found} {errors}')
