@@ -4,6 +4,7 @@ use Rattle.std.specs.List.{list_all}
 use Rattle.serde_json.specs.Data.{Data, string, array}
 use Rattle.serde_json.specs.View.{items_of}
 use Rattle.ev_types.specs.declared.contents.Kind.{Kind}
+use Rattle.ev_types.specs.declared.events.Profile.{Profile}
 use Rattle.ev_tree.specs.declared.outcome.Found.{Found}
 use Rattle.ev_tree.specs.declared.outcome.Found.TheVariants.{Absent, Given}
 use Rattle.ev_tree.specs.Forms.{is_object, is_text, field_of, text_of, objects_of, texts_of, objects_in, texts_in, in_form, value_or_wrong, listed, text_in, is_wrong, given_or}
@@ -120,13 +121,13 @@ items_entries : (kind : Kind) (version : List ℕ) (resources : List Data) → l
 items_entries kind version [] = refl
 items_entries kind version (resource ∷ resources) = λ i. item_entry kind version resource i && items_entries kind version resources i
 
-told_map : (kind : Kind) (version : List ℕ) (resources : List Data) → map (item_of kind) (map (item_tree kind version) resources) ≡ map (item_told kind version) resources
-told_map kind version [] = refl
-told_map kind version (resource ∷ resources) = ap (λ (items : List _). item_told kind version resource ∷ items) (told_map kind version resources)
+told_map : (profile : Profile) (kind : Kind) (version : List ℕ) (resources : List Data) → map (item_of profile kind) (map (item_tree kind version) resources) ≡ map (item_told profile kind version) resources
+told_map profile kind version [] = refl
+told_map profile kind version (resource ∷ resources) = ap (λ (items : List _). item_told profile kind version resource ∷ items) (told_map profile kind version resources)
 
-told_name : (kind : Kind) (version : List ℕ) (resource : Data) → (item_told kind version resource).name ≡ resource_name kind resource
+told_name : (profile : Profile) (kind : Kind) (version : List ℕ) (resource : Data) → (item_told profile kind version resource).name ≡ resource_name kind resource
 unfolding item_of
-told_name kind version resource = ap (given_or []) (item_name kind version resource)
+told_name profile kind version resource = ap (given_or []) (item_name kind version resource)
 
 -- ---- the message
 
@@ -174,30 +175,30 @@ given_true : {A : Type 0} (test : Bool) (a : A) → test ≡ true → given_if t
 given_true test a is = ap (λ (b : Bool). given_if b a) is
 
 -- by the kind of the response
-read_as : (kind : Option Kind) (url nonce version : List ℕ) (resources : List Data) (removed : List (List ℕ)) → kind_with url ≡ kind → 1 ≤ length nonce
-    → response_of (message_tree url nonce (items_of_kind kind version resources) (map string removed))
-    ≡ Some (told_with kind (record { kind = kind; url = url; nonce = nonce; version = version; resources = resources }) removed)
+read_as : (profile : Profile) (kind : Option Kind) (url nonce version : List ℕ) (resources : List Data) (removed : List (List ℕ)) → kind_with url ≡ kind → 1 ≤ length nonce
+    → response_of profile (message_tree url nonce (items_of_kind kind version resources) (map string removed))
+    ≡ Some (told_with profile kind (record { kind = kind; url = url; nonce = nonce; version = version; resources = resources }) removed)
 unfolding response_of
-read_as None url nonce version resources removed is some =
+read_as profile None url nonce version resources removed is some =
     let tree : Data = message_tree url nonce [] (map string removed) in
     let kind : response_kind tree ≡ None = kind_is url nonce [] (map string removed) ∙ is in
-    (λ i. given_if (head_is url nonce [] (map string removed) some i && has_lists_of (kind i) tree) (parts_of (kind i) (nonce_is url nonce [] (map string removed) i) tree))
-read_as (Some k) url nonce version resources removed is some =
+    (λ i. given_if (head_is url nonce [] (map string removed) some i && has_lists_of (kind i) tree) (parts_of profile (kind i) (nonce_is url nonce [] (map string removed) i) tree))
+read_as profile (Some k) url nonce version resources removed is some =
     let items : List Data = map (item_tree k version) resources in
     let tree : Data = message_tree url nonce items (map string removed) in
     let kind : response_kind tree ≡ Some k = kind_is url nonce items (map string removed) ∙ is in
-    (λ i. given_if (head_is url nonce items (map string removed) some i && has_lists_of (kind i) tree) (parts_of (kind i) (nonce_is url nonce items (map string removed) i) tree))
-    ∙ (λ i. given_if (lists_are url nonce items removed (items_objects k version resources) (items_entries k version resources) i) (parts_of (Some k) nonce tree))
+    (λ i. given_if (head_is url nonce items (map string removed) some i && has_lists_of (kind i) tree) (parts_of profile (kind i) (nonce_is url nonce items (map string removed) i) tree))
+    ∙ (λ i. given_if (lists_are url nonce items removed (items_objects k version resources) (items_entries k version resources) i) (parts_of profile (Some k) nonce tree))
     ∙ (λ i. Some (record {
       kind = Some k;
       nonce = nonce;
-      items = map (item_of k) (entries_is url nonce items (map string removed) (items_objects k version resources) i);
+      items = map (item_of profile k) (entries_is url nonce items (map string removed) (items_objects k version resources) i);
       removed = removed_is url nonce items removed i;
     }))
-    ∙ (λ i. Some (record { kind = Some k; nonce = nonce; items = told_map k version resources i; removed = removed }))
+    ∙ (λ i. Some (record { kind = Some k; nonce = nonce; items = told_map profile k version resources i; removed = removed }))
 
 pub read_so : DeltasAreRead
-read_so response removed is = record {
-  reads = read_as response.kind response.url response.nonce response.version response.resources removed is.kind is.nonce;
-  named = λ kind resource. told_name kind response.version resource;
+read_so profile response removed is = record {
+  reads = read_as profile response.kind response.url response.nonce response.version response.resources removed is.kind is.nonce;
+  named = λ kind resource. told_name profile kind response.version resource;
 }

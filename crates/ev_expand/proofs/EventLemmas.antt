@@ -11,6 +11,7 @@ use Rattle.ev_types.specs.declared.events.Actor.TheVariants.{Stream, Health as h
 use Rattle.ev_types.specs.declared.events.Event.{Event}
 use Rattle.ev_types.specs.declared.events.Event.TheVariants.{Connect, Disconnect, Response, Health, FetchTimeout, DrainTimeout, TtlExpired, Publish, Reap, Accept, Close, Settle}
 use Rattle.ev_types.specs.declared.events.Line.{Line}
+use Rattle.ev_types.specs.declared.events.Profile.{Profile}
 use Rattle.ev_wire.specs.Responses.{response_of, parts_of, item_of, entries_of, response_kind, nonce_of, is_response}
 use Rattle.ev_script.specs.Members.{has_only, name_of, member_of}
 use Rattle.ev_script.specs.LineForms.{line_at, host_in, kind_in}
@@ -21,15 +22,15 @@ use Rattle.ev_script.specs.MainLines.{publish_line, reap_line}
 use Rattle.ev_script.specs.WorkerLines.{worker_in, conn_in, ask_in, worker_line, accept_line, close_line, settle_line}
 use Rattle.ev_script.specs.Lines.{line_of, line_by, main_side_line}
 use Rattle.ev_expand.specs.Fronts.{event_of, message_of}
-use Rattle.ev_expand.specs.Guarding.{kind_of, listed_as, clusters_in}
+use Rattle.ev_expand.specs.Guarding.{kind_of, items_as, items_by, listed_as, clusters_by}
 
 -- a response is what its line's message is read as
-abbrev pub AsSaid : Data → Event → Type 0
-AsSaid tree (Response response) = response_of (message_of tree) ≡ Some response
-AsSaid tree event = Unit {0}
+abbrev pub AsSaid : Profile → Data → Event → Type 0
+AsSaid profile tree (Response response) = response_of profile (message_of tree) ≡ Some response
+AsSaid profile tree event = Unit {0}
 
-abbrev pub LineAsSaid : Data → Line → Type 0
-LineAsSaid tree line = AsSaid tree line.event
+abbrev pub LineAsSaid : Profile → Data → Line → Type 0
+LineAsSaid profile tree line = AsSaid profile tree line.event
 
 chained : {A B : Type 0} (P : B → Type 0) (f : A → Option B) (o : Option A) → ((x : A) → IfSome (f x) P) → IfSome (option_and_then f o) P
 chained P f None k = tt
@@ -47,73 +48,73 @@ either : {A : Type 0} (P : A → Type 0) (b : Bool) (o q : Option A) → IfSome 
 either P true o q h k = h
 either P false o q h k = k
 
-said_at : (at : ℕ) (tree : Data) (actor : Actor) (event : Option Event) → IfSome event (AsSaid tree) → IfSome (line_at at actor event) (LineAsSaid tree)
-said_at at tree actor None h = tt
-said_at at tree actor (Some e) h = h
+said_at : (profile : Profile) (at : ℕ) (tree : Data) (actor : Actor) (event : Option Event) → IfSome event (AsSaid profile tree) → IfSome (line_at at actor event) (LineAsSaid profile tree)
+said_at profile at tree actor None h = tt
+said_at profile at tree actor (Some e) h = h
 
-worker_said : (at : ℕ) (tree : Data) (event : Option Event) → IfSome event (AsSaid tree) → IfSome (worker_line at event tree) (LineAsSaid tree)
-worker_said at tree event h = chained (LineAsSaid tree) _ (worker_in tree) (λ worker. said_at at tree (Worker worker) event h)
+worker_said : (profile : Profile) (at : ℕ) (tree : Data) (event : Option Event) → IfSome event (AsSaid profile tree) → IfSome (worker_line at event tree) (LineAsSaid profile tree)
+worker_said profile at tree event h = chained (LineAsSaid profile tree) _ (worker_in tree) (λ worker. said_at profile at tree (Worker worker) event h)
 
-response_said : (tree message : Data) (found : Option ResponseParts) → get (codes "message") tree ≡ Some message → response_of message ≡ found
-    → IfSome (option_map (λ response. Response response) found) (AsSaid tree)
-response_said tree message None is e = tt
-response_said tree message (Some response) is e = ap (λ (o : Option Data). response_of (unwrap_or o null)) is ∙ e
+response_said : (profile : Profile) (tree message : Data) (found : Option ResponseParts) → get (codes "message") tree ≡ Some message → response_of profile message ≡ found
+    → IfSome (option_map (λ response. Response response) found) (AsSaid profile tree)
+response_said profile tree message None is e = tt
+response_said profile tree message (Some response) is e = ap (λ (o : Option Data). response_of profile (unwrap_or o null)) is ∙ e
 
-message_said : (tree : Data) (found : Option Data) → get (codes "message") tree ≡ found
-    → IfSome (option_map (λ response. Response response) (option_and_then response_of found)) (AsSaid tree)
-message_said tree None is = tt
-message_said tree (Some message) is = response_said tree message (response_of message) is refl
+message_said : (profile : Profile) (tree : Data) (found : Option Data) → get (codes "message") tree ≡ found
+    → IfSome (option_map (λ response. Response response) (option_and_then (response_of profile) found)) (AsSaid profile tree)
+message_said profile tree None is = tt
+message_said profile tree (Some message) is = response_said profile tree message (response_of profile message) is refl
 
-timeout_said : (kind : Kind) (tree : Data) → IfSome (timeout_of kind tree) (AsSaid tree)
-timeout_said Cds tree = tested (AsSaid tree) _ (Some (FetchTimeout (record { kind = Cds; name = None }))) tt
-timeout_said Eds tree = tested (AsSaid tree) _ _ (mapped (AsSaid tree) (λ name. FetchTimeout (record { kind = Eds; name = Some name })) (member_of name_of (codes "name") tree) (λ name. tt))
-timeout_said Lds tree = tested (AsSaid tree) _ (Some (FetchTimeout (record { kind = Lds; name = None }))) tt
-timeout_said Rds tree = tested (AsSaid tree) _ _ (mapped (AsSaid tree) (λ name. FetchTimeout (record { kind = Rds; name = Some name })) (member_of name_of (codes "name") tree) (λ name. tt))
+timeout_said : (profile : Profile) (kind : Kind) (tree : Data) → IfSome (timeout_of kind tree) (AsSaid profile tree)
+timeout_said profile Cds tree = tested (AsSaid profile tree) _ (Some (FetchTimeout (record { kind = Cds; name = None }))) tt
+timeout_said profile Eds tree = tested (AsSaid profile tree) _ _ (mapped (AsSaid profile tree) (λ name. FetchTimeout (record { kind = Eds; name = Some name })) (member_of name_of (codes "name") tree) (λ name. tt))
+timeout_said profile Lds tree = tested (AsSaid profile tree) _ (Some (FetchTimeout (record { kind = Lds; name = None }))) tt
+timeout_said profile Rds tree = tested (AsSaid profile tree) _ _ (mapped (AsSaid profile tree) (λ name. FetchTimeout (record { kind = Rds; name = Some name })) (member_of name_of (codes "name") tree) (λ name. tt))
 
-main_side_said : (op : List ℕ) (at : ℕ) (tree : Data) → IfSome (main_side_line op at tree) (LineAsSaid tree)
-main_side_said op at tree =
-    let P : Line → Type 0 = LineAsSaid tree in
-    let Q : Event → Type 0 = AsSaid tree in
-    either P (bytes_eq op (codes "connect")) (connect_line at tree) _ (tested P (has_only (codes "op" ∷ []) tree) _ (said_at at tree Stream (Some Connect) tt))
-    (either P (bytes_eq op (codes "disconnect")) (disconnect_line at tree) _ (tested P (has_only (codes "op" ∷ []) tree) _ (said_at at tree Stream (Some Disconnect) tt))
-    (either P (bytes_eq op (codes "response")) (response_line at tree) _ (tested P _ _ (said_at at tree Stream _ (message_said tree (get (codes "message") tree) refl)))
+main_side_said : (profile : Profile) (op : List ℕ) (at : ℕ) (tree : Data) → IfSome (main_side_line profile op at tree) (LineAsSaid profile tree)
+main_side_said profile op at tree =
+    let P : Line → Type 0 = LineAsSaid profile tree in
+    let Q : Event → Type 0 = AsSaid profile tree in
+    either P (bytes_eq op (codes "connect")) (connect_line at tree) _ (tested P (has_only (codes "op" ∷ []) tree) _ (said_at profile at tree Stream (Some Connect) tt))
+    (either P (bytes_eq op (codes "disconnect")) (disconnect_line at tree) _ (tested P (has_only (codes "op" ∷ []) tree) _ (said_at profile at tree Stream (Some Disconnect) tt))
+    (either P (bytes_eq op (codes "response")) (response_line profile at tree) _ (tested P _ _ (said_at profile at tree Stream _ (message_said profile tree (get (codes "message") tree) refl)))
     (either P (bytes_eq op (codes "health")) (health_line at tree) _
-    (tested P _ _ (said_at at tree health _
+    (tested P _ _ (said_at profile at tree health _
     (chained Q _ (member_of name_of (codes "cluster") tree) (λ cluster. chained Q _ (host_in tree) (λ host. mapped Q (λ healthy. Health cluster host healthy) (member_of as_bool (codes "healthy") tree) (λ healthy. tt))))))
-    (either P (bytes_eq op (codes "fetchTimeout")) (timeout_line at tree) _ (said_at at tree Timer _ (chained Q (λ kind. timeout_of kind tree) (kind_in tree) (λ kind. timeout_said kind tree)))
+    (either P (bytes_eq op (codes "fetchTimeout")) (timeout_line at tree) _ (said_at profile at tree Timer _ (chained Q (λ kind. timeout_of kind tree) (kind_in tree) (λ kind. timeout_said profile kind tree)))
     (either P (bytes_eq op (codes "drainTimeout")) (drain_line at tree) _
-    (tested P _ _ (said_at at tree Timer _ (mapped Q (λ name. DrainTimeout name) (member_of name_of (codes "listener") tree) (λ name. tt))))
+    (tested P _ _ (said_at profile at tree Timer _ (mapped Q (λ name. DrainTimeout name) (member_of name_of (codes "listener") tree) (λ name. tt))))
     (either P (bytes_eq op (codes "ttlExpired")) (expired_line at tree) _
-    (tested P _ _ (said_at at tree Timer _ (chained Q _ (kind_in tree) (λ kind. mapped Q (λ name. TtlExpired kind name) (member_of name_of (codes "name") tree) (λ name. tt)))))
-    (either P (bytes_eq op (codes "publish")) (publish_line at tree) _ (tested P (has_only (codes "op" ∷ []) tree) _ (said_at at tree Main (Some Publish) tt))
-    (either P (bytes_eq op (codes "reap")) (reap_line at tree) None (tested P (has_only (codes "op" ∷ []) tree) _ (said_at at tree Main (Some Reap) tt)) tt))))))))
+    (tested P _ _ (said_at profile at tree Timer _ (chained Q _ (kind_in tree) (λ kind. mapped Q (λ name. TtlExpired kind name) (member_of name_of (codes "name") tree) (λ name. tt)))))
+    (either P (bytes_eq op (codes "publish")) (publish_line at tree) _ (tested P (has_only (codes "op" ∷ []) tree) _ (said_at profile at tree Main (Some Publish) tt))
+    (either P (bytes_eq op (codes "reap")) (reap_line at tree) None (tested P (has_only (codes "op" ∷ []) tree) _ (said_at profile at tree Main (Some Reap) tt)) tt))))))))
 
-by_said : (op : List ℕ) (at : ℕ) (tree : Data) → IfSome (line_by op at tree) (LineAsSaid tree)
-by_said op at tree =
-    let P : Line → Type 0 = LineAsSaid tree in
-    let Q : Event → Type 0 = AsSaid tree in
-    either P (bytes_eq op (codes "accept")) (accept_line at tree) _ (tested P _ _ (worker_said at tree _ (mapped Q (λ ask. Accept ask) (ask_in tree) (λ ask. tt))))
-    (either P (bytes_eq op (codes "close")) (close_line at tree) _ (tested P _ _ (worker_said at tree _ (mapped Q (λ conn. Close conn) (conn_in tree) (λ conn. tt))))
-    (either P (bytes_eq op (codes "settle")) (settle_line at tree) _ (tested P _ _ (worker_said at tree (Some Settle) tt)) (main_side_said op at tree)))
+by_said : (profile : Profile) (op : List ℕ) (at : ℕ) (tree : Data) → IfSome (line_by profile op at tree) (LineAsSaid profile tree)
+by_said profile op at tree =
+    let P : Line → Type 0 = LineAsSaid profile tree in
+    let Q : Event → Type 0 = AsSaid profile tree in
+    either P (bytes_eq op (codes "accept")) (accept_line profile at tree) _ (tested P _ _ (worker_said profile at tree _ (mapped Q (λ ask. Accept ask) (ask_in tree) (λ ask. tt))))
+    (either P (bytes_eq op (codes "close")) (close_line at tree) _ (tested P _ _ (worker_said profile at tree _ (mapped Q (λ conn. Close conn) (conn_in tree) (λ conn. tt))))
+    (either P (bytes_eq op (codes "settle")) (settle_line at tree) _ (tested P _ _ (worker_said profile at tree (Some Settle) tt)) (main_side_said profile op at tree)))
 
-line_said : (at : ℕ) (tree : Data) → IfSome (line_of at tree) (LineAsSaid tree)
-line_said at tree = chained (LineAsSaid tree) (λ op. line_by op at tree) (member_of as_str (codes "op") tree) (λ op. by_said op at tree)
+line_said : (profile : Profile) (at : ℕ) (tree : Data) → IfSome (line_of profile at tree) (LineAsSaid profile tree)
+line_said profile at tree = chained (LineAsSaid profile tree) (λ op. line_by profile op at tree) (member_of as_str (codes "op") tree) (λ op. by_said profile op at tree)
 
-taken : (tree : Data) (line : Option Line) → IfSome line (LineAsSaid tree) → IfSome (option_map (λ (l : Line). l.event) line) (AsSaid tree)
-taken tree None h = tt
-taken tree (Some line) h = h
+taken : (profile : Profile) (tree : Data) (line : Option Line) → IfSome line (LineAsSaid profile tree) → IfSome (option_map (λ (l : Line). l.event) line) (AsSaid profile tree)
+taken profile tree None h = tt
+taken profile tree (Some line) h = h
 
 -- the event of a line says what the line says
-pub event_said : (tree : Data) → IfSome (event_of tree) (AsSaid tree)
-event_said tree = taken tree (line_of 0 tree) (line_said 0 tree)
+pub event_said : (profile : Profile) (tree : Data) → IfSome (event_of profile tree) (AsSaid profile tree)
+event_said profile tree = taken profile tree (line_of profile 0 tree) (line_said profile 0 tree)
 
-when_some : (tree : Data) (response : ResponseParts) (event : Option Event) → event ≡ Some (Response response) → IfSome event (AsSaid tree) → response_of (message_of tree) ≡ Some response
-when_some tree response None e h = absurd (cc)
-when_some tree response (Some other) e h = subst (λ (o : Option Event). IfSome o (AsSaid tree)) e h
+when_some : (profile : Profile) (tree : Data) (response : ResponseParts) (event : Option Event) → event ≡ Some (Response response) → IfSome event (AsSaid profile tree) → response_of profile (message_of tree) ≡ Some response
+when_some profile tree response None e h = absurd (cc)
+when_some profile tree response (Some other) e h = subst (λ (o : Option Event). IfSome o (AsSaid profile tree)) e h
 
 -- the response of a line is what its message is read as
-pub response_read : (tree : Data) (response : ResponseParts) → event_of tree ≡ Some (Response response) → response_of (message_of tree) ≡ Some response
-response_read tree response e = when_some tree response (event_of tree) e (event_said tree)
+pub response_read : (profile : Profile) (tree : Data) (response : ResponseParts) → event_of profile tree ≡ Some (Response response) → response_of profile (message_of tree) ≡ Some response
+response_read profile tree response e = when_some profile tree response (event_of profile tree) e (event_said profile tree)
 
 -- ---- the resources of a response
 
@@ -121,25 +122,35 @@ given : {A : Type 0} (b : Bool) (v r : A) → cond b (Some v) None ≡ Some r �
 given true v r h = cc
 given false v r h = absurd (cc)
 
-parts_items : (o : Option Kind) (nonce : List ℕ) (message : Data) (response : ResponseParts) (kind : Kind) → response ≡ parts_of o nonce message → response.kind ≡ Some kind
-    → response.items ≡ map (item_of kind) (entries_of message)
-parts_items None nonce message response kind e h = absurd (cc (ap (λ (r : ResponseParts). r.kind) e))
-parts_items (Some other) nonce message response kind e h =
+parts_items : (profile : Profile) (o : Option Kind) (nonce : List ℕ) (message : Data) (response : ResponseParts) (kind : Kind) → response ≡ parts_of profile o nonce message → response.kind ≡ Some kind
+    → response.items ≡ map (item_of profile kind) (entries_of message)
+parts_items profile None nonce message response kind e h = absurd (cc (ap (λ (r : ResponseParts). r.kind) e))
+parts_items profile (Some other) nonce message response kind e h =
     let same : Some other ≡ Some kind = sym (ap (λ (r : ResponseParts). r.kind) e) ∙ h in
     let kinds : other ≡ kind = cc in
-    ap (λ (r : ResponseParts). r.items) e ∙ ap (λ (k : Kind). map (item_of k) (entries_of message)) kinds
+    ap (λ (r : ResponseParts). r.items) e ∙ ap (λ (k : Kind). map (item_of profile k) (entries_of message)) kinds
 
-read_items : (message : Data) (response : ResponseParts) (kind : Kind) → response_of message ≡ Some response → response.kind ≡ Some kind → response.items ≡ map (item_of kind) (entries_of message)
+read_items : (profile : Profile) (message : Data) (response : ResponseParts) (kind : Kind) → response_of profile message ≡ Some response → response.kind ≡ Some kind → response.items ≡ map (item_of profile kind) (entries_of message)
 unfolding response_of
-read_items message response kind e h = parts_items (response_kind message) (nonce_of message) message response kind (given (is_response message) _ response e) h
+read_items profile message response kind e h = parts_items profile (response_kind message) (nonce_of message) message response kind (given (is_response message) _ response e) h
 
 -- the items of a response are what its resources are read as
-pub items_read : (line : Data) (response : ResponseParts) (kind : Kind) → event_of line ≡ Some (Response response) → response.kind ≡ Some kind
-    → response.items ≡ map (item_of kind) (entries_of (message_of line))
-items_read line response kind e h = read_items (message_of line) response kind (response_read line response e) h
+pub items_read : (profile : Profile) (line : Data) (response : ResponseParts) (kind : Kind) → event_of profile line ≡ Some (Response response) → response.kind ≡ Some kind
+    → response.items ≡ map (item_of profile kind) (entries_of (message_of line))
+items_read profile line response kind e h = read_items profile (message_of line) response kind (response_read profile line response e) h
 
--- those of a response of clusters
-pub cluster_items_read : (line : Data) (response : ResponseParts) → event_of line ≡ Some (Response response) → response.kind ≡ Some Cds
-    → response.items ≡ map (item_of Cds) (clusters_in line)
-cluster_items_read line response e h =
-    items_read line response Cds e h ∙ ap (λ (k : Option Kind). map (item_of Cds) (listed_as k (message_of line))) (sym (ap kind_of e ∙ h))
+-- ---- the resources of clusters
+
+as_listed : (profile : Profile) (line : Data) (response : ResponseParts) (kind : Option Kind) → kind ≡ response.kind → event_of profile line ≡ Some (Response response)
+    → items_as kind response.items ≡ map (item_of profile Cds) (listed_as kind (message_of line))
+as_listed profile line response None is e = refl
+as_listed profile line response (Some Cds) is e = items_read profile line response Cds e (sym is)
+as_listed profile line response (Some Eds) is e = refl
+as_listed profile line response (Some Lds) is e = refl
+as_listed profile line response (Some Rds) is e = refl
+
+-- the items of clusters of a line's event are what its resources of clusters are read as
+pub cluster_items_read : (profile : Profile) (line : Data) (event : Option Event) → event ≡ event_of profile line → items_by event ≡ map (item_of profile Cds) (clusters_by event line)
+cluster_items_read profile line None is = refl
+cluster_items_read profile line (Some (Response response)) is = as_listed profile line response response.kind refl (sym is)
+cluster_items_read profile line (Some event) is = refl

@@ -4,6 +4,7 @@ use Rattle.std.proofs.lemmas.List.{map-append, append-nil}
 use Rattle.std.proofs.lemmas.List.Elements.{filter-append}
 use Rattle.std.proofs.lemmas.Grind.{flat_map-append}
 use Rattle.serde_json.specs.Data.{Data}
+use Rattle.ev_types.specs.declared.events.Profile.{Profile}
 use Rattle.ev_expand.specs.Fronts.{Front, up_to, fronts, behind, stream_at, heard}
 use Rattle.ev_expand.specs.Growing.{front_of}
 
@@ -25,9 +26,9 @@ heard_last true line fs f e = ap (λ (l : Data). l ∷ []) e
 heard_last false line fs f e = refl
 
 -- the line is heard too, where a stream is open after it
-pub heard-push : (lines : List Data) (line : Data) → heard (lines ++ line ∷ []) ≡ heard lines ++ cond (stream_at (lines ++ line ∷ [])) (line ∷ []) []
-heard-push lines line =
-    ap (λ (fs : List Front). map (λ (front : Front). front.line) (filter (λ front. stream_at (up_to front)) fs)) (fronts-push lines line)
-    ∙ ap (map (λ (front : Front). front.line)) (filter-append (λ front. stream_at (up_to front)) (fronts lines) (front_of lines line ∷ []))
-    ∙ map-append (λ (front : Front). front.line) (filter (λ front. stream_at (up_to front)) (fronts lines)) (filter (λ front. stream_at (up_to front)) (front_of lines line ∷ []))
-    ∙ ap (λ xs. heard lines ++ xs) (heard_last (stream_at (lines ++ line ∷ [])) line (fronts lines) (front_of lines line) refl)
+pub heard-push : (profile : Profile) (lines : List Data) (line : Data) → heard profile (lines ++ line ∷ []) ≡ heard profile lines ++ cond (stream_at profile (lines ++ line ∷ [])) (line ∷ []) []
+heard-push profile lines line =
+    ap (λ (fs : List Front). map (λ (front : Front). front.line) (filter (λ front. stream_at profile (up_to front)) fs)) (fronts-push lines line)
+    ∙ ap (map (λ (front : Front). front.line)) (filter-append (λ front. stream_at profile (up_to front)) (fronts lines) (front_of lines line ∷ []))
+    ∙ map-append (λ (front : Front). front.line) (filter (λ front. stream_at profile (up_to front)) (fronts lines)) (filter (λ front. stream_at profile (up_to front)) (front_of lines line ∷ []))
+    ∙ ap (λ xs. heard profile lines ++ xs) (heard_last (stream_at profile (lines ++ line ∷ [])) line (fronts lines) (front_of lines line) refl)

@@ -125,6 +125,6 @@ large_at rules head ls i entry old new gs answer h there grown pushes is =
     }
 
 -- what was reported where no line was refused
-pub all_grown : (rules : Rules) (head : Data) (lines : List Data) (text : TextSoFar) (gs : List Guarded) → first_use rules.prefix lines ≡ None → IsGrown rules head lines text gs
+pub all_grown : (rules : Rules) (head : Data) (lines : List Data) (text : TextSoFar) (gs : List Guarded) → first_use rules.guard.profile rules.prefix lines ≡ None → IsGrown rules head lines text gs
     → IsExpanded rules head lines (Ok text.bytes)
 all_grown rules head lines text gs unused grown = (unused, grown.written.limits, grown.read_back, grown.written.bytes)

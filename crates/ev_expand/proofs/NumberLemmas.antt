@@ -10,6 +10,7 @@ use Rattle.serde_json.specs.View.{view}
 use Rattle.serde_json.specs.declared.value.Value.{Value}
 use Rattle.ev_types.specs.Items.{ItemParts}
 use Rattle.ev_types.specs.declared.contents.Kind.TheVariants.{Cds}
+use Rattle.ev_types.specs.declared.events.Profile.{Profile}
 use Rattle.ev_wire.specs.Responses.{item_of}
 use Rattle.ev_expand.specs.declared.keys.Key.{Key}
 use Rattle.ev_expand.specs.Keys.{key_same, key_decides}
@@ -149,12 +150,12 @@ at_map f [] i d r h = absurd (omega arith)
 at_map f (x ∷ xs) zero d r h = refl
 at_map f (x ∷ xs) (suc i) d r h = at_map f xs i d r (omega arith)
 
-pub entry_item : (items : List ItemParts) (es : List Value) (i : ℕ) (item : ItemParts) (entry : Value) → items ≡ map (item_of Cds) (map view es) → i < length es
-    → item ≡ get_or items i item → entry ≡ get_or es i entry → item ≡ item_of Cds (view entry)
-entry_item items es i item entry e h here there =
+pub entry_item : (profile : Profile) (items : List ItemParts) (es : List Value) (i : ℕ) (item : ItemParts) (entry : Value) → items ≡ map (item_of profile Cds) (map view es) → i < length es
+    → item ≡ get_or items i item → entry ≡ get_or es i entry → item ≡ item_of profile Cds (view entry)
+entry_item profile items es i item entry e h here there =
     let below : i < length (map view es) = omega (arith, h, length-map es view) in
-    here ∙ ap (λ (xs : List ItemParts). get_or xs i item) e ∙ at_map (item_of Cds) (map view es) i (view entry) item below
-    ∙ ap (item_of Cds) (at_map view es i entry (view entry) h) ∙ ap (λ (v : Value). item_of Cds (view v)) (sym there)
+    here ∙ ap (λ (xs : List ItemParts). get_or xs i item) e ∙ at_map (item_of profile Cds) (map view es) i (view entry) item below
+    ∙ ap (item_of profile Cds) (at_map view es i entry (view entry) h) ∙ ap (λ (v : Value). item_of profile Cds (view v)) (sym there)
 
 pub views_more : (es : List Value) (i : ℕ) (entry : Value) → entry ≡ get_or es i entry → i < length es → map view (take (i + 1) es) ≡ map view (take i es) ++ view entry ∷ []
 views_more es i entry there h =

@@ -23,12 +23,12 @@ any_as : (guard : Guard) (gs : List Guarded) (entries : List Data) → list_any 
 any_as guard gs [] = refl
 any_as guard gs (entry ∷ entries) = ap₂ (λ (a b : Bool). a || b) (some_as gs (guard.key_of entry)) (any_as guard gs entries)
 
-line_as : (prefix : List ℕ) (guard : Guard) (gs : List Guarded) (line : Data) → placed_line prefix line (map (place_at guard gs) (clusters_in line)) ≡ waiting_line prefix guard gs line
+line_as : (prefix : List ℕ) (guard : Guard) (gs : List Guarded) (line : Data) → placed_line prefix (clusters_in guard.profile line) line (map (place_at guard gs) (clusters_in guard.profile line)) ≡ waiting_line prefix guard gs line
 line_as prefix guard gs line = ap₂ (λ (b : Bool) (entries : List Data). cond b (response_tree (with_value (codes "resources") (array (items_of entries)) (message_of line))) line)
-    (any_as guard gs (clusters_in line)) (entries_as prefix guard gs (clusters_in line))
+    (any_as guard gs (clusters_in guard.profile line)) (entries_as prefix guard gs (clusters_in guard.profile line))
 
 -- with the places of its keys a line is as they wait
-pub lines_as : (rules : Rules) (gs : List Guarded) (line : Data) (places : List (Option ℕ)) → places ≡ map (place_at rules.guard gs) (clusters_in line)
+pub lines_as : (rules : Rules) (gs : List Guarded) (line : Data) (places : List (Option ℕ)) → places ≡ map (place_at rules.guard gs) (clusters_in rules.guard.profile line)
     → placed_lines rules line places ≡ written_line rules gs line
 lines_as rules gs line places is =
     ap (placed_lines rules line) is ∙ ap (λ (l : Data). cond (rules.is_written line) (l ∷ []) []) (line_as rules.prefix rules.guard gs line)

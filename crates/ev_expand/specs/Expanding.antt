@@ -79,8 +79,9 @@ ReadBack trees = All (λ tree. IsReadable tree → ReadsBack (whole tree)) trees
 -- large
 abbrev pub IsExpanded : Rules → Data → List Data → Result (Vec ℕ Global) ExpandError → Type 0
 IsExpanded rules head lines (Ok text) =
-    (first_use rules.prefix lines ≡ None) × AreWithinLimits (written_by rules head lines) × ReadBack (given_by rules head lines)
+    (first_use rules.guard.profile rules.prefix lines ≡ None) × AreWithinLimits (written_by rules head lines) × ReadBack (given_by rules head lines)
     × (text.items ≡ text_by rules head lines)
-IsExpanded rules head lines (Err (Private line)) = first_use rules.prefix lines ≡ Some line
-IsExpanded rules head lines (Err (Large line)) = (first_use rules.prefix lines ≡ None) × GrowsTooLarge rules head lines line
+IsExpanded rules head lines (Err (Private line)) = first_use rules.guard.profile rules.prefix lines ≡ Some line
+IsExpanded rules head lines (Err (Large line)) =
+    (first_use rules.guard.profile rules.prefix lines ≡ None) × GrowsTooLarge rules head lines line
 IsExpanded rules head lines (Err OutOfMemory) = ⊤

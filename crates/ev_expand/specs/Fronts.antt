@@ -6,6 +6,7 @@ use Rattle.serde_json.specs.Find.{get}
 use Rattle.ev_types.specs.declared.events.Event.{Event}
 use Rattle.ev_types.specs.declared.events.Event.TheVariants.{Connect, Disconnect}
 use Rattle.ev_types.specs.declared.events.Line.{Line}
+use Rattle.ev_types.specs.declared.events.Profile.{Profile}
 use Rattle.ev_script.specs.Lines.{line_of}
 
 -- a line of an input, and the lines before it
@@ -26,9 +27,9 @@ abbrev pub fronts : List Data → List Front
 fronts [] = []
 fronts (first ∷ lines) = record { before = []; line = first } ∷ map (behind first) (fronts lines)
 
--- the event of a line of a script, whatever its place
-abbrev pub event_of : Data → Option Event
-event_of line = option_map (λ (l : Line). l.event) (line_of 0 line)
+-- the event of a line of a script of this profile, whatever its place
+abbrev pub event_of : Profile → Data → Option Event
+event_of profile line = option_map (λ (l : Line). l.event) (line_of profile 0 line)
 
 -- whether a stream is open after an event, where the event says so
 abbrev pub stream_said : Event → Option Bool
@@ -37,16 +38,16 @@ stream_said Disconnect = Some false
 stream_said event = None
 
 -- a stream is open after these lines: the last connect or disconnect among them is a connect
-abbrev pub stream_at : List Data → Bool
-stream_at lines = unwrap_or (last_or None (filter_map (λ line. option_and_then stream_said (event_of line)) lines)) false
+abbrev pub stream_at : Profile → List Data → Bool
+stream_at profile lines = unwrap_or (last_or None (filter_map (λ line. option_and_then stream_said (event_of profile line)) lines)) false
 
 -- the line opens the stream
-abbrev pub opens : Front → Bool
-opens front = stream_at (up_to front) && not (stream_at front.before)
+abbrev pub opens : Profile → Front → Bool
+opens profile front = stream_at profile (up_to front) && not (stream_at profile front.before)
 
 -- the lines where a stream is open, in order
-abbrev pub heard : List Data → List Data
-heard lines = map (λ (front : Front). front.line) (filter (λ front. stream_at (up_to front)) (fronts lines))
+abbrev pub heard : Profile → List Data → List Data
+heard profile lines = map (λ (front : Front). front.line) (filter (λ front. stream_at profile (up_to front)) (fronts lines))
 
 -- the message of a line of a response
 abbrev pub message_of : Data → Data

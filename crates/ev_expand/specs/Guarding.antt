@@ -4,19 +4,22 @@ use Rattle.std.specs.List.{list_any, position_or_len}
 use Rattle.serde_json.specs.Data.{Data, null, string, array, object, no_members, put}
 use Rattle.serde_json.specs.Find.{get}
 use Rattle.serde_json.specs.View.{items_of}
+use Rattle.ev_types.specs.Items.{ItemParts}
 use Rattle.ev_types.specs.declared.contents.Kind.{Kind}
 use Rattle.ev_types.specs.declared.contents.Kind.TheVariants.{Cds}
 use Rattle.ev_types.specs.declared.events.Event.{Event}
 use Rattle.ev_types.specs.declared.events.Event.TheVariants.{Response}
+use Rattle.ev_types.specs.declared.events.Profile.{Profile}
 use Rattle.ev_wire.specs.Responses.{entries_of}
 use Rattle.ev_expand.specs.declared.keys.Key.{Key}
 use Rattle.ev_expand.specs.Keys.{key_same}
 use Rattle.ev_expand.specs.Fronts.{event_of, message_of}
 use Rattle.ev_expand.specs.Editing.{without, with_value}
 
--- What a command guards. `key_of`: the key of a resource of a response of clusters, where it is guarded. `own_of`: what is kept of
--- the first resource of a key.
+-- What a command guards. `profile`: how the lines are read. `key_of`: the key of a resource of a response of clusters, where it is
+-- guarded. `own_of`: what is kept of the first resource of a key.
 pub record Guard : Type 0 where
+  pub profile : Profile
   pub key_of : Data → Option Key
   pub own_of : Data → Data
 
@@ -34,15 +37,30 @@ abbrev pub kind_of : Option Event → Option Kind
 kind_of (Some (Response response)) = response.kind
 kind_of event = None
 
+-- the resources of a response of this kind, where it is one of clusters
+abbrev pub items_as : Option Kind → List ItemParts → List ItemParts
+items_as None items = []
+items_as (Some Cds) items = items
+items_as (Some kind) items = []
+
+-- the resources of clusters of an event
+abbrev pub items_by : Option Event → List ItemParts
+items_by (Some (Response response)) = items_as response.kind response.items
+items_by event = []
+
 -- the resources of a line of this kind, where it is a response
 abbrev pub listed_as : Option Kind → Data → List Data
 listed_as None message = []
 listed_as (Some Cds) message = entries_of message
 listed_as (Some kind) message = []
 
--- the resources of clusters of a line
-abbrev pub clusters_in : Data → List Data
-clusters_in line = listed_as (kind_of (event_of line)) (message_of line)
+-- the resources of clusters of a line, where it is this event
+abbrev pub clusters_by : Option Event → Data → List Data
+clusters_by event line = listed_as (kind_of event) (message_of line)
+
+-- the resources of clusters of a line of a script of this profile
+abbrev pub clusters_in : Profile → Data → List Data
+clusters_in profile line = clusters_by (event_of profile line) line
 
 -- the guarded resource
 abbrev pub guarded_of : Guard → Data → Option Guarded
@@ -50,7 +68,7 @@ guarded_of guard entry = option_map (λ key. record { key = key; own = guard.own
 
 -- the guarded resources of a line
 abbrev pub guarded_in : Guard → Data → List Guarded
-guarded_in guard line = filter_map (guarded_of guard) (clusters_in line)
+guarded_in guard line = filter_map (guarded_of guard) (clusters_in guard.profile line)
 
 -- each of these once, in the order of first appearance
 abbrev pub each_once : List Guarded → List Guarded
@@ -102,11 +120,12 @@ response_tree message = object (put (codes "message") message (put (codes "op") 
 
 -- the resources of a line, the guarded ones as they wait
 abbrev pub waiting_entries : List ℕ → Guard → List Guarded → Data → List Data
-waiting_entries prefix guard guarded line = map (λ entry. waiting_entry prefix (place_at guard guarded entry) entry) (clusters_in line)
+waiting_entries prefix guard guarded line =
+    map (λ entry. waiting_entry prefix (place_at guard guarded entry) entry) (clusters_in guard.profile line)
 
 -- a line with these; one without guarded resources stays as it is
 abbrev pub waiting_line : List ℕ → Guard → List Guarded → Data → Data
 waiting_line prefix guard guarded line =
-    if list_any (λ entry. is_some (guard.key_of entry)) (clusters_in line)
+    if list_any (λ entry. is_some (guard.key_of entry)) (clusters_in guard.profile line)
     then response_tree (with_value (codes "resources") (array (items_of (waiting_entries prefix guard guarded line))) (message_of line))
     else line

@@ -1,5 +1,6 @@
--- Keys: what is guarded. Guarded items of equal keys have one number.
-use Rattle.std.specs.Prelude.{◌≡◌, Bool, ◌&&◌, ◌++◌}
+-- Keys: what is guarded. Guarded items of equal keys have one number. The text of a body is no part of a key, so two bodies that differ
+-- only where nothing is read share one.
+use Rattle.std.specs.Prelude.{◌≡◌, ℕ, Bool, ◌&&◌, List, ◌++◌, []}
 use Rattle.std.specs.Bool.{Decides}
 use Rattle.std.specs.List.{flat_map}
 use Rattle.std.specs.Hash as fed
@@ -10,9 +11,18 @@ use Rattle.ev_types.specs.Hosts.{HostRowParts}
 use Rattle.ev_types.specs.Same.{both_decide, decides_as, bytes_decide}
 use Rattle.ev_types.specs.SameHosts.{host_hash_input}
 use Rattle.ev_types.specs.SameClusters.{cluster_same, cluster_decides}
+use Rattle.ev_types.specs.declared.clusters.Cluster.{Cluster}
 use Rattle.ev_types.specs.declared.clusters.Discovery.{Discovery}
-use Rattle.ev_types.specs.declared.clusters.Discovery.TheVariants.{Static, Eds}
+use Rattle.ev_types.specs.declared.clusters.Discovery.TheVariants.{Static, Eds, Elsewhere}
 use Rattle.ev_expand.specs.declared.keys.Key.{Key}
+
+-- the cluster without the text of its body
+abbrev pub typed_cluster : Cluster → Cluster
+typed_cluster cluster = record cluster { body_text = [] }
+
+-- the key of a cluster that refers to these names
+abbrev pub key_with : Cluster → List (List ℕ) → Key
+key_with cluster names = record { cluster = typed_cluster cluster; names = names }
 
 -- the same cluster, its name included, and the same names in the same order
 abbrev pub key_same : Key → Key → Bool
@@ -30,7 +40,8 @@ row_hash_input row = host_hash_input row.host ++ (fed.u32 row.weight ++ (fed.u8 
 
 abbrev pub discovery_hash_input : Discovery → fed.HashWrites
 discovery_hash_input (Static rows) = flat_map row_hash_input rows
-discovery_hash_input (Eds service limited) = fed.str service ++ fed.bool limited
+discovery_hash_input (Eds service limited fresh) = fed.str service ++ fed.bool limited
+discovery_hash_input Elsewhere = []
 
 abbrev pub key_hash_input : Key → fed.HashWrites
 key_hash_input key =

@@ -55,7 +55,7 @@ TakesUpLine guard line old new =
 
 -- the places of the keys of a line's resources of clusters among what is guarded
 pub record ArePlaces (guard : Guard) (line : Data) (guarded : List Guarded) (places : List (Option ℕ)) : Type 0 where
-  pub each : places ≡ map (place_at guard guarded) (clusters_in line)
+  pub each : places ≡ map (place_at guard guarded) (clusters_in guard.profile line)
   pub within : All (λ place. IfSome place (λ p. p < length guarded)) places
 
 -- these are the places of a line's keys in the table

@@ -15,17 +15,18 @@ placed_entries prefix [] places = []
 placed_entries prefix (entry ∷ entries) [] = []
 placed_entries prefix (entry ∷ entries) (place ∷ places) = waiting_entry prefix place entry ∷ placed_entries prefix entries places
 
--- a line whose resources have these places
-abbrev pub placed_line : List ℕ → Data → List (Option ℕ) → Data
-placed_line prefix line places =
+-- a line of these resources, which have these places
+abbrev pub placed_line : List ℕ → List Data → Data → List (Option ℕ) → Data
+placed_line prefix entries line places =
     if list_any is_some places
-    then response_tree (with_value (codes "resources") (array (items_of (placed_entries prefix (clusters_in line) places))) (message_of line))
+    then response_tree (with_value (codes "resources") (array (items_of (placed_entries prefix entries places))) (message_of line))
     else line
 
--- what is made of a line, or the line itself where nothing is made, is the line whose resources have these places
-abbrev pub IsPlaced : List ℕ → Data → List (Option ℕ) → Option Value → Type 0
-IsPlaced prefix line places made = unwrap_or (option_map view made) line ≡ placed_line prefix line places
+-- what is made of a line, or the line itself where nothing is made, is the line of these resources, which have these places
+abbrev pub IsPlaced : List ℕ → List Data → Data → List (Option ℕ) → Option Value → Type 0
+IsPlaced prefix entries line places made = unwrap_or (option_map view made) line ≡ placed_line prefix entries line places
 
 -- the line itself, where it is written
 abbrev pub placed_lines : Rules → Data → List (Option ℕ) → List Data
-placed_lines rules line places = if rules.is_written line then placed_line rules.prefix line places ∷ [] else []
+placed_lines rules line places =
+    if rules.is_written line then placed_line rules.prefix (clusters_in rules.guard.profile line) line places ∷ [] else []

@@ -14,6 +14,7 @@ use Rattle.ev_types.specs.declared.contents.Body.{Body}
 use Rattle.ev_types.specs.declared.contents.Body.TheVariants.{Good, Bad, Beat}
 use Rattle.ev_types.specs.declared.events.Event.{Event}
 use Rattle.ev_types.specs.declared.events.Event.TheVariants.{Response, FetchTimeout, TtlExpired}
+use Rattle.ev_types.specs.declared.events.Profile.{Profile}
 use Rattle.ev_expand.specs.Fronts.{event_of}
 
 -- the name begins with the prefix of private names
@@ -23,7 +24,8 @@ is_private prefix name = starts_with nat_eq name prefix
 -- a cluster's endpoints are asked for by a private name
 abbrev pub discovery_uses : List ℕ → Discovery → Bool
 discovery_uses prefix (is.Static rows) = false
-discovery_uses prefix (is.Eds service limited) = is_private prefix service
+discovery_uses prefix (is.Eds service limited fresh) = is_private prefix service
+discovery_uses prefix is.Elsewhere = false
 
 abbrev pub content_uses : List ℕ → Content → Bool
 content_uses prefix (a_cluster cluster) = discovery_uses prefix cluster.discovery
@@ -59,9 +61,9 @@ event_uses prefix (FetchTimeout timeout) = unwrap_or (option_map (named_uses pre
 event_uses prefix (TtlExpired kind name) = named_uses prefix kind name
 event_uses prefix event = false
 
-abbrev pub line_uses : List ℕ → Data → Bool
-line_uses prefix line = unwrap_or (option_map (event_uses prefix) (event_of line)) false
+abbrev pub line_uses : Profile → List ℕ → Data → Bool
+line_uses profile prefix line = unwrap_or (option_map (event_uses prefix) (event_of profile line)) false
 
 -- the number of the first line that uses a private name; the lines are those from the second on
-abbrev pub first_use : List ℕ → List Data → Option ℕ
-first_use prefix lines = option_map (λ index. index + 2) (position (line_uses prefix) lines)
+abbrev pub first_use : Profile → List ℕ → List Data → Option ℕ
+first_use profile prefix lines = option_map (λ index. index + 2) (position (line_uses profile prefix) lines)

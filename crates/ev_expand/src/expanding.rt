@@ -16,54 +16,64 @@ use crate::numbers::Numbers;
 use crate::outcome::ExpandError;
 use crate::private::first_use;
 use crate::text_so_far::TextSoFar;
-use ev_types::{Event, Item};
+use ev_types::{Event, Item, Profile};
 use serde_json::Value;
 use std::alloc::{AllocError, Global};
 
-/// What a command makes of the lines of a script, one after another.
+/// What a command makes of the lines of a script, one after another. The profile is how the lines are read: that of the header.
 pub trait Expansion {
     ghost use Rattle.std.specs.Prelude.{◌≡◌, List, IfOk};
     ghost use Rattle.serde_json.specs.Data.{Data};
     ghost use Rattle.serde_json.specs.View.{view};
     ghost use Rattle.ev_types.specs.declared.contents.Kind.TheVariants.{Cds};
+    ghost use Rattle.ev_types.specs.declared.events.Profile.{Profile};
     ghost use Rattle.ev_wire.specs.Responses.{item_of};
     ghost use Rattle.ev_expand.specs.Expanding.{Rules};
     ghost use Rattle.ev_expand.specs.Fronts.{event_of};
     ghost use Rattle.ev_expand.specs.Growing.{TakesLine, TellsDue};
     ghost use Rattle.ev_expand.specs.Numbers.{ArePlaces, guarded_so_far};
 
-    // What the command does.
-    ghost rules: { Rules };
+    // What the command does in a profile.
+    ghost rules: { Profile → Rules };
+
+    // It reads the lines by that profile.
+    ghost reads: { (profile : Profile) → (rules profile).guard.profile ≡ profile };
 
     // The value is as it is after these lines.
-    ghost is_behind: { Self → List Data → Type 0 };
+    ghost is_behind: { Profile → Self → List Data → Type 0 };
 
     /// What begins a private name.
     fn prefix(&self) -> &'static str
-        ensures { result.now ≡ rules.prefix };
+        ensures { (profile : Profile) → result.now ≡ (rules profile).prefix };
 
     /// What begins the nonce of a line that is added.
     fn nonce(&self) -> &'static str
-        ensures { result.now ≡ rules.nonce };
+        ensures { (profile : Profile) → result.now ≡ (rules profile).nonce };
 
     /// Whether a line itself is written.
     fn is_written(&self, line: &Value) -> bool
-        ensures { result ≡ rules.is_written (view line.now) };
+        ensures { (profile : Profile) → result ≡ (rules profile).is_written (view line.now) };
 
     /// The key of a resource of a response of clusters, where it is guarded. The item is what the resource is read as.
     ///
     /// # Errors
     /// `AllocError` where there is no memory for it.
-    fn key(&self, alloc: Global, item: &Item, entry: &Value) -> Result<Option<Key>, AllocError>
-        requires { item.now ≡ item_of Cds (view entry.now) }
-        ensures { IfOk result (λ key. key ≡ rules.guard.key_of (view entry.now)) };
+    fn key(
+        &self,
+        alloc: Global,
+        profile: Profile,
+        item: &Item,
+        entry: &Value,
+    ) -> Result<Option<Key>, AllocError>
+        requires { item.now ≡ item_of (rules profile).guard.profile Cds (view entry.now) }
+        ensures { IfOk result (λ key. key ≡ (rules profile).guard.key_of (view entry.now)) };
 
     /// What is kept of the first resource of a key.
     ///
     /// # Errors
     /// `AllocError` where there is no memory for it.
-    fn own(&self, alloc: Global, entry: &Value) -> Result<Value, AllocError>
-        ensures { IfOk result (λ own. view own ≡ rules.guard.own_of (view entry.now)) };
+    fn own(&self, alloc: Global, profile: Profile, entry: &Value) -> Result<Value, AllocError>
+        ensures { IfOk result (λ own. view own ≡ (rules profile).guard.own_of (view entry.now)) };
 
     /// Takes the next line, and says which places are due after it, with their endpoints. The event is what the line is read
     /// as, the numbers are those after the line, and `items` are the places of the keys of its guarded resources.
@@ -73,39 +83,41 @@ pub trait Expansion {
     fn due(
         &mut self,
         alloc: Global,
+        profile: Profile,
         line: &Value,
         event: &Option<Event>,
         numbers: &Numbers,
         items: &[Option<usize>],
     ) -> Result<Vec<Due>, AllocError>
-        requires event { event.now ≡ event_of (view line.now) }
-        requires places { ArePlaces rules.guard (view line.now) (guarded_so_far numbers.now) items.now }
-        ensures due { TellsDue rules is_behind self.old numbers.now (view line.now) result }
-        ensures behind { TakesLine rules is_behind self.old self.new numbers.now (view line.now) result };
+        requires event { event.now ≡ event_of (rules profile).guard.profile (view line.now) }
+        requires places { ArePlaces (rules profile).guard (view line.now) (guarded_so_far numbers.now) items.now }
+        ensures due { TellsDue (rules profile) (is_behind profile) self.old numbers.now (view line.now) result }
+        ensures behind { TakesLine (rules profile) (is_behind profile) self.old self.new numbers.now (view line.now) result };
 }
 
 /// The lines of an input after the first are fewer.
 pub const MOST_LINES: usize = 4_294_967_290;
 
-/// The text that a command makes of the header and the lines of a script.
+/// The text that a command makes of the header and the lines of a script, which are read by this profile.
 ///
 /// # Errors
 /// `Private` exactly for the first line that uses a private name. `Large` where there is none, exactly for the line with whose
 /// output the text goes above a limit of inputs. `OutOfMemory` where memory runs out, and for 2^32 lines and more.
 pub fn expand_with<E: Expansion + Drop>(
     alloc: Global,
+    profile: Profile,
     expansion: E,
     head: &Value,
     lines: &[Value],
 ) -> Result<Vec<u8>, ExpandError>
-    requires { E.is_behind expansion [] }
-    ensures { IsExpanded E.rules (view head.now) (map view lines.now) result }
+    requires { E.is_behind profile expansion [] }
+    ensures { IsExpanded (E.rules profile) (view head.now) (map view lines.now) result }
 {
     let mut expansion = expansion;
     if lines.len() >= MOST_LINES {
         return Err(ExpandError::OutOfMemory);
     }
-    if let Some(line) = first_use(alloc, expansion.prefix(), lines)? {
+    if let Some(line) = first_use(alloc, profile, expansion.prefix(), lines)? {
         return Err(ExpandError::Private { line });
     }
     let mut text = TextSoFar::new(alloc);
@@ -115,7 +127,16 @@ pub fn expand_with<E: Expansion + Drop>(
     let mut numbers = Numbers::new(alloc);
     for (index, line) in lines.iter().enumerate() {
         let at = index as u32 + 2;
-        if !push_line(alloc, &mut expansion, &mut numbers, &mut text, at, line)? {
+        let has_room = push_line(
+            alloc,
+            profile,
+            &mut expansion,
+            &mut numbers,
+            &mut text,
+            at,
+            line,
+        )?;
+        if !has_room {
             return Err(ExpandError::Large { line: at });
         }
     }
@@ -125,23 +146,27 @@ pub fn expand_with<E: Expansion + Drop>(
 // Appends what the next line gives to the text, and answers whether it had room there.
 fn push_line<E: Expansion>(
     alloc: Global,
+    profile: Profile,
     expansion: &mut E,
     numbers: &mut Numbers,
     text: &mut TextSoFar,
     at: u32,
     line: &Value,
 ) -> Result<bool, AllocError>
-    ensures text { GrowsBy E.rules E.is_behind expansion.old numbers.old at (view line.now) text.old text.new result }
-    ensures numbers { OnOk result (TakesUpLine E.rules.guard (view line.now) numbers.old numbers.new) }
-    ensures behind { StepsBehind E.rules E.is_behind expansion.old expansion.new numbers.old (view line.now) result }
+    ensures text { GrowsBy (E.rules profile) (E.is_behind profile) expansion.old numbers.old at (view line.now)
+        text.old text.new result }
+    ensures numbers { OnOk result (TakesUpLine (E.rules profile).guard (view line.now) numbers.old numbers.new) }
+    ensures behind { StepsBehind (E.rules profile) (E.is_behind profile) expansion.old expansion.new numbers.old
+        (view line.now) result }
 {
-    let event = read_event(alloc, line)?;
-    push_read(alloc, expansion, numbers, text, at, line, &event)
+    let event = read_event(alloc, profile, line)?;
+    push_read(alloc, profile, expansion, numbers, text, at, line, &event)
 }
 
 // The same, of a line that is read as this event.
 fn push_read<E: Expansion>(
     alloc: Global,
+    profile: Profile,
     expansion: &mut E,
     numbers: &mut Numbers,
     text: &mut TextSoFar,
@@ -149,14 +174,25 @@ fn push_read<E: Expansion>(
     line: &Value,
     event: &Option<Event>,
 ) -> Result<bool, AllocError>
-    requires { event.now ≡ event_of (view line.now) }
-    ensures text { GrowsBy E.rules E.is_behind expansion.old numbers.old at (view line.now) text.old text.new result }
-    ensures numbers { OnOk result (TakesUpLine E.rules.guard (view line.now) numbers.old numbers.new) }
-    ensures behind { StepsBehind E.rules E.is_behind expansion.old expansion.new numbers.old (view line.now) result }
+    requires { event.now ≡ event_of (E.rules profile).guard.profile (view line.now) }
+    ensures text { GrowsBy (E.rules profile) (E.is_behind profile) expansion.old numbers.old at (view line.now)
+        text.old text.new result }
+    ensures numbers { OnOk result (TakesUpLine (E.rules profile).guard (view line.now) numbers.old numbers.new) }
+    ensures behind { StepsBehind (E.rules profile) (E.is_behind profile) expansion.old expansion.new numbers.old
+        (view line.now) result }
 {
-    let places = places_in(alloc, expansion, numbers, line, event)?;
-    let due = expansion.due(alloc, line, event, numbers, places.as_slice())?;
-    if !push_written(alloc, expansion, text, line, event, places.as_slice())? {
+    let places = places_in(alloc, profile, expansion, numbers, line, event)?;
+    let due = expansion.due(alloc, profile, line, event, numbers, places.as_slice())?;
+    let has_room = push_written(
+        alloc,
+        profile,
+        expansion,
+        text,
+        line,
+        event,
+        places.as_slice(),
+    )?;
+    if !has_room {
         return Ok(false);
     }
     push_due(alloc, expansion.prefix(), expansion.nonce(), text, at, due)
@@ -165,15 +201,16 @@ fn push_read<E: Expansion>(
 // Appends a line itself to the text, where it is written, by the places of its keys.
 fn push_written<E: Expansion>(
     alloc: Global,
+    profile: Profile,
     expansion: &E,
     text: &mut TextSoFar,
     line: &Value,
     event: &Option<Event>,
     places: &[Option<usize>],
 ) -> Result<bool, AllocError>
-    requires event { event.now ≡ event_of (view line.now) }
-    requires places { length places.now ≡ length (clusters_in (view line.now)) }
-    ensures { Pushes text.old text.new result (placed_lines E.rules (view line.now) places.now) }
+    requires event { event.now ≡ event_of (E.rules profile).guard.profile (view line.now) }
+    requires places { length places.now ≡ length (clusters_in (E.rules profile).guard.profile (view line.now)) }
+    ensures { Pushes text.old text.new result (placed_lines (E.rules profile) (view line.now) places.now) }
 {
     if !expansion.is_written(line) {
         return Ok(true);

@@ -4,15 +4,19 @@ ghost use Rattle.ev_tree.specs.Forms.{tree_of};
 ghost use Rattle.ev_expand.specs.Fronts.{event_of, message_of};
 
 use ev_script::read_line;
-use ev_types::{Event, Line};
+use ev_types::{Event, Line, Profile};
 use serde_json::Value;
 use std::alloc::{AllocError, Global};
 
-// The event of a line of a script.
-pub(crate) fn read_event(alloc: Global, line: &Value) -> Result<Option<Event>, AllocError>
-    ensures { IfOk result (λ event. event ≡ event_of (view line.now)) }
+// The event of a line of a script of this profile.
+pub(crate) fn read_event(
+    alloc: Global,
+    profile: Profile,
+    line: &Value,
+) -> Result<Option<Event>, AllocError>
+    ensures { IfOk result (λ event. event ≡ event_of profile (view line.now)) }
 {
-    match read_line(alloc, 0, line)? {
+    match read_line(alloc, profile, 0, line)? {
         Some(Line { event, .. }) => Ok(Some(event)),
         None => Ok(None),
     }

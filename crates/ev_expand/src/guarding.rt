@@ -1,15 +1,13 @@
-ghost use Rattle.std.specs.Prelude.{◌≡◌, ◌<◌, map, length, is_some, option_map, codes, Some, IfOk, IfSome, OnOk};
+ghost use Rattle.std.specs.Prelude.{◌≡◌, ◌<◌, map, length, is_some, option_map, codes, IfOk, IfSome, OnOk};
 ghost use Rattle.std.specs.List.{list_any};
 ghost use Rattle.serde_json.specs.Data.{array, string};
 ghost use Rattle.serde_json.specs.View.{view, items_of};
 ghost use Rattle.ev_expand.specs.Editing.{with_value};
 ghost use Rattle.ev_expand.specs.Fronts.{event_of, message_of};
-ghost use Rattle.ev_expand.specs.Guarding.{waiting_config, stripped_body, waiting_body, body_in, waiting_entry, kind_of, listed_as, clusters_in, place_in};
+ghost use Rattle.ev_expand.specs.Guarding.{waiting_config, stripped_body, waiting_body, body_in, waiting_entry, kind_of, items_as, items_by, listed_as, clusters_by, place_in};
 ghost use Rattle.ev_expand.specs.Numbers.{HasPlaces, TakesUp, TakesUpLine, guarded_so_far};
 ghost use Rattle.ev_expand.specs.Placing.{IsPlaced, placed_entries};
 ghost use Rattle.ev_tree.specs.Forms.{tree_of};
-ghost use Rattle.ev_types.specs.declared.contents.Kind.TheVariants.{Cds};
-ghost use Rattle.ev_wire.specs.Responses.{item_of};
 
 use crate::editing::{with_value, without};
 use crate::expanding::Expansion;
@@ -18,7 +16,7 @@ use crate::fronts::message_of;
 use crate::keys::Key;
 use crate::numbers::Numbers;
 use ev_tree::member;
-use ev_types::{Event, Item, Kind, Response};
+use ev_types::{Event, Item, Kind, Profile, Response};
 use serde_json::{Value, json};
 use std::alloc::{AllocError, Global};
 
@@ -124,7 +122,7 @@ fn waiting_message(alloc: Global, line: &Value, entries: Vec<Value>) -> Result<V
     with_value(alloc, message, "resources", Value::Array(entries))
 }
 
-// A line with its guarded resources as they wait, where it has some.
+// A line with its guarded resources as they wait, where it has some. The event is what the line is read as.
 pub(crate) fn waiting_value(
     alloc: Global,
     prefix: &str,
@@ -132,27 +130,25 @@ pub(crate) fn waiting_value(
     event: &Option<Event>,
     places: &[Option<usize>],
 ) -> Result<Option<Value>, AllocError>
-    requires event { event.now ≡ event_of (view line.now) }
-    requires places { length places.now ≡ length (clusters_in (view line.now)) }
-    ensures { IfOk result (IsPlaced prefix.now (view line.now) places.now) }
+    requires { length places.now ≡ length (clusters_by event.now (view line.now)) }
+    ensures { IfOk result (IsPlaced prefix.now (clusters_by event.now (view line.now)) (view line.now) places.now) }
 {
     if !has_guarded(places) {
         return Ok(None);
     }
-    let entries = clusters_in(alloc, line, event)?;
+    let entries = clusters_by(alloc, event, line)?;
     let entries = waiting_entries(alloc, prefix, entries, places)?;
     let message = waiting_message(alloc, line, entries)?;
     Ok(Some(response_value(alloc, message)?))
 }
 
 // The resources of clusters of a line, where it is a response of some.
-fn clusters_in<'a>(
+fn clusters_by<'a>(
     alloc: Global,
-    line: &'a Value,
     event: &Option<Event>,
+    line: &'a Value,
 ) -> Result<&'a [Value], AllocError>
-    requires { event.now ≡ event_of (view line.now) }
-    ensures { IfOk result (λ entries. map view entries.now ≡ clusters_in (view line.now)) }
+    ensures { IfOk result (λ entries. map view entries.now ≡ clusters_by event.now (view line.now)) }
 {
     listed_as(alloc, kind_of(event), message_of(line))
 }
@@ -185,68 +181,48 @@ fn kind_of(event: &Option<Event>) -> Option<Kind>
     }
 }
 
-// The resources of clusters of a line, as they are read.
-fn cluster_items<'a>(line: &Value, event: &'a Option<Event>) -> &'a [Item]
-    requires { event.now ≡ event_of (view line.now) }
-    ensures { result.now ≡ map (item_of Cds) (clusters_in (view line.now)) }
+// The resources of clusters of an event, as they are read.
+fn items_by(event: &Option<Event>) -> &[Item]
+    ensures { result.now ≡ items_by event.now }
 {
     match event {
-        Some(event) => event_items(line, event),
-        None => &[],
-    }
-}
-
-fn event_items<'a>(line: &Value, event: &'a Event) -> &'a [Item]
-    requires { event_of (view line.now) ≡ Some event.now }
-    ensures { result.now ≡ map (item_of Cds) (clusters_in (view line.now)) }
-{
-    match event {
-        Event::Response(response) => response_items(line, response),
+        Some(Event::Response(response)) => response_items(response),
         _ => &[],
     }
 }
 
-fn response_items<'a>(line: &Value, response: &'a Response) -> &'a [Item]
-    requires { event_of (view line.now) ≡ Some (Event.Response response.now) }
-    ensures { result.now ≡ map (item_of Cds) (clusters_in (view line.now)) }
+fn response_items(response: &Response) -> &[Item]
+    ensures { result.now ≡ items_as response.now.kind response.now.items }
 {
     match response.kind {
-        Some(kind) => kind_items(line, response, kind),
+        Some(Kind::Cds) => response.items.as_slice(),
+        Some(Kind::Eds) => &[],
+        Some(Kind::Lds) => &[],
+        Some(Kind::Rds) => &[],
         None => &[],
     }
 }
 
-fn kind_items<'a>(line: &Value, response: &'a Response, kind: Kind) -> &'a [Item]
-    requires event { event_of (view line.now) ≡ Some (Event.Response response.now) }
-    requires kind { response.now.kind ≡ Some kind }
-    ensures { result.now ≡ map (item_of Cds) (clusters_in (view line.now)) }
-{
-    match kind {
-        Kind::Cds => response.items.as_slice(),
-        Kind::Eds => &[],
-        Kind::Lds => &[],
-        Kind::Rds => &[],
-    }
-}
-
-// The places of the keys of a line's resources of clusters, where they are guarded. A new key goes after the others.
+// The places of the keys of a line's resources of clusters, where they are guarded. A new key goes after the others. The event is
+// what the line is read as.
 pub(crate) fn places_in<E: Expansion>(
     alloc: Global,
+    profile: Profile,
     expansion: &E,
     numbers: &mut Numbers,
     line: &Value,
     event: &Option<Event>,
 ) -> Result<Vec<Option<usize>>, AllocError>
-    requires { event.now ≡ event_of (view line.now) }
-    ensures numbers { OnOk result (TakesUpLine E.rules.guard (view line.now) numbers.old numbers.new) }
-    ensures places { IfOk result (HasPlaces E.rules.guard (view line.now) numbers.new) }
+    requires { event.now ≡ event_of (E.rules profile).guard.profile (view line.now) }
+    ensures numbers { OnOk result (TakesUpLine (E.rules profile).guard (view line.now) numbers.old numbers.new) }
+    ensures places { IfOk result (HasPlaces (E.rules profile).guard (view line.now) numbers.new) }
 {
-    let entries = clusters_in(alloc, line, event)?;
-    let items = cluster_items(line, event);
+    let entries = clusters_by(alloc, event, line)?;
+    let items = items_by(event);
     let mut places = Vec::with_capacity(alloc, entries.len())?;
     for (index, entry) in entries.iter().enumerate() {
-        let key = expansion.key(alloc, &items[index], entry)?;
-        places.push(place_entry(alloc, expansion, numbers, key, entry)?)?;
+        let key = expansion.key(alloc, profile, &items[index], entry)?;
+        places.push(place_entry(alloc, profile, expansion, numbers, key, entry)?)?;
     }
     Ok(places)
 }
@@ -254,12 +230,13 @@ pub(crate) fn places_in<E: Expansion>(
 // The place of a resource of this key, where it is guarded. A new key goes after the others.
 fn place_entry<E: Expansion>(
     alloc: Global,
+    profile: Profile,
     expansion: &E,
     numbers: &mut Numbers,
     key: Option<Key>,
     entry: &Value,
 ) -> Result<Option<usize>, AllocError>
-    ensures numbers { OnOk result (TakesUp E.rules.guard key (view entry.now) numbers.old numbers.new) }
+    ensures numbers { OnOk result (TakesUp (E.rules profile).guard key (view entry.now) numbers.old numbers.new) }
     ensures place { IfOk result (λ place. place ≡ option_map (place_in (guarded_so_far numbers.new)) key) }
     ensures within { IfOk result (λ place. IfSome place (λ p. p < length (guarded_so_far numbers.new))) }
 {
@@ -270,6 +247,6 @@ fn place_entry<E: Expansion>(
         return Ok(Some(place));
     }
     let place = numbers.len();
-    numbers.push(key, expansion.own(alloc, entry)?)?;
+    numbers.push(key, expansion.own(alloc, profile, entry)?)?;
     Ok(Some(place))
 }

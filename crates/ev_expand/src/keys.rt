@@ -2,15 +2,42 @@ ghost use Rattle.std.specs.Prelude.{◌≡◌, fold};
 ghost use Rattle.std.specs.List.{flat_map};
 ghost use Rattle.ev_expand.specs.Keys.{row_hash_input, discovery_hash_input};
 
-use ev_types::{Cluster, Discovery, HostRow, Name, Seq};
+use ev_types::{Cluster, Discovery, HostRow, Name, Seq, Text};
+use std::alloc::Global;
 use std::hash::{Hash, Hasher};
 
-/// What is guarded: a cluster as it was read, its name included, and the names that it refers to. Guarded items of equal keys
-/// have one number.
+/// What is guarded: a cluster as it was read, its name included and the text of its body left out, and the names that it refers
+/// to. Guarded items of equal keys have one number.
 #[derive(Drop)]
 pub struct Key {
     pub cluster: Cluster,
     pub names: Seq<Name>,
+}
+
+impl Key {
+    ghost use Rattle.std.specs.Prelude.{◌≡◌};
+    ghost use Rattle.ev_expand.specs.Keys.{key_with};
+
+    /// The key of a cluster that refers to these names. It takes no memory.
+    pub fn new(alloc: Global, cluster: Cluster, names: Seq<Name>) -> Key
+        ensures { result ≡ key_with cluster names }
+    {
+        let Cluster {
+            name,
+            discovery,
+            checked,
+            ..
+        } = cluster;
+        Key {
+            cluster: Cluster {
+                name,
+                discovery,
+                checked,
+                body_text: Text::from_string(String::new(alloc)),
+            },
+            names,
+        }
+    }
 }
 
 impl PartialEq for Key {
@@ -49,16 +76,20 @@ impl Hash for Key {
     }
 }
 
-// Feeds a discovery, with all its hosts: many contents under one name are apart.
+// Feeds a discovery, with all its hosts: many contents under one name are apart. Whether endpoints have to come anew is fed
+// to nothing, since it is one for all clusters of a script.
 fn hash_discovery<H: Hasher>(discovery: &Discovery, state: &mut H)
     ensures { state.new ≡ fold H.write state.old (discovery_hash_input discovery.now) }
 {
     match discovery {
         Discovery::Static(assignment) => hash_rows(assignment.rows(), state),
-        Discovery::Eds { service, limited } => {
+        Discovery::Eds {
+            service, limited, ..
+        } => {
             service.hash(state);
             limited.hash(state);
         }
+        Discovery::Elsewhere => {}
     }
 }
 

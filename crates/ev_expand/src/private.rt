@@ -4,21 +4,22 @@ ghost use Rattle.serde_json.specs.View.{view};
 ghost use Rattle.ev_expand.specs.Private.{is_private, discovery_uses, content_uses, body_uses, item_uses, named_uses, response_uses, event_uses, line_uses, first_use};
 
 use crate::fronts::read_event;
-use ev_types::{Body, Content, Discovery, Event, Item, Kind, Response, Text};
+use ev_types::{Body, Content, Discovery, Event, Item, Kind, Profile, Response, Text};
 use serde_json::Value;
 use std::alloc::{AllocError, Global};
 
 // The number of the first line that uses a private name; the lines are those from the second on.
 pub(crate) fn first_use(
     alloc: Global,
+    profile: Profile,
     prefix: &str,
     lines: &[Value],
 ) -> Result<Option<u32>, AllocError>
     requires { length lines.now + 2 < 2 ^ 32 }
-    ensures { IfOk result (λ line. line ≡ first_use prefix.now (map view lines.now)) }
+    ensures { IfOk result (λ line. line ≡ first_use profile prefix.now (map view lines.now)) }
 {
     for (index, line) in lines.iter().enumerate() {
-        if line_uses(alloc, prefix, line)? {
+        if line_uses(alloc, profile, prefix, line)? {
             return Ok(Some(index as u32 + 2));
         }
     }
@@ -26,10 +27,15 @@ pub(crate) fn first_use(
 }
 
 // Whether a line uses one.
-fn line_uses(alloc: Global, prefix: &str, line: &Value) -> Result<bool, AllocError>
-    ensures { IfOk result (λ uses. uses ≡ line_uses prefix.now (view line.now)) }
+fn line_uses(
+    alloc: Global,
+    profile: Profile,
+    prefix: &str,
+    line: &Value,
+) -> Result<bool, AllocError>
+    ensures { IfOk result (λ uses. uses ≡ line_uses profile prefix.now (view line.now)) }
 {
-    match read_event(alloc, line)? {
+    match read_event(alloc, profile, line)? {
         Some(event) => Ok(event_uses(prefix, &event)),
         None => Ok(false),
     }
@@ -124,6 +130,7 @@ fn discovery_uses(prefix: &str, discovery: &Discovery) -> bool
     match discovery {
         Discovery::Static(_) => false,
         Discovery::Eds { service, .. } => is_private(prefix, service.as_str()),
+        Discovery::Elsewhere => false,
     }
 }
 

@@ -14,7 +14,7 @@ use Rattle.ev_types.specs.declared.contents.Kind.{Kind}
 use Rattle.ev_types.specs.declared.contents.Kind.TheVariants.{Cds, Eds, Lds, Rds}
 use Rattle.ev_types.specs.declared.contents.Request.{Request}
 use Rattle.ev_types.specs.declared.events.Answer.{Answer}
-use Rattle.ev_types.specs.declared.events.Answer.TheVariants.{Ignored, Done, Moved, Replied, Version, Unchanged, Reaped, InUse, NoListener, NoRoute, Redirect, NoCluster, NoEndpoint, Local, Served, NotOpen, Settled}
+use Rattle.ev_types.specs.declared.events.Answer.TheVariants.{Ignored, Done, Moved, Replied, Version, Unchanged, Reaped, InUse, NoListener, NoChain, Undecided, Elsewhere, NoRoute, Redirect, NoCluster, NoEndpoint, Local, Served, NotOpen, Settled}
 use Rattle.ev_types.specs.declared.events.Entry.{Entry}
 use Rattle.ev_model.specs.Requests.{other_than}
 use Rattle.ev_model.specs.Verdicts.{is_among}
@@ -41,6 +41,9 @@ moved_no_reply Unchanged h = refl
 moved_no_reply (Reaped numbers) h = refl
 moved_no_reply InUse h = refl
 moved_no_reply NoListener h = refl
+moved_no_reply NoChain h = refl
+moved_no_reply (Undecided listener) h = refl
+moved_no_reply (Elsewhere listener cluster) h = refl
 moved_no_reply (NoRoute listener) h = refl
 moved_no_reply (Redirect listener) h = refl
 moved_no_reply (NoCluster listener) h = refl

@@ -52,7 +52,7 @@ module _ (kind : Kind) (name : List ℕ) (format : Format) (world : World) (acto
     disconnected = λ is. quiet (record world { stream = false }) (λ h. h);
     replied = replied;
     resulted = λ cluster host healthy rows is. quiet (with_results host healthy rows world) (λ h. h);
-    timed = λ timeout of is named. quiet (record world { arrivals = world.arrivals ++ arrived timeout.kind TimedOut of ∷ [] }) (λ h. h);
+    timed = λ timeout of is named. quiet (record world { arrivals = world.arrivals ++ arrived world.made timeout.kind TimedOut of ∷ [] }) (λ h. h);
     clusters_late = λ timeout is. quiet (record world { late_clusters = true }) (λ h. h);
     listeners_late = λ timeout is. quiet (record world { late_listeners = true }) (λ h. h);
     expired = λ of numbers is. quiet (record world { expired = world.expired ++ numbers }) (λ h. h);

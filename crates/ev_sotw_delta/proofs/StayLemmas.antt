@@ -7,7 +7,7 @@ use Rattle.std.proofs.lemmas.Bool.{false≢true}
 use Rattle.ev_types.specs.Items.{ItemParts, ResponseParts}
 use Rattle.ev_types.specs.declared.contents.Kind.{Kind}
 use Rattle.ev_types.specs.declared.events.Answer.{Answer}
-use Rattle.ev_types.specs.declared.events.Answer.TheVariants.{Ignored, Done, Moved, Replied, Version, Unchanged, Reaped, InUse, NoListener, NoRoute, Redirect, NoCluster, NoEndpoint, Local, Served, NotOpen, Settled}
+use Rattle.ev_types.specs.declared.events.Answer.TheVariants.{Ignored, Done, Moved, Replied, Version, Unchanged, Reaped, InUse, NoListener, NoChain, Undecided, Elsewhere, NoRoute, Redirect, NoCluster, NoEndpoint, Local, Served, NotOpen, Settled}
 use Rattle.ev_types.specs.declared.events.Event.TheVariants.{Response}
 use Rattle.ev_types.specs.declared.events.Verdict.{Verdict}
 use Rattle.ev_types.specs.declared.events.Verdict.TheVariants.{New, Same, Kept, Unasked, Renewed, Refused}
@@ -52,6 +52,9 @@ tells_nothing kind name response Unchanged none nothing = refl
 tells_nothing kind name response (Reaped numbers) none nothing = refl
 tells_nothing kind name response InUse none nothing = refl
 tells_nothing kind name response NoListener none nothing = refl
+tells_nothing kind name response NoChain none nothing = refl
+tells_nothing kind name response (Undecided listener) none nothing = refl
+tells_nothing kind name response (Elsewhere listener cluster) none nothing = refl
 tells_nothing kind name response (NoRoute listener) none nothing = refl
 tells_nothing kind name response (Redirect listener) none nothing = refl
 tells_nothing kind name response (NoCluster listener) none nothing = refl

@@ -38,7 +38,7 @@ use Rattle.ev_model.specs.Choice.{choice_of}
 use Rattle.ev_model.specs.Dead.{picture_held}
 use Rattle.ev_model.specs.declared.pictures.Picture.{Picture}
 use Rattle.ev_model.specs.declared.pictures.Choice.{Choice}
-use Rattle.ev_model.specs.declared.pictures.Choice.TheVariants.{NoListener as no_listener, NoRoute as no_route, Local as local, Redirect as redirect, NoCluster as no_cluster, NoEndpoint as no_endpoint, Served as served}
+use Rattle.ev_model.specs.declared.pictures.Choice.TheVariants.{NoListener as no_listener, NoChain as no_chain, Undecided as undecided, Elsewhere as elsewhere, NoRoute as no_route, Local as local, Redirect as redirect, NoCluster as no_cluster, NoEndpoint as no_endpoint, Served as served}
 use Rattle.ev_model.specs.Publishing.{reap}
 use Rattle.ev_model.specs.Signals.{moved, with_results, with_end, forget_version}
 use Rattle.ev_model.specs.Rows.{arrived}
@@ -111,6 +111,9 @@ host_quiet listener cluster (Some host) = (refl, refl)
 
 chosen_quiet : (picture : Picture) (choice : Choice) → Quiet (answer_of picture choice)
 chosen_quiet picture no_listener = (refl, refl)
+chosen_quiet picture no_chain = (refl, refl)
+chosen_quiet picture (undecided listener) = (refl, refl)
+chosen_quiet picture (elsewhere listener cluster) = (refl, refl)
 chosen_quiet picture (no_route listener) = (refl, refl)
 chosen_quiet picture (local listener status) = (refl, refl)
 chosen_quiet picture (redirect listener) = (refl, refl)
@@ -235,7 +238,7 @@ module _ (kind : Kind) (by_name : is_by_name kind ≡ true) (name : List ℕ) wh
       disconnected = λ is streams. absurd (false≢true streams);
       replied = replied_says;
       resulted = λ cluster host healthy rows is. moved_says (ap is_connect is) (with_results host healthy rows world);
-      timed = λ timeout of is named. moved_says (ap is_connect is) (record world { arrivals = world.arrivals ++ arrived timeout.kind TimedOut of ∷ [] });
+      timed = λ timeout of is named. moved_says (ap is_connect is) (record world { arrivals = world.arrivals ++ arrived world.made timeout.kind TimedOut of ∷ [] });
       clusters_late = λ timeout is. moved_says (ap is_connect is) (record world { late_clusters = true });
       listeners_late = λ timeout is. moved_says (ap is_connect is) (record world { late_listeners = true });
       expired = λ of numbers is. quiet_says (tidy (record world { expired = world.expired ++ numbers })) Done refl refl (λ h. h)

@@ -1,6 +1,7 @@
 -- The lines of a script whose responses are those of the state of the world. All other lines are as in a script.
 use Rattle.std.specs.Prelude.{ℕ, List, [], ◌∷◌, if◌then◌else◌, codes, Option, None, Some, option_map}
 use Rattle.serde_json.specs.Data.{Data}
+use Rattle.ev_types.specs.declared.events.Profile.{Profile}
 use Rattle.ev_script.specs.Members.{member_of, is_op}
 use Rattle.ev_script.specs.LineForms.{with_only}
 use Rattle.ev_script.specs.Faults.{LineForms, plain_lines}
@@ -13,8 +14,10 @@ response_in tree =
     if is_op (codes "response") tree then with_only (codes "message" ∷ []) tree (member_of discovery_of (codes "message") tree) else None
 
 -- a line: a response names no worker, and all else is as in a script
-abbrev pub sotw_line : ℕ → Data → Option (Option ℕ)
-sotw_line at tree = if is_op (codes "response") tree then option_map (λ response. None) (response_in tree) else plain_lines.lines at tree
+abbrev pub sotw_line : Profile → ℕ → Data → Option (Option ℕ)
+sotw_line profile at tree =
+    if is_op (codes "response") tree then option_map (λ response. None) (response_in tree)
+    else plain_lines.lines profile at tree
 
 -- the forms of the lines
 abbrev pub sotw_lines : LineForms

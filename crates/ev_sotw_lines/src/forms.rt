@@ -4,7 +4,8 @@ ghost use Rattle.ev_delta.specs.Discovery.{seen};
 ghost use Rattle.ev_sotw_lines.specs.Lines.{response_in, version_in};
 
 use ev_delta::{Discovery, read_discovery};
-use ev_script::{FormedLine, Forms, LineTrees, has_only, is_op};
+use ev_script::{FormedLine, Forms, LineTrees, Settings, has_only, is_op};
+use ev_types::Profile;
 use serde_json::Value;
 use std::alloc::{AllocError, Global};
 
@@ -20,20 +21,21 @@ impl Forms for SotwLines {
 
     ghost forms = { sotw_lines };
 
-    ghost keeps = { λ at tree kept. view kept ≡ tree };
+    ghost keeps = { λ profile at tree kept. view kept ≡ tree };
 
-    fn read_head(&self, alloc: Global, tree: &Value) -> Result<Option<u32>, AllocError> {
+    fn read_head(&self, alloc: Global, tree: &Value) -> Result<Option<Settings>, AllocError> {
         LineTrees.read_head(alloc, tree)
     }
 
     fn read(
         &self,
         alloc: Global,
+        profile: Profile,
         at: u32,
         tree: Value,
     ) -> Result<Option<FormedLine<Value>>, AllocError> {
         if !is_op("response", &tree) {
-            return LineTrees.read(alloc, at, tree);
+            return LineTrees.read(alloc, profile, at, tree);
         }
         if response_in(alloc, &tree)?.is_none() {
             return Ok(None);

@@ -3,6 +3,7 @@ use Rattle.std.proofs.lemmas.List.{length-map, take_all}
 use Rattle.serde_json.specs.Data.{Data}
 use Rattle.serde_json.specs.View.{view}
 use Rattle.serde_json.specs.declared.value.Value.{Value}
+use Rattle.ev_types.specs.declared.events.Profile.{Profile}
 use Rattle.ev_expand.specs.Expanding.{Rules, gives}
 use Rattle.ev_expand.specs.Growing.{IsGrown, Pushes, front_of}
 use Rattle.ev_expand.specs.Guarding.{guarded_by}
@@ -17,47 +18,51 @@ place_is ls i h = omega (arith, h, length-map (take i ls) view, length-take i ls
 
 pub loop-index-init : goal.loop-index-init
 loop-index-init g c = record {
-  grown = grown_first g.E.Expansion.rules (view c.args.head.now) c.new-text.result c.push.new.self c.push.result _ c.new-text.ensures.empty
+  grown = grown_first (g.E.Expansion.rules c.args.profile) (view c.args.head.now) c.new-text.result c.push.new.self c.push.result _ c.new-text.ensures.empty
       (record { pushed = c.push.ensures.pushed; full = c.push.ensures.full; read_back = λ h. read_one (view c.args.head.now) (c.push.ensures.reads_back h) })
       (c.in_ok-push.was ∙ ap (λ (b : Bool). Ok b) c.if-not-branch.false) c.new-numbers.ensures;
   behind = c.requires;
 }
 
-pub returns-then-not-branch-2 : goal.returns-then-not-branch-2
-returns-then-not-branch-2 g c =
-    let rules : Rules = g.E.Expansion.rules in
+pub returns-then-not-has_room : goal.returns-then-not-has_room
+returns-then-not-has_room g c =
+    let rules : Rules = g.E.Expansion.rules c.args.profile in
     let lines : List Data = map view c.args.lines.now in
     let before : List Data = map view (take c.loop-index.index c.args.lines.now) in
-    let unused : first_use rules.prefix lines ≡ None = ap (λ (p : List ℕ). first_use p lines) (sym c.prefix.ensures) ∙ sym c.in_ok-line.ensures ∙ c.in_default.is in
+    let unused : first_use rules.guard.profile rules.prefix lines ≡ None =
+    ap (λ (profile : Profile). first_use profile rules.prefix lines) (g.E.Expansion.reads c.args.profile)
+    ∙ ap (λ (p : List ℕ). first_use c.args.profile p lines) (sym (c.prefix.ensures c.args.profile)) ∙ sym c.in_ok-line.ensures ∙ c.in_default.is in
     let pushes : Pushes c.loop-index.text c.push_line.new.text c.push_line.result (gives rules (front_of before (view c.index-lines-index.result))) =
     c.push_line.ensures.text before c.loop-index.invariant.behind c.loop-index.invariant.grown.kept (place_is c.args.lines.now c.loop-index.index c.loop-index-test.true) in (
       unused,
       large_at rules (view c.args.head.now) c.args.lines.now c.loop-index.index c.index-lines-index.result _ _ _ c.push_line.result c.loop-index-test.true c.index-lines-index.is c.loop-index.invariant.grown pushes
-          (c.in_ok-push_line.was ∙ ap (λ (b : Bool). Ok b) c.if-not-branch-2.true),
+          (c.in_ok-has_room.was ∙ ap (λ (b : Bool). Ok b) c.if-not-has_room.true),
     )
 
 pub loop-index-preserved : goal.loop-index-preserved
 loop-index-preserved g c =
-    let rules : Rules = g.E.Expansion.rules in
+    let rules : Rules = g.E.Expansion.rules c.args.profile in
     let before : List Data = map view (take c.loop-index.index c.args.lines.now) in
     let line : Data = view c.index-lines-index.result in
     let pushes : Pushes c.loop-index.text c.push_line.new.text c.push_line.result (gives rules (front_of before line)) =
     c.push_line.ensures.text before c.loop-index.invariant.behind c.loop-index.invariant.grown.kept (place_is c.args.lines.now c.loop-index.index c.loop-index-test.true) in
     let after = views_more c.args.lines.now c.loop-index.index c.index-lines-index.result c.index-lines-index.is c.loop-index-test.true in
-    let kept : guarded_so_far c.push_line.new.numbers ≡ guarded_by rules.guard (before ++ line ∷ []) = c.in_ok-push_line.ensures.numbers before c.loop-index.invariant.grown.kept in
+    let kept : guarded_so_far c.push_line.new.numbers ≡ guarded_by rules.guard (before ++ line ∷ []) = c.in_ok-has_room.ensures.numbers before c.loop-index.invariant.grown.kept in
     record {
       grown = subst (λ (xs : List Data). IsGrown rules (view c.args.head.now) xs c.push_line.new.text (guarded_so_far c.push_line.new.numbers)) (sym after)
           (grown_more rules (view c.args.head.now) before line _ _ _ _ c.push_line.result c.loop-index.invariant.grown pushes
-          (c.in_ok-push_line.was ∙ ap (λ (b : Bool). Ok b) c.if-not-branch-2.false) kept);
-      behind = subst (λ (xs : List Data). g.E.Expansion.is_behind c.push_line.new.expansion xs) (sym after)
-          (c.in_ok-push_line.ensures.behind before c.loop-index.invariant.behind c.loop-index.invariant.grown.kept);
+          (c.in_ok-has_room.was ∙ ap (λ (b : Bool). Ok b) c.if-not-has_room.false) kept);
+      behind = subst (λ (xs : List Data). g.E.Expansion.is_behind c.args.profile c.push_line.new.expansion xs) (sym after)
+          (c.in_ok-has_room.ensures.behind before c.loop-index.invariant.behind c.loop-index.invariant.grown.kept);
     }
 
 pub returns : goal.returns
 returns g c =
-    let rules : Rules = g.E.Expansion.rules in
+    let rules : Rules = g.E.Expansion.rules c.args.profile in
     let lines : List Data = map view c.args.lines.now in
-    let unused : first_use rules.prefix lines ≡ None = ap (λ (p : List ℕ). first_use p lines) (sym c.prefix.ensures) ∙ sym c.in_ok-line.ensures ∙ c.in_default.is in
+    let unused : first_use rules.guard.profile rules.prefix lines ≡ None =
+    ap (λ (profile : Profile). first_use profile rules.prefix lines) (g.E.Expansion.reads c.args.profile)
+    ∙ ap (λ (p : List ℕ). first_use c.args.profile p lines) (sym (c.prefix.ensures c.args.profile)) ∙ sym c.in_ok-line.ensures ∙ c.in_default.is in
     let all : map view (take c.loop-index.index c.args.lines.now) ≡ lines = ap (map view) (take_all c.loop-index.index c.args.lines.now (omega arith)) in
     all_grown rules (view c.args.head.now) lines c.loop-index.text (guarded_so_far c.loop-index.numbers) unused
     (subst (λ (xs : List Data). IsGrown rules (view c.args.head.now) xs c.loop-index.text (guarded_so_far c.loop-index.numbers)) all c.loop-index.invariant.grown)

@@ -6,6 +6,6 @@ use Rattle.ev_expand.proofs.expanding.expand_with.Given as goal
 
 abbrev pub invariant-loop-index : goal.invariant-loop-index
 invariant-loop-index g l = record {
-  grown : IsGrown g.E.Expansion.rules (view l.head) (map view (take l.index l.lines)) l.text (guarded_so_far l.numbers);
-  behind : g.E.Expansion.is_behind l.expansion (map view (take l.index l.lines));
+  grown : IsGrown (g.E.Expansion.rules l.profile) (view l.head) (map view (take l.index l.lines)) l.text (guarded_so_far l.numbers);
+  behind : g.E.Expansion.is_behind l.profile l.expansion (map view (take l.index l.lines));
 }

@@ -11,9 +11,9 @@ use Rattle.ev_expand.proofs.GrowthLemmas.{pushes_first, pushes_then}
 use Rattle.ev_expand.proofs.PlaceLemmas.{lines_as}
 use Rattle.ev_expand.proofs.expanding.push_read.Goals as goal
 
-pub returns-then-not-branch-clause-text : goal.returns-then-not-branch-clause-text
-returns-then-not-branch-clause-text g c = λ before behind kept at.
-    let rules : Rules = g.E.Expansion.rules in
+pub returns-then-not-has_room-clause-text : goal.returns-then-not-has_room-clause-text
+returns-then-not-has_room-clause-text g c = λ before behind kept at.
+    let rules : Rules = g.E.Expansion.rules c.args.profile in
     let line : Data = view c.args.line.now in
     let guarded : guarded_so_far c.places_in.new.numbers ≡ guarded_at rules (front_of before line) = c.in_ok-places.ensures.numbers before kept in
     let written : placed_lines rules line c.as_slice-2.result.now ≡ written_line rules (guarded_at rules (front_of before line)) line =
@@ -23,11 +23,11 @@ returns-then-not-branch-clause-text g c = λ before behind kept at.
     let rest : List Data = lines_due rules.prefix rules.nonce (place_of (front_of before line)) (due_at rules (front_of before line)) in
     subst (λ (xs : List Data). Pushes c.args.text.now c.push_written.new.text (Ok false) (xs ++ rest)) written
     (pushes_first c.args.text.now c.push_written.new.text c.push_written.result (placed_lines rules line c.as_slice-2.result.now) rest c.push_written.ensures
-    (c.in_ok-push_written.was ∙ ap (λ (b : Bool). Ok b) c.if-not-branch.true))
+    (c.in_ok-has_room.was ∙ ap (λ (b : Bool). Ok b) c.if-not-has_room.true))
 
 pub returns-clause-text : goal.returns-clause-text
 returns-clause-text g c = λ before behind kept at.
-    let rules : Rules = g.E.Expansion.rules in
+    let rules : Rules = g.E.Expansion.rules c.args.profile in
     let line : Data = view c.args.line.now in
     let guarded : guarded_so_far c.places_in.new.numbers ≡ guarded_at rules (front_of before line) = c.in_ok-places.ensures.numbers before kept in
     let written : placed_lines rules line c.as_slice-2.result.now ≡ written_line rules (guarded_at rules (front_of before line)) line =
@@ -36,9 +36,9 @@ returns-clause-text g c = λ before behind kept at.
     ∙ ap (λ (gs : List Guarded). written_line rules gs line) guarded in
     let due : map due_shown c.in_ok-due.due.items ≡ due_at rules (front_of before line) = c.in_ok-due.ensures.due before behind guarded in
     let last : lines_due c.prefix.result.now c.nonce.result.now c.args.at (map due_shown c.in_ok-due.due.items) ≡ lines_due rules.prefix rules.nonce (place_of (front_of before line)) (due_at rules (front_of before line)) =
-    λ i. lines_due (c.prefix.ensures i) (c.nonce.ensures i) (at i) (due i) in
+    λ i. lines_due (c.prefix.ensures c.args.profile i) (c.nonce.ensures c.args.profile i) (at i) (due i) in
     let both : placed_lines rules line c.as_slice-2.result.now ++ lines_due c.prefix.result.now c.nonce.result.now c.args.at (map due_shown c.in_ok-due.due.items) ≡ gives rules (front_of before line) =
     λ i. written i ++ last i in
     subst (Pushes c.args.text.now c.push_due.new.text c.push_due.result) both
     (pushes_then c.args.text.now c.push_written.new.text c.push_due.new.text c.push_written.result c.push_due.result _ _ c.push_written.ensures
-    (c.in_ok-push_written.was ∙ ap (λ (b : Bool). Ok b) c.if-not-branch.false) c.push_due.ensures)
+    (c.in_ok-has_room.was ∙ ap (λ (b : Bool). Ok b) c.if-not-has_room.false) c.push_due.ensures)

@@ -10,7 +10,7 @@ use Rattle.ev_expand.proofs.guarding.place_entry.Goals as goal
 pub returns-in-Some-find-clause-numbers : goal.returns-in-Some-find-clause-numbers
 returns-in-Some-find-clause-numbers g c =
     let guarded : List Guarded = guarded_so_far c.args.numbers.now in
-    let own : Data = g.E.Expansion.rules.guard.own_of (view c.args.entry.now) in
+    let own : Data = (g.E.Expansion.rules c.args.profile).guard.own_of (view c.args.entry.now) in
     sym (ap (λ (k : Option Key). taken_up guarded (guarded_with k own)) c.in-Some.is ∙ added_there guarded (record { key = c.in-Some.key; own = own }) c.in-Some-find.ensures.found)
 
 pub returns-clause-place : goal.returns-clause-place

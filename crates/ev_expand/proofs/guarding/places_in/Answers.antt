@@ -2,21 +2,25 @@ use Rattle.std.proofs.Common.{◌≡◌, List, ◌++◌, map, filter_map, take, 
 use Rattle.serde_json.specs.Data.{Data}
 use Rattle.serde_json.specs.View.{view}
 use Rattle.ev_types.specs.declared.contents.Kind.TheVariants.{Cds}
+use Rattle.ev_types.specs.declared.events.Profile.{Profile}
 use Rattle.ev_wire.specs.Responses.{item_of}
 use Rattle.ev_expand.specs.declared.keys.Key.{Key}
 use Rattle.ev_expand.specs.Guarding.{Guard, guarded_of, each_once, place_in}
 use Rattle.ev_expand.specs.Numbers.{guarded_so_far, guarded_with}
+use Rattle.ev_expand.proofs.EventLemmas.{cluster_items_read}
 use Rattle.ev_expand.proofs.NumberLemmas.{entry_item, views_more, placed_next, numbers-push}
 use Rattle.ev_expand.proofs.guarding.places_in.Goals as goal
 
 pub key-requires : goal.key-requires
 key-requires g c =
-    entry_item c.cluster_items-items.result.now c.in_ok-entries.entries.now c.loop-index.index _ _
-    (c.cluster_items-items.ensures ∙ ap (map (item_of Cds)) (sym c.in_ok-entries.ensures)) c.loop-index-test.true c.index-items-index.is c.index-entries-index.is
+    let profile : Profile = (g.E.Expansion.rules c.args.profile).guard.profile in
+    entry_item profile c.items_by-items.result.now c.in_ok-entries.entries.now c.loop-index.index _ _
+    (c.items_by-items.ensures ∙ cluster_items_read profile (view c.args.line.now) c.args.event.now c.requires
+    ∙ ap (map (item_of profile Cds)) (sym c.in_ok-entries.ensures)) c.loop-index-test.true c.index-items-index.is c.index-entries-index.is
 
 pub loop-index-preserved : goal.loop-index-preserved
 loop-index-preserved g c =
-    let guard : Guard = g.E.Expansion.rules.guard in
+    let guard : Guard = (g.E.Expansion.rules c.args.profile).guard in
     let entry : Data = view c.index-entries-index.result in
     let own : Data = guard.own_of entry in
     let after = views_more c.in_ok-entries.entries.now c.loop-index.index c.index-entries-index.result c.index-entries-index.is c.loop-index-test.true in

@@ -5,4 +5,4 @@ use Rattle.ev_expand.specs.Private.{line_uses}
 use Rattle.ev_expand.proofs.private.first_use.Given as goal
 
 abbrev pub invariant-loop-index : goal.invariant-loop-index
-invariant-loop-index l = position_or_len (line_uses l.prefix) (map view l.lines) ≡ l.index + position_or_len (line_uses l.prefix) (map view (drop l.index l.lines))
+invariant-loop-index l = position_or_len (line_uses l.profile l.prefix) (map view l.lines) ≡ l.index + position_or_len (line_uses l.profile l.prefix) (map view (drop l.index l.lines))
