@@ -7,6 +7,7 @@ use Rattle.std.proofs.lemmas.Bool.Decides.{same_from_decides}
 use Rattle.std.proofs.lemmas.List.Elements.{filter_map-append}
 use Rattle.serde_json.specs.Data.{Data}
 use Rattle.ev_types.specs.Same.{numbers_decide}
+use Rattle.ev_types.specs.declared.events.Profile.{Profile}
 use Rattle.ev_expand.specs.declared.keys.Key.{Key}
 use Rattle.ev_expand.specs.Keys.{key_same, key_decides}
 use Rattle.ev_expand.specs.Expanding.{due_at}
@@ -38,20 +39,20 @@ stream_step : (l o : Option Bool) → unwrap_or o (unwrap_or l false) ≡ unwrap
 stream_step l None = refl
 stream_step l (Some v) = refl
 
-pub stream_now : (before : List Data) (line : Data) → open_after (stream_at before) (event_of line) ≡ stream_at (before ++ line ∷ [])
-stream_now before line =
-    let said : Data → Option Bool = λ l. option_and_then stream_said (event_of l) in
+pub stream_now : (profile : Profile) (before : List Data) (line : Data) → open_after (stream_at profile before) (event_of profile line) ≡ stream_at profile (before ++ line ∷ [])
+stream_now profile before line =
+    let said : Data → Option Bool = λ l. option_and_then stream_said (event_of profile l) in
     stream_step (last_or None (filter_map said before)) (said line)
     ∙ sym (ap (λ (o : Option Bool). unwrap_or o false) (ap (last_or None) (filter_map-append said before (line ∷ [])) ∙ last-append None (filter_map said before) (cons_option (said line) [])))
 
 -- ---- the places
 
 -- what is guarded after a line: what was, and more that have guarded resources in it
-pub extended : (before : List Data) (line : Data) → IsExtended (guarded_by by_names before) (guarded_by by_names (before ++ line ∷ [])) (guarded_in by_names line)
-extended before line =
-    let e : IsExtended (guarded_by by_names before) (each_once (flat_map (guarded_in by_names) before ++ guarded_in by_names line)) (guarded_in by_names line) =
-    once_extends (flat_map (guarded_in by_names) before) (guarded_in by_names line) in
-    record { more = e.more; grown = guarded-push by_names before line ∙ e.grown; among = e.among }
+pub extended : (profile : Profile) (before : List Data) (line : Data) → IsExtended (guarded_by (by_names profile) before) (guarded_by (by_names profile) (before ++ line ∷ [])) (guarded_in (by_names profile) line)
+extended profile before line =
+    let e : IsExtended (guarded_by (by_names profile) before) (each_once (flat_map (guarded_in (by_names profile)) before ++ guarded_in (by_names profile) line)) (guarded_in (by_names profile) line) =
+    once_extends (flat_map (guarded_in (by_names profile)) before) (guarded_in (by_names profile) line) in
+    record { more = e.more; grown = guarded-push (by_names profile) before line ∙ e.grown; among = e.among }
 
 place_as : (gs : List Guarded) (n : ℕ) (g : Guarded) (key : Key) (own : Data) → AreDistinct gs → slice_get gs n ≡ Some g
     → nat_eq (place_in gs key) n ≡ guarded_same g (record { key = key; own = own })
@@ -105,21 +106,21 @@ named_at : (answers : Answers) (complete : Complete) (gs : List Guarded) (o : Op
 named_at answers complete gs None n are = and_false (contains nat_cmp complete.places n) (passes_at (λ (g : Guarded). false) gs n) (none_passes gs n)
 named_at answers complete gs (Some r) n are = are.served r.name n
 
-marked_at : (line : Data) (gs : List Guarded) (n : ℕ) (items : List (Option ℕ)) → AreDistinct gs → ArePlaces by_names line gs items → (o : Option Guarded) → slice_get gs n ≡ o
-    → is_marked items n ≡ unwrap_or (option_map (λ (g : Guarded). has_guarded line g.key) o) false
-marked_at line gs n items distinct are None h = none_marked (length gs) n items (past_end gs n h) are.within
-marked_at line gs n items distinct are (Some g) h = ap (λ (ps : List (Option ℕ)). is_marked ps n) are.each ∙ marked_as by_names gs n g (clusters_in line) distinct h
+marked_at : (profile : Profile) (line : Data) (gs : List Guarded) (n : ℕ) (items : List (Option ℕ)) → AreDistinct gs → ArePlaces (by_names profile) line gs items → (o : Option Guarded) → slice_get gs n ≡ o
+    → is_marked items n ≡ unwrap_or (option_map (λ (g : Guarded). has_guarded profile line g.key) o) false
+marked_at profile line gs n items distinct are None h = none_marked (length gs) n items (past_end gs n h) are.within
+marked_at profile line gs n items distinct are (Some g) h = ap (λ (ps : List (Option ℕ)). is_marked ps n) are.each ∙ marked_as (by_names profile) gs n g (clusters_in profile line) distinct h
 
 -- a set of the marked places, and of the complete ones under the name that is answered, has what the line touches
-pub touched_now : (before : List Data) (line : Data) (answers : Answers) (complete : Complete) (items : List (Option ℕ)) (set : BTreeSet ℕ) → ArePlaces by_names line (guarded_by by_names (before ++ line ∷ [])) items
-    → AreComplete answers (guarded_by by_names (before ++ line ∷ [])) complete
-    → ((n : ℕ) → contains nat_cmp set n ≡ (is_marked items n || stands_named complete.served (option_map (λ (r : Resolution). r.name) (resolution_in line)) n)) → IsTouched before line complete.places set
-touched_now before line answers complete items set are_places are_complete has =
-    let gs : List Guarded = guarded_by by_names (before ++ line ∷ []) in
+pub touched_now : (profile : Profile) (before : List Data) (line : Data) (answers : Answers) (complete : Complete) (items : List (Option ℕ)) (set : BTreeSet ℕ) → ArePlaces (by_names profile) line (guarded_by (by_names profile) (before ++ line ∷ [])) items
+    → AreComplete answers (guarded_by (by_names profile) (before ++ line ∷ [])) complete
+    → ((n : ℕ) → contains nat_cmp set n ≡ (is_marked items n || stands_named complete.served (option_map (λ (r : Resolution). r.name) (resolution_in line)) n)) → IsTouched profile before line complete.places set
+touched_now profile before line answers complete items set are_places are_complete has =
+    let gs : List Guarded = guarded_by (by_names profile) (before ++ line ∷ []) in
     record {
       exactly = λ n.
           has n ∙ ap₂ (λ (a b : Bool). a || b)
-          (marked_at line gs n items (once_distinct (flat_map (guarded_in by_names) (before ++ line ∷ []))) are_places (slice_get gs n) refl)
+          (marked_at profile line gs n items (once_distinct (flat_map (guarded_in (by_names profile)) (before ++ line ∷ []))) are_places (slice_get gs n) refl)
           (named_at answers complete gs (resolution_in line) n are_complete);
     }
 
@@ -146,49 +147,49 @@ all_cause true = refl
 all_cause false = refl
 
 -- what makes a look at a set find what is due
-cause_at : (before : List Data) (line : Data) (answers : Answers) (complete : Complete) (touched : BTreeSet ℕ) (w : Bool) (n : ℕ) (g : Guarded) → AreAnswers answers (before ++ line ∷ [])
-    → AreComplete answers (guarded_by by_names (before ++ line ∷ [])) complete → IsTouched before line complete.places touched → slice_get (guarded_by by_names (before ++ line ∷ [])) n ≡ Some g
-    → is_sent w (contains nat_cmp touched) (contains nat_cmp complete.places) n ≡ (is_complete (before ++ line ∷ []) g.key && (not w || has_guarded line g.key || answers_name line g.key))
-cause_at before line answers complete touched w n g are are_complete is_touched here =
+cause_at : (profile : Profile) (before : List Data) (line : Data) (answers : Answers) (complete : Complete) (touched : BTreeSet ℕ) (w : Bool) (n : ℕ) (g : Guarded) → AreAnswers answers (before ++ line ∷ [])
+    → AreComplete answers (guarded_by (by_names profile) (before ++ line ∷ [])) complete → IsTouched profile before line complete.places touched → slice_get (guarded_by (by_names profile) (before ++ line ∷ [])) n ≡ Some g
+    → is_sent w (contains nat_cmp touched) (contains nat_cmp complete.places) n ≡ (is_complete (before ++ line ∷ []) g.key && (not w || has_guarded profile line g.key || answers_name line g.key))
+cause_at profile before line answers complete touched w n g are are_complete is_touched here =
     by w
   where
     gs : List Guarded
-    gs = guarded_by by_names (before ++ line ∷ [])
+    gs = guarded_by (by_names profile) (before ++ line ∷ [])
 
     c : contains nat_cmp complete.places n ≡ is_complete (before ++ line ∷ []) g.key
-    c = are_complete.places n ∙ complete_here answers (guarded_by by_names (before ++ line ∷ [])) n g here ∙ complete_as answers (before ++ line ∷ []) g.key are
+    c = are_complete.places n ∙ complete_here answers (guarded_by (by_names profile) (before ++ line ∷ [])) n g here ∙ complete_as answers (before ++ line ∷ []) g.key are
 
-    passes : (test : Guarded → Bool) → passes_at test (guarded_by by_names (before ++ line ∷ [])) n ≡ test g
+    passes : (test : Guarded → Bool) → passes_at test (guarded_by (by_names profile) (before ++ line ∷ [])) n ≡ test g
     passes test = ap (λ (o : Option Guarded). unwrap_or (option_map test o) false) here
 
-    by : (w : Bool) → is_sent w (contains nat_cmp touched) (contains nat_cmp complete.places) n ≡ (is_complete (before ++ line ∷ []) g.key && (not w || has_guarded line g.key || answers_name line g.key))
+    by : (w : Bool) → is_sent w (contains nat_cmp touched) (contains nat_cmp complete.places) n ≡ (is_complete (before ++ line ∷ []) g.key && (not w || has_guarded profile line g.key || answers_name line g.key))
     by true =
         (λ i. (is_touched.exactly n i) && c i)
-        ∙ (λ i. (passes (λ (x : Guarded). has_guarded line x.key) i || (c i && passes (λ (x : Guarded). answers_name line x.key) i)) && is_complete (before ++ line ∷ []) g.key)
-        ∙ touched_cause (has_guarded line g.key) (is_complete (before ++ line ∷ []) g.key) (answers_name line g.key)
+        ∙ (λ i. (passes (λ (x : Guarded). has_guarded profile line x.key) i || (c i && passes (λ (x : Guarded). answers_name line x.key) i)) && is_complete (before ++ line ∷ []) g.key)
+        ∙ touched_cause (has_guarded profile line g.key) (is_complete (before ++ line ∷ []) g.key) (answers_name line g.key)
     by false = (λ i. c i && c i) ∙ all_cause (is_complete (before ++ line ∷ []) g.key)
 
-abbrev due_with : (before : List Data) (line : Data) (s w : Bool) → ℕ × Guarded → Bool
-due_with before line s w p = s && is_complete (before ++ line ∷ []) p.1.key && ((s && not w) || has_guarded line p.1.key || answers_name line p.1.key)
+abbrev due_with : (profile : Profile) (before : List Data) (line : Data) (s w : Bool) → ℕ × Guarded → Bool
+due_with profile before line s w p = s && is_complete (before ++ line ∷ []) p.1.key && ((s && not w) || has_guarded profile line p.1.key || answers_name line p.1.key)
 
-found_with : (before : List Data) (line : Data) (answers : Answers) (complete : Complete) (touched : BTreeSet ℕ) (s w : Bool) → AreAnswers answers (before ++ line ∷ [])
-    → AreComplete answers (guarded_by by_names (before ++ line ∷ [])) complete → IsTouched before line complete.places touched
-    → due_found answers (guarded_by by_names (before ++ line ∷ [])) s w (contains nat_cmp touched) (contains nat_cmp complete.places)
-    ≡ map (λ (p : ℕ × Guarded). due_parts answers p.0 p.1.key) (filter (due_with before line s w) (enumerate_from 0 (guarded_by by_names (before ++ line ∷ []))))
-found_with before line answers complete touched false w are are_complete is_touched =
-    sym (ap (map (λ (p : ℕ × Guarded). due_parts answers p.0 p.1.key)) (none_left (due_with before line false w) (enumerate_from 0 (guarded_by by_names (before ++ line ∷ []))) (λ p. refl)))
-found_with before line answers complete touched true w are are_complete is_touched =
+found_with : (profile : Profile) (before : List Data) (line : Data) (answers : Answers) (complete : Complete) (touched : BTreeSet ℕ) (s w : Bool) → AreAnswers answers (before ++ line ∷ [])
+    → AreComplete answers (guarded_by (by_names profile) (before ++ line ∷ [])) complete → IsTouched profile before line complete.places touched
+    → due_found answers (guarded_by (by_names profile) (before ++ line ∷ [])) s w (contains nat_cmp touched) (contains nat_cmp complete.places)
+    ≡ map (λ (p : ℕ × Guarded). due_parts answers p.0 p.1.key) (filter (due_with profile before line s w) (enumerate_from 0 (guarded_by (by_names profile) (before ++ line ∷ []))))
+found_with profile before line answers complete touched false w are are_complete is_touched =
+    sym (ap (map (λ (p : ℕ × Guarded). due_parts answers p.0 p.1.key)) (none_left (due_with profile before line false w) (enumerate_from 0 (guarded_by (by_names profile) (before ++ line ∷ []))) (λ p. refl)))
+found_with profile before line answers complete touched true w are are_complete is_touched =
     let zero_first : (i : ℕ) → 0 + i ≡ i = λ i. omega arith in
     let sent : ℕ → Bool = is_sent w (contains nat_cmp touched) (contains nat_cmp complete.places) in
     ap (map (λ (p : ℕ × Guarded). due_parts answers p.0 p.1.key))
-    (same_due 0 (guarded_by by_names (before ++ line ∷ [])) (λ (p : ℕ × Guarded). sent p.0) (due_with before line true w)
-    (λ i g h. ap sent (zero_first i) ∙ cause_at before line answers complete touched w i g are are_complete is_touched h))
+    (same_due 0 (guarded_by (by_names profile) (before ++ line ∷ [])) (λ (p : ℕ × Guarded). sent p.0) (due_with profile before line true w)
+    (λ i g h. ap sent (zero_first i) ∙ cause_at profile before line answers complete touched w i g are are_complete is_touched h))
 
 -- a look finds what is due at the line
-pub due_now : (before : List Data) (line : Data) (answers : Answers) (complete : Complete) (touched : BTreeSet ℕ) (s w : Bool) → s ≡ stream_at (before ++ line ∷ []) → w ≡ stream_at before
-    → AreAnswers answers (before ++ line ∷ []) → AreComplete answers (guarded_by by_names (before ++ line ∷ [])) complete → IsTouched before line complete.places touched
-    → due_found answers (guarded_by by_names (before ++ line ∷ [])) s w (contains nat_cmp touched) (contains nat_cmp complete.places) ≡ due_at dns_rules (front_of before line)
-due_now before line answers complete touched s w now was are are_complete is_touched =
-    found_with before line answers complete touched s w are are_complete is_touched
+pub due_now : (profile : Profile) (before : List Data) (line : Data) (answers : Answers) (complete : Complete) (touched : BTreeSet ℕ) (s w : Bool) → s ≡ stream_at profile (before ++ line ∷ []) → w ≡ stream_at profile before
+    → AreAnswers answers (before ++ line ∷ []) → AreComplete answers (guarded_by (by_names profile) (before ++ line ∷ [])) complete → IsTouched profile before line complete.places touched
+    → due_found answers (guarded_by (by_names profile) (before ++ line ∷ [])) s w (contains nat_cmp touched) (contains nat_cmp complete.places) ≡ due_at (dns_rules profile) (front_of before line)
+due_now profile before line answers complete touched s w now was are are_complete is_touched =
+    found_with profile before line answers complete touched s w are are_complete is_touched
     ∙ (λ i. map (λ (p : ℕ × Guarded). record { place = p.0; endpoints = Some (endpoints_tree (hosts_with (λ name. are.addresses name i) p.1.key)) })
-    (filter (due_with before line (now i) (was i)) (enumerate_from 0 (guarded_by by_names (before ++ line ∷ [])))))
+    (filter (due_with profile before line (now i) (was i)) (enumerate_from 0 (guarded_by (by_names profile) (before ++ line ∷ [])))))

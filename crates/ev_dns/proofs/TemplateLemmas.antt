@@ -6,6 +6,7 @@ use Rattle.ev_types.specs.declared.contents.Kind.TheVariants.{Cds}
 use Rattle.ev_types.specs.declared.contents.Content.{Content}
 use Rattle.ev_types.specs.declared.contents.Content.TheVariants.{Cluster as a_cluster}
 use Rattle.ev_types.specs.declared.contents.Body.TheVariants.{Bad}
+use Rattle.ev_types.specs.declared.events.Profile.{Profile}
 use Rattle.ev_tree.specs.declared.outcome.Found.{Found}
 use Rattle.ev_tree.specs.declared.span.Span.{Span}
 use Rattle.ev_tree.specs.Broken.{none_broken, least_of}
@@ -15,7 +16,8 @@ use Rattle.ev_tree.specs.Spans.{is_not_positive}
 use Rattle.ev_cluster_json.specs.Clusters.{cluster_reading, type_of}
 use Rattle.ev_wire.specs.Bodies.{breaks_v1, breaks_v2, breaks_v3, own_broken, content_of, content_with, body_with, resource_of}
 use Rattle.ev_expand.specs.declared.keys.Key.{Key}
-use Rattle.ev_dns.specs.Templates.{body_key, is_strict_dns}
+use Rattle.ev_expand.specs.Keys.{key_with}
+use Rattle.ev_dns.specs.Templates.{body_key, is_template}
 
 -- the rules of a resource itself
 least_own : (v1 v2 v3 v6 v25 : Bool) → is_some (least_of (record none_broken { v1 = v1; v2 = v2; v3 = v3; v6 = v6; v25 = v25 })) ≡ (v1 || v2 || v3 || v6 || v25)
@@ -28,7 +30,7 @@ least_own false false false false false = refl
 
 -- the key of what is read as a cluster, or isn't
 abbrev pub read_key : Result Cluster ℕ → Option Key
-read_key (Ok cluster) = Some (record { cluster = cluster; names = [] })
+read_key (Ok cluster) = Some (key_with cluster [])
 read_key (Err rule) = None
 
 bad_key : (least : Option ℕ) (content : Result Content ℕ) → is_some least ≡ true → body_key (body_with least content) ≡ None
@@ -37,15 +39,15 @@ bad_key (Some rule) (Ok content) h = refl
 bad_key (Some rule) (Err other) h = refl
 
 -- the key is none where the resource breaks a rule by itself
-pub broken_key : (name : List ℕ) (ttl : Found Span) (body : Data) → (breaks_v1 Cds body || breaks_v2 name || breaks_v3 Cds name body || is_wrong ttl || is_not_positive ttl) ≡ true
-    → body_key (resource_of Cds name ttl body) ≡ None
+pub broken_key : (profile : Profile) (name : List ℕ) (ttl : Found Span) (body : Data) → (breaks_v1 Cds body || breaks_v2 name || breaks_v3 Cds name body || is_wrong ttl || is_not_positive ttl) ≡ true
+    → body_key (resource_of profile Cds name ttl body) ≡ None
 unfolding resource_of
-broken_key name ttl body h = by (breaks_v1 Cds body) refl
+broken_key profile name ttl body h = by (breaks_v1 Cds body) refl
   where
-    by : (b : Bool) → breaks_v1 Cds body ≡ b → body_key (cond b (Bad 1) (body_with (least_of (own_broken Cds name ttl body)) (content_of Cds body))) ≡ None
+    by : (b : Bool) → breaks_v1 Cds body ≡ b → body_key (cond b (Bad 1) (body_with (least_of (own_broken Cds name ttl body)) (content_of profile Cds body))) ≡ None
     by true is = refl
     by false is =
-        bad_key (least_of (own_broken Cds name ttl body)) (content_of Cds body)
+        bad_key (least_of (own_broken Cds name ttl body)) (content_of profile Cds body)
         (least_own (breaks_v1 Cds body) (breaks_v2 name) (breaks_v3 Cds name body) (is_wrong ttl) (is_not_positive ttl) ∙ h)
 
 good_key : (least : Option ℕ) (reading : Result Cluster ℕ) → is_some least ≡ false → body_key (body_with least (content_with a_cluster reading)) ≡ read_key reading
@@ -58,15 +60,15 @@ none_first true b c d e h = absurd (cc)
 none_first false b c d e h = refl
 
 -- else it is that of the cluster, where this is good
-pub whole_key : (name : List ℕ) (ttl : Found Span) (body : Data) → (breaks_v1 Cds body || breaks_v2 name || breaks_v3 Cds name body || is_wrong ttl || is_not_positive ttl) ≡ false
-    → body_key (resource_of Cds name ttl body) ≡ read_key (cluster_reading body)
+pub whole_key : (profile : Profile) (name : List ℕ) (ttl : Found Span) (body : Data) → (breaks_v1 Cds body || breaks_v2 name || breaks_v3 Cds name body || is_wrong ttl || is_not_positive ttl) ≡ false
+    → body_key (resource_of profile Cds name ttl body) ≡ read_key (cluster_reading profile body)
 unfolding resource_of content_of
-whole_key name ttl body h =
-    ap (λ (b : Bool). body_key (cond b (Bad 1) (body_with (least_of (own_broken Cds name ttl body)) (content_of Cds body)))) (none_first (breaks_v1 Cds body) (breaks_v2 name) (breaks_v3 Cds name body) (is_wrong ttl) (is_not_positive ttl) h)
-    ∙ good_key (least_of (own_broken Cds name ttl body)) (cluster_reading body)
+whole_key profile name ttl body h =
+    ap (λ (b : Bool). body_key (cond b (Bad 1) (body_with (least_of (own_broken Cds name ttl body)) (content_of profile Cds body)))) (none_first (breaks_v1 Cds body) (breaks_v2 name) (breaks_v3 Cds name body) (is_wrong ttl) (is_not_positive ttl) h)
+    ∙ good_key (least_of (own_broken Cds name ttl body)) (cluster_reading profile body)
     (least_own (breaks_v1 Cds body) (breaks_v2 name) (breaks_v3 Cds name body) (is_wrong ttl) (is_not_positive ttl) ∙ h)
 
 -- what isn't there is no template
-pub no_template : is_strict_dns null ≡ false
+pub no_template : is_template null ≡ false
 unfolding type_of enumeration_of field_of camel_of
 no_template = refl

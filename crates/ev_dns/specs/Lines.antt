@@ -1,6 +1,7 @@
 -- The lines of a script with resolutions of host names. All other lines are as in a script.
 use Rattle.std.specs.Prelude.{ℕ, List, [], ◌∷◌, if◌then◌else◌, codes, Option, None, Some, option_map, option_and_then}
 use Rattle.serde_json.specs.Data.{Data}
+use Rattle.ev_types.specs.declared.events.Profile.{Profile}
 use Rattle.ev_tree.specs.Scalars.{list_in}
 use Rattle.ev_script.specs.Members.{name_of, member_of, member_or, is_op}
 use Rattle.ev_script.specs.LineForms.{with_only}
@@ -37,10 +38,10 @@ resolution_in tree =
     else None
 
 -- a line: a resolution names no worker, and all else is as in a script
-abbrev pub dns_line : ℕ → Data → Option (Option ℕ)
-dns_line at tree =
+abbrev pub dns_line : Profile → ℕ → Data → Option (Option ℕ)
+dns_line profile at tree =
     if is_op (codes "resolved") tree then option_map (λ resolution. None) (resolution_in tree)
-    else plain_lines.lines at tree
+    else plain_lines.lines profile at tree
 
 -- the forms of the lines
 abbrev pub dns_lines : LineForms

@@ -4,6 +4,7 @@ use Rattle.std.specs.Prelude.{ℕ, Bool, false, not, ◌&&◌, ◌||◌, List, O
 use Rattle.std.specs.List.{list_any}
 use Rattle.serde_json.specs.Data.{Data}
 use Rattle.ev_types.specs.Hosts.{HostRowParts}
+use Rattle.ev_types.specs.declared.events.Profile.{Profile}
 use Rattle.ev_script.specs.Members.{is_op}
 use Rattle.ev_expand.specs.declared.keys.Key.{Key}
 use Rattle.ev_expand.specs.Keys.{key_same}
@@ -21,8 +22,8 @@ abbrev pub hosts_of : List Data → Key → List HostRowParts
 hosts_of lines key = hosts_with (addresses_of lines) key
 
 -- the line has a guarded resource of the key
-abbrev pub has_guarded : Data → Key → Bool
-has_guarded line key = list_any (λ (g : Guarded). key_same key g.key) (guarded_in by_names line)
+abbrev pub has_guarded : Profile → Data → Key → Bool
+has_guarded profile line key = list_any (λ (g : Guarded). key_same key g.key) (guarded_in (by_names profile) line)
 
 -- there is a resolution, of a host name of the template
 abbrev pub answers_one : Option Resolution → Key → Bool
@@ -35,25 +36,25 @@ answers_name line key = answers_one (resolution_in line) key
 
 -- what is complete is due where a stream is open: at the line that opens it, at each guarded resource of it, and at
 -- each answer of one of its host names
-abbrev pub is_due : Front → Guarded → Bool
-is_due front g =
-    stream_at (up_to front) && is_complete (up_to front) g.key
-    && (opens front || has_guarded front.line g.key || answers_name front.line g.key)
+abbrev pub is_due : Profile → Front → Guarded → Bool
+is_due profile front g =
+    stream_at profile (up_to front) && is_complete (up_to front) g.key
+    && (opens profile front || has_guarded profile front.line g.key || answers_name front.line g.key)
 
 -- resolutions aren't written
 abbrev pub is_written : Data → Bool
 is_written line = not (is_op (codes "resolved") line)
 
-abbrev pub dns_rules : Rules
-dns_rules = record {
+abbrev pub dns_rules : Profile → Rules
+dns_rules profile = record {
   prefix = codes "dns/";
   nonce = codes "dns-";
-  guard = by_names;
+  guard = by_names profile;
   is_written = is_written;
-  is_due = is_due;
+  is_due = is_due profile;
   endpoints_of = λ lines g. Some (endpoints_tree (hosts_of lines g.key));
 }
 
--- the text of a script's header and lines
-abbrev pub dns_text : Data → List Data → List ℕ
-dns_text head lines = text_by dns_rules head lines
+-- the text of a script's header and lines, which are read in this profile
+abbrev pub dns_text : Profile → Data → List Data → List ℕ
+dns_text profile head lines = text_by (dns_rules profile) head lines

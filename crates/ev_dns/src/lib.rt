@@ -5,7 +5,9 @@
 //!   Their lines aren't written, also where they are of a wrong form: an input of the command has no such line.
 //! - Host names compare byte for byte. An address in place of a host name waits for its resolution like any name.
 //! - A template is the cluster as it is read with the type STATIC: so its hosts, and what else tells two templates apart, are
-//!   those of the shared reader of clusters.
+//!   those of the shared reader of clusters. Its body's text tells none apart.
+//! - A cluster with a custom type, or with a host that isn't at a socket address, is no template: as Envoy reads it, it is found
+//!   elsewhere, or its host needs no resolution.
 //! - Each place that isn't complete is under the first host name that it still waits for, so a resolution wakes the places
 //!   alone that wait for its name. The complete ones are under all their host names.
 #![tactic(auto)]
@@ -18,6 +20,7 @@ mod looking;
 mod names;
 mod places;
 mod resolutions;
+mod sockets;
 mod templates;
 mod touching;
 mod waiting;

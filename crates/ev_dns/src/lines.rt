@@ -1,13 +1,14 @@
 ghost use Rattle.std.specs.Prelude.{◌≡◌, ℕ, true, is_some, IfOk};
 ghost use Rattle.serde_json.specs.Data.{Data};
 ghost use Rattle.serde_json.specs.View.{view};
+ghost use Rattle.ev_types.specs.declared.events.Profile.{Profile};
 ghost use Rattle.ev_script.specs.Faults.{plain_lines};
 ghost use Rattle.ev_dns.specs.Resolving.{is_written};
 ghost use Rattle.ev_dns.specs.Lines.{dns_lines, given_addresses, addresses_at, resolution_of, resolution_in};
 
 use crate::names::read_names;
-use ev_script::{FormedLine, Forms, LineTrees, has_only, is_op, name_at};
-use ev_types::{Name, Seq};
+use ev_script::{FormedLine, Forms, LineTrees, Settings, has_only, is_op, name_at};
+use ev_types::{Name, Profile, Seq};
 use serde_json::Value;
 use std::alloc::{AllocError, Global};
 
@@ -31,20 +32,21 @@ impl Forms for DnsLines {
 
     ghost forms = { dns_lines };
 
-    ghost keeps = { λ at tree kept. view kept ≡ tree };
+    ghost keeps = { λ profile at tree kept. view kept ≡ tree };
 
-    fn read_head(&self, alloc: Global, tree: &Value) -> Result<Option<u32>, AllocError> {
+    fn read_head(&self, alloc: Global, tree: &Value) -> Result<Option<Settings>, AllocError> {
         LineTrees.read_head(alloc, tree)
     }
 
     fn read(
         &self,
         alloc: Global,
+        profile: Profile,
         at: u32,
         tree: Value,
     ) -> Result<Option<FormedLine<Value>>, AllocError> {
         if !is_op("resolved", &tree) {
-            return LineTrees.read(alloc, at, tree);
+            return LineTrees.read(alloc, profile, at, tree);
         }
         if resolution_in(alloc, &tree)?.is_none() {
             return Ok(None);
@@ -73,11 +75,11 @@ pub fn resolution_in(alloc: Global, tree: &Value) -> Result<Option<Resolution>, 
     resolution_of(alloc, tree)
 }
 
-/// Each line of an input is written exactly where it is a line of a script: a law of the definitions.
+/// Each line of an input is written exactly where it is a line of a script, in either profile: a law of the definitions.
 #[tactic(auto, using(crate::proofs::LineLemmas::written_where_plain))]
 pub fn script_lines_are_written()
-    ensures { (at : ℕ) (tree : Data) → is_some (dns_lines.lines at tree) ≡ true
-        → is_written tree ≡ is_some (plain_lines.lines at tree) }
+    ensures { (profile : Profile) (at : ℕ) (tree : Data) → is_some (dns_lines.lines profile at tree) ≡ true
+        → is_written tree ≡ is_some (plain_lines.lines profile at tree) }
 {}
 
 // A resolution, by its members.

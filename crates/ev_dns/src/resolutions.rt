@@ -12,6 +12,7 @@ ghost use Rattle.ev_dns.specs.Marking.{open_after};
 ghost use Rattle.ev_dns.specs.Resolving.{dns_rules};
 ghost use Rattle.ev_dns.specs.State.{FromBehind, IsBehind, IsTouched};
 ghost use Rattle.ev_dns.specs.Templates.{by_names};
+ghost use Rattle.ev_types.specs.declared.events.Profile.{Profile};
 
 use crate::answers::Answers;
 use crate::complete::Complete;
@@ -22,7 +23,7 @@ use crate::touching::touched_by;
 use crate::waiting::Waiting;
 use ev_expand::{Due, ExpandError, Expansion, Key, Numbers, expand_with};
 use ev_script::is_op;
-use ev_types::{Event, Item, Name, TryCopy};
+use ev_types::{Event, Item, Name, Profile, TryCopy};
 use serde_json::{Value, json};
 use std::alloc::{AllocError, Global};
 use std::collections::BTreeSet;
@@ -43,7 +44,7 @@ pub(crate) struct Resolutions {
 impl Resolutions {
     // Nothing is known. It takes no memory.
     pub(crate) fn new(alloc: Global) -> Resolutions
-        ensures { IsBehind result [] }
+        ensures { (profile : Profile) → IsBehind profile result [] }
     {
         Resolutions {
             connected: false,
@@ -57,17 +58,18 @@ impl Resolutions {
     fn hear(
         &mut self,
         alloc: Global,
+        profile: Profile,
         line: &Value,
         event: &Option<Event>,
         numbers: &Numbers,
         items: &[Option<usize>],
     ) -> Result<BTreeSet<usize>, AllocError>
-        requires event { event.now ≡ event_of (view line.now) }
-        requires places { ArePlaces by_names (view line.now) (guarded_so_far numbers.now) items.now }
-        ensures touched { FromBehind self.old numbers.now (view line.now)
-            (λ before. IfOk result (λ set. IsTouched before (view line.now) self.new.complete.places set)) }
-        ensures behind { FromBehind self.old numbers.now (view line.now)
-            (λ before. OnOk result (IsBehind self.new (before ++ view line.now ∷ []))) }
+        requires event { event.now ≡ event_of profile (view line.now) }
+        requires places { ArePlaces (by_names profile) (view line.now) (guarded_so_far numbers.now) items.now }
+        ensures touched { FromBehind profile self.old numbers.now (view line.now)
+            (λ before. IfOk result (λ set. IsTouched profile before (view line.now) self.new.complete.places set)) }
+        ensures behind { FromBehind profile self.old numbers.now (view line.now)
+            (λ before. OnOk result (IsBehind profile self.new (before ++ view line.now ∷ []))) }
     {
         self.connected = open_after(self.connected, event);
         let resolution = resolution_in(alloc, line)?;
@@ -107,10 +109,13 @@ impl Resolutions {
 }
 
 impl Expansion for Resolutions {
+    ghost use Rattle.std.proofs.Common.{refl};
     ghost use Rattle.ev_dns.specs.Resolving.{dns_rules};
     ghost use Rattle.ev_dns.specs.State.{IsBehind};
 
     ghost rules = { dns_rules };
+
+    ghost reads = { λ profile. refl };
 
     ghost is_behind = { IsBehind };
 
@@ -126,24 +131,31 @@ impl Expansion for Resolutions {
         !is_op("resolved", line)
     }
 
-    fn key(&self, alloc: Global, _item: &Item, entry: &Value) -> Result<Option<Key>, AllocError> {
-        template_key(alloc, entry)
+    fn key(
+        &self,
+        alloc: Global,
+        profile: Profile,
+        _item: &Item,
+        entry: &Value,
+    ) -> Result<Option<Key>, AllocError> {
+        template_key(alloc, profile, entry)
     }
 
-    fn own(&self, alloc: Global, _entry: &Value) -> Result<Value, AllocError> {
+    fn own(&self, alloc: Global, _profile: Profile, _entry: &Value) -> Result<Value, AllocError> {
         json!(in alloc; null)
     }
 
     fn due(
         &mut self,
         alloc: Global,
+        profile: Profile,
         line: &Value,
         event: &Option<Event>,
         numbers: &Numbers,
         items: &[Option<usize>],
     ) -> Result<Vec<Due>, AllocError> {
         let was_open = self.connected;
-        let touched = self.hear(alloc, line, event, numbers, items)?;
+        let touched = self.hear(alloc, profile, line, event, numbers, items)?;
         self.find_due(alloc, numbers, was_open, &touched)
     }
 }
@@ -183,15 +195,20 @@ fn open_after(connected: bool, event: &Option<Event>) -> bool
     }
 }
 
-/// The text of a script whose clusters have names to be resolved, by its header and its lines: resolutions of host
-/// names are lines of their own.
+/// The text of a script whose clusters have names to be resolved, by its header and its lines, which are read by this profile:
+/// resolutions of host names are lines of their own.
 ///
 /// # Errors
 /// `Private` exactly for the first line that uses a name that begins with `dns/` for endpoints. `Large` where there is
 /// none, exactly for the line with whose output the text goes above a limit of inputs. `OutOfMemory` where memory runs out,
 /// and for 2^32 lines and more.
-pub fn expand(alloc: Global, head: &Value, lines: &[Value]) -> Result<Vec<u8>, ExpandError>
-    ensures { IsExpanded dns_rules (view head.now) (map view lines.now) result }
+pub fn expand(
+    alloc: Global,
+    profile: Profile,
+    head: &Value,
+    lines: &[Value],
+) -> Result<Vec<u8>, ExpandError>
+    ensures { IsExpanded (dns_rules profile) (view head.now) (map view lines.now) result }
 {
-    expand_with(alloc, Resolutions::new(alloc), head, lines)
+    expand_with(alloc, profile, Resolutions::new(alloc), head, lines)
 }

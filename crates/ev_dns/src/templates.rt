@@ -1,4 +1,4 @@
-ghost use Rattle.std.specs.Prelude.{◌≡◌, ◌||◌, IfOk};
+ghost use Rattle.std.specs.Prelude.{◌≡◌, ◌||◌, [], Some, IfOk};
 ghost use Rattle.serde_json.specs.View.{view};
 ghost use Rattle.ev_tree.specs.Forms.{found_map};
 ghost use Rattle.ev_tree.specs.Spans.{is_not_positive};
@@ -6,12 +6,14 @@ ghost use Rattle.ev_types.specs.declared.contents.Kind.TheVariants.{Cds};
 ghost use Rattle.ev_wire.specs.Bodies.{breaks_v3, differs, is_of_type, resource_of};
 ghost use Rattle.ev_wire.specs.Responses.{ttl_of};
 ghost use Rattle.ev_expand.specs.Guarding.{body_in};
-ghost use Rattle.ev_dns.specs.Templates.{body_key, breaks_own, is_strict_dns, rows_of, static_body, template_key};
+ghost use Rattle.ev_expand.specs.Keys.{key_with};
+ghost use Rattle.ev_dns.specs.Templates.{body_key, breaks_own, is_strict_dns, is_template, rows_of, static_body, template_key};
 
+use crate::sockets::has_sockets;
 use ev_cluster_json::read_cluster;
 use ev_expand::Key;
 use ev_tree::{EnumTable, Found, ReadError, Span, is_name, is_not_positive, member};
-use ev_types::{Discovery, HostRow, Seq};
+use ev_types::{Cluster, Discovery, HostRow, Profile, Seq};
 use serde_json::{Value, json, put};
 use std::alloc::{AllocError, Global};
 
@@ -25,28 +27,51 @@ const STATIC: u32 = 0;
 const CLUSTER: &str = "type.googleapis.com/envoy.config.cluster.v3.Cluster";
 
 // The key of a resource of clusters, where it is a template.
-pub(crate) fn template_key(alloc: Global, entry: &Value) -> Result<Option<Key>, AllocError>
-    ensures { IfOk result (λ key. key ≡ template_key (view entry.now)) }
+pub(crate) fn template_key(
+    alloc: Global,
+    profile: Profile,
+    entry: &Value,
+) -> Result<Option<Key>, AllocError>
+    ensures { IfOk result (λ key. key ≡ template_key profile (view entry.now)) }
 {
     match entry.get("resource") {
-        Some(body) => key_of(alloc, entry, body),
+        Some(body) => key_of(alloc, profile, entry, body),
         None => Ok(None),
     }
 }
 
 // The same, of a resource with this body.
 #[tactic(auto, unfolding(ev_wire::specs::Responses::ttl_of))]
-fn key_of(alloc: Global, entry: &Value, body: &Value) -> Result<Option<Key>, AllocError>
+fn key_of(
+    alloc: Global,
+    profile: Profile,
+    entry: &Value,
+    body: &Value,
+) -> Result<Option<Key>, AllocError>
     requires { view body.now ≡ body_in (view entry.now) }
-    ensures { IfOk result (λ key. key ≡ template_key (view entry.now)) }
+    ensures { IfOk result (λ key. key ≡ template_key profile (view entry.now)) }
 {
-    if !is_strict_dns(alloc, body)? {
+    if !is_template(alloc, body)? {
         return Ok(None);
     }
     let name = member::text(alloc, Some(entry), "name")?;
     let ttl = member::duration(alloc, Some(entry), "ttl")?;
     let body = static_body(alloc, body)?;
-    static_key(alloc, member::text_or_empty(name), ttl, &body)
+    static_key(alloc, profile, member::text_or_empty(name), ttl, &body)
+}
+
+// Whether a cluster is of the type STRICT_DNS, without a custom type, and its hosts have socket addresses.
+fn is_template(alloc: Global, body: &Value) -> Result<bool, AllocError>
+    ensures { IfOk result (λ is. is ≡ is_template (view body.now)) }
+{
+    if !is_strict_dns(alloc, body)? {
+        return Ok(false);
+    }
+    let custom = member::object(alloc, Some(body), "cluster_type")?;
+    if custom.is_given() {
+        return Ok(false);
+    }
+    has_sockets(alloc, body)
 }
 
 // Whether the type of a cluster is STRICT_DNS.
@@ -78,23 +103,28 @@ fn static_body(alloc: Global, body: &Value) -> Result<Value, AllocError>
 // The key of a resource of this outer name, time to live and body, where it is good.
 fn static_key(
     alloc: Global,
+    profile: Profile,
     name: &str,
     ttl: Found<Span>,
     body: &Value,
 ) -> Result<Option<Key>, AllocError>
-    ensures { IfOk result (λ key. key ≡ body_key (resource_of Cds name.now ttl (view body.now))) }
+    ensures { IfOk result (λ key. key ≡ body_key (resource_of profile Cds name.now ttl (view body.now))) }
 {
     if breaks_own(alloc, name, ttl, body)? {
         return Ok(None);
     }
-    match read_cluster(alloc, body) {
-        Ok(cluster) => Ok(Some(Key {
-            cluster,
-            names: Seq::new(alloc),
-        })),
+    match read_cluster(alloc, profile, body) {
+        Ok(cluster) => cluster_key(alloc, &cluster),
         Err(ReadError::Rule(_)) => Ok(None),
         Err(ReadError::OutOfMemory) => Err(AllocError),
     }
+}
+
+// The key of a cluster.
+fn cluster_key(alloc: Global, cluster: &Cluster) -> Result<Option<Key>, AllocError>
+    ensures { IfOk result (λ key. key ≡ Some (key_with cluster.now [])) }
+{
+    Ok(Some(Key::of(alloc, cluster, Seq::new(alloc))?))
 }
 
 // Whether a resource breaks a rule by its type, its names or its time to live.
@@ -143,5 +173,6 @@ pub(crate) fn rows_of(key: &Key) -> &[HostRow]
     match &key.cluster.discovery {
         Discovery::Static(assignment) => assignment.rows(),
         Discovery::Eds { .. } => &[],
+        Discovery::Elsewhere => &[],
     }
 }

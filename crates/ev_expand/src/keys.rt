@@ -2,8 +2,8 @@ ghost use Rattle.std.specs.Prelude.{◌≡◌, fold};
 ghost use Rattle.std.specs.List.{flat_map};
 ghost use Rattle.ev_expand.specs.Keys.{row_hash_input, discovery_hash_input};
 
-use ev_types::{Cluster, Discovery, HostRow, Name, Seq, Text};
-use std::alloc::Global;
+use ev_types::{Cluster, Discovery, HostRow, Name, Seq, Text, TryCopy};
+use std::alloc::{AllocError, Global};
 use std::hash::{Hash, Hasher};
 
 /// What is guarded: a cluster as it was read, its name included and the text of its body left out, and the names that it refers
@@ -15,28 +15,25 @@ pub struct Key {
 }
 
 impl Key {
-    ghost use Rattle.std.specs.Prelude.{◌≡◌};
+    ghost use Rattle.std.specs.Prelude.{◌≡◌, IfOk};
     ghost use Rattle.ev_expand.specs.Keys.{key_with};
 
-    /// The key of a cluster that refers to these names. It takes no memory.
-    pub fn new(alloc: Global, cluster: Cluster, names: Seq<Name>) -> Key
-        ensures { result ≡ key_with cluster names }
+    /// The key of a cluster that refers to these names.
+    ///
+    /// # Errors
+    /// `AllocError` where there is no memory for it.
+    pub fn of(alloc: Global, cluster: &Cluster, names: Seq<Name>) -> Result<Key, AllocError>
+        ensures { IfOk result (λ key. key ≡ key_with cluster.now names) }
     {
-        let Cluster {
-            name,
-            discovery,
-            checked,
-            ..
-        } = cluster;
-        Key {
+        Ok(Key {
             cluster: Cluster {
-                name,
-                discovery,
-                checked,
+                name: cluster.name.copy(alloc)?,
+                discovery: cluster.discovery.copy(alloc)?,
+                checked: cluster.checked,
                 body_text: Text::from_string(String::new(alloc)),
             },
             names,
-        }
+        })
     }
 }
 

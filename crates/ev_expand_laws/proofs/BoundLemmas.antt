@@ -19,18 +19,23 @@ use Rattle.ev_types.specs.declared.events.Actor.TheVariants.{Stream, Health as h
 use Rattle.ev_types.specs.declared.events.Event.{Event}
 use Rattle.ev_types.specs.declared.events.Event.TheVariants.{Connect, Disconnect, Response, Health, FetchTimeout, DrainTimeout, TtlExpired, Publish, Reap, Accept, Close, Settle}
 use Rattle.ev_types.specs.declared.events.Line.{Line}
+use Rattle.ev_types.specs.declared.events.Profile.{Profile}
+use Rattle.ev_types.specs.declared.events.Profile.TheVariants.{Own}
 use Rattle.ev_journal.specs.Rendering.{line_text}
 use Rattle.ev_wire.specs.Responses.{entries_of, is_response, item_of, nonce_of, parts_of, response_kind, response_of}
+use Rattle.ev_script.specs.declared.forms.Settings.{Settings}
 use Rattle.ev_script.specs.declared.header.Header.{Header}
-use Rattle.ev_script.specs.Header.{header_of, IsHeader}
+use Rattle.ev_script.specs.Asks.{ask_in, conn_in}
+use Rattle.ev_script.specs.Header.{header_of, profile_of, settings_of, IsHeader}
 use Rattle.ev_script.specs.LineForms.{line_at, host_in, kind_in}
 use Rattle.ev_script.specs.Lines.{line_of, line_by, main_side_line}
 use Rattle.ev_script.specs.Members.{has_only, member_of, member_or, name_of, or_default, whole_within}
+use Rattle.ev_script.specs.Script.{script_made}
 use Rattle.ev_script.specs.ReadScript.{AreNumbered}
 use Rattle.ev_script.specs.StreamLines.{response_line}
 use Rattle.ev_script.specs.HealthLines.{health_line}
 use Rattle.ev_script.specs.TimerLines.{timeout_of, timeout_line, drain_line, expired_line}
-use Rattle.ev_script.specs.WorkerLines.{worker_in, conn_in, ask_in, worker_line, accept_line, close_line, settle_line}
+use Rattle.ev_script.specs.WorkerLines.{worker_in, worker_line, accept_line, close_line, settle_line}
 use Rattle.ev_script.proofs.KeptLemmas.{kept_line}
 use Rattle.ev_script.proofs.ScriptLemmas.{script_kept}
 use Rattle.ev_tree.specs.Floats.{whole}
@@ -92,13 +97,14 @@ default_kept (Some tree) = name_kept tree
 
 header_kept : (tree : Data) → IfSome (header_of tree) IsHeader
 header_kept tree =
-    tested IsHeader (has_only (codes "workers" ∷ codes "auto" ∷ codes "node" ∷ []) tree) _
+    tested IsHeader (has_only (codes "workers" ∷ codes "auto" ∷ codes "node" ∷ codes "profile" ∷ []) tree) _
     (chained (IsBetween 1 MAX_WORKERS) IsHeader _ (member_of (whole_within 1 MAX_WORKERS) (codes "workers") tree)
     (chained (λ d. Unit {0}) (IsBetween 1 MAX_WORKERS) (whole_within 1 MAX_WORKERS) (get (codes "workers") tree) (anything (get (codes "workers") tree)) (λ d _. whole_between 1 MAX_WORKERS d))
     (λ workers few.
     chained (λ b. Unit {0}) IsHeader _ (member_or false as_bool (codes "auto") tree) (anything (member_or false as_bool (codes "auto") tree)) (λ auto _.
-    mapped IsName IsHeader (λ node. record { workers = workers; auto = auto; node = node }) (member_or (codes "warmgate") name_of (codes "node") tree) (default_kept (get (codes "node") tree))
-    (λ node is. record { some_worker = few.0; few_workers = few.1; named = is }))))
+    chained (λ p. Unit {0}) IsHeader _ (member_or Own profile_of (codes "profile") tree) (anything (member_or Own profile_of (codes "profile") tree)) (λ profile _.
+    mapped IsName IsHeader (λ node. record { workers = workers; auto = auto; profile = profile; node = node }) (member_or (codes "warmgate") name_of (codes "node") tree) (default_kept (get (codes "node") tree))
+    (λ node is. record { some_worker = few.0; few_workers = few.1; named = is })))))
 
 header_keeps : (found : Option Header) (header : Header) → IfSome found IsHeader → found ≡ Some header → IsHeader header
 header_keeps None header kept e = absurd (cc)
@@ -117,37 +123,39 @@ line_with : (n at : ℕ) (actor : Actor) (event : Option Event) → IfSome event
 line_with n at actor None h = tt
 line_with n at actor (Some e) h = h
 
-parts_few : (kind : Option Kind) (nonce : List ℕ) (tree : Data) → length (parts_of kind nonce tree).items ≤ elements tree
+parts_few : (profile : Profile) (kind : Option Kind) (nonce : List ℕ) (tree : Data) → length (parts_of profile kind nonce tree).items ≤ elements tree
 unfolding entries_of
-parts_few None nonce tree = omega arith
-parts_few (Some kind) nonce tree = omega (arith, length-map (entries_of tree) (item_of kind), objects_count (codes "resources") tree)
+parts_few profile None nonce tree = omega arith
+parts_few profile (Some kind) nonce tree = omega (arith, length-map (entries_of tree) (item_of profile kind), objects_count (codes "resources") tree)
 
 -- a response that a tree is
 abbrev IsFew : ℕ → ResponseParts → Type 0
 IsFew n response = length response.items ≤ n
 
-response_few : (tree : Data) → IfSome (response_of tree) (IsFew (elements tree))
+response_few : (profile : Profile) (tree : Data) → IfSome (response_of profile tree) (IsFew (elements tree))
 unfolding response_of
-response_few tree = tested (IsFew (elements tree)) (is_response tree) (Some (parts_of (response_kind tree) (nonce_of tree) tree)) (parts_few (response_kind tree) (nonce_of tree) tree)
+response_few profile tree =
+    tested (IsFew (elements tree)) (is_response tree) (Some (parts_of profile (response_kind tree) (nonce_of tree) tree))
+    (parts_few profile (response_kind tree) (nonce_of tree) tree)
 
 inner_few : (n : ℕ) (tree : Data) (found : Option ResponseParts) → elements tree ≤ n → IfSome found (IsFew (elements tree)) → IfSome found (IsFew n)
 inner_few n tree None less h = tt
 inner_few n tree (Some response) less h = omega (arith, less, h)
 
-message_few : (n : ℕ) (message : Option Data) → IfSome message (λ d. elements d ≤ n) → IfSome (option_and_then response_of message) (IsFew n)
-message_few n None h = tt
-message_few n (Some d) h = inner_few n d (response_of d) h (response_few d)
+message_few : (profile : Profile) (n : ℕ) (message : Option Data) → IfSome message (λ d. elements d ≤ n) → IfSome (option_and_then (response_of profile) message) (IsFew n)
+message_few profile n None h = tt
+message_few profile n (Some d) h = inner_few n d (response_of profile d) h (response_few profile d)
 
-module _ (tree : Data) where
+module _ (profile : Profile) (tree : Data) where
   -- an event without resources
   bare : (at : ℕ) (names : List (List ℕ)) (actor : Actor) (event : Event) → items_in event ≡ 0 → IfSome (cond (has_only names tree) (line_at at actor (Some event)) None) (HasItems (elements tree))
   bare at names actor event none = tested (HasItems (elements tree)) (has_only names tree) (line_at at actor (Some event)) (omega (arith, none))
 
-  response_line_few : (at : ℕ) → IfSome (response_line at tree) (HasItems (elements tree))
+  response_line_few : (at : ℕ) → IfSome (response_line profile at tree) (HasItems (elements tree))
   response_line_few at =
       tested (HasItems (elements tree)) _ _ (line_with (elements tree) at Stream _
-      (mapped (IsFew (elements tree)) (BringsAtMost (elements tree)) (λ response. Response response) (member_of response_of (codes "message") tree)
-      (message_few (elements tree) (get (codes "message") tree) (get_elements (codes "message") tree)) (λ response few. few)))
+      (mapped (IsFew (elements tree)) (BringsAtMost (elements tree)) (λ response. Response response) (member_of (response_of profile) (codes "message") tree)
+      (message_few profile (elements tree) (get (codes "message") tree) (get_elements (codes "message") tree)) (λ response few. few)))
 
   health_few : (at : ℕ) → IfSome (health_line at tree) (HasItems (elements tree))
   health_few at =
@@ -178,7 +186,7 @@ module _ (tree : Data) where
   worker_few at event few =
       chained (λ x. Unit {0}) (HasItems (elements tree)) (λ worker. line_at at (Worker worker) event) (worker_in tree) (anything (worker_in tree)) (λ worker _. line_with (elements tree) at (Worker worker) event few)
 
-  accept_few : (at : ℕ) → IfSome (accept_line at tree) (HasItems (elements tree))
+  accept_few : (at : ℕ) → IfSome (accept_line profile at tree) (HasItems (elements tree))
   accept_few at = tested (HasItems (elements tree)) _ _ (worker_few at _ (mapped (λ x. Unit {0}) (BringsAtMost (elements tree)) (λ ask. Accept ask) (ask_in tree) (anything (ask_in tree)) (λ ask _. omega arith)))
 
   close_few : (at : ℕ) → IfSome (close_line at tree) (HasItems (elements tree))
@@ -187,7 +195,7 @@ module _ (tree : Data) where
   settle_few : (at : ℕ) → IfSome (settle_line at tree) (HasItems (elements tree))
   settle_few at = tested (HasItems (elements tree)) _ _ (worker_few at (Some Settle) (omega arith))
 
-  main_side_few : (op : List ℕ) (at : ℕ) → IfSome (main_side_line op at tree) (HasItems (elements tree))
+  main_side_few : (op : List ℕ) (at : ℕ) → IfSome (main_side_line profile op at tree) (HasItems (elements tree))
   main_side_few op at =
       either (HasItems (elements tree)) (bytes_eq op (codes "connect")) _ _ (bare at (codes "op" ∷ []) Stream Connect refl)
       (either (HasItems (elements tree)) (bytes_eq op (codes "disconnect")) _ _ (bare at (codes "op" ∷ []) Stream Disconnect refl)
@@ -199,15 +207,15 @@ module _ (tree : Data) where
       (either (HasItems (elements tree)) (bytes_eq op (codes "publish")) _ _ (bare at (codes "op" ∷ []) Main Publish refl)
       (tested (HasItems (elements tree)) (bytes_eq op (codes "reap")) _ (bare at (codes "op" ∷ []) Main Reap refl)))))))))
 
-  by_few : (op : List ℕ) (at : ℕ) → IfSome (line_by op at tree) (HasItems (elements tree))
+  by_few : (op : List ℕ) (at : ℕ) → IfSome (line_by profile op at tree) (HasItems (elements tree))
   by_few op at =
       either (HasItems (elements tree)) (bytes_eq op (codes "accept")) _ _ (accept_few at)
       (either (HasItems (elements tree)) (bytes_eq op (codes "close")) _ _ (close_few at)
       (either (HasItems (elements tree)) (bytes_eq op (codes "settle")) _ _ (settle_few at)
       (main_side_few op at)))
 
-  line_few : (at : ℕ) → IfSome (line_of at tree) (HasItems (elements tree))
-  line_few at = chained (λ x. Unit {0}) (HasItems (elements tree)) (λ op. line_by op at tree) (member_of as_str (codes "op") tree) (anything (member_of as_str (codes "op") tree)) (λ op _. by_few op at)
+  line_few : (at : ℕ) → IfSome (line_of profile at tree) (HasItems (elements tree))
+  line_few at = chained (λ x. Unit {0}) (HasItems (elements tree)) (λ op. line_by profile op at tree) (member_of as_str (codes "op") tree) (anything (member_of as_str (codes "op") tree)) (λ op _. by_few op at)
 
 -- ---- a script has no more resources than its text has bytes
 
@@ -220,19 +228,19 @@ unfolding line_text
 text_first tree trees =
     omega (arith, length-append (compact_text tree ++ 10 ∷ []) (text_of_trees trees), length-append (compact_text tree) (10 ∷ []))
 
-items_within : (at : ℕ) (trees : List Data) → items_of (lines_said at trees) ≤ length (text_of_trees (map whole trees))
-items_within at [] = omega arith
-items_within at (tree ∷ trees) =
-    let sum : items_of (option_to_list (line_of at tree) ++ lines_said (at + 1) trees) ≡ items_of (option_to_list (line_of at tree)) + items_of (lines_said (at + 1) trees) =
-    sum_by-append (λ (l : Line). items_in l.event) (option_to_list (line_of at tree)) (lines_said (at + 1) trees) in
+items_within : (profile : Profile) (at : ℕ) (trees : List Data) → items_of (lines_said profile at trees) ≤ length (text_of_trees (map whole trees))
+items_within profile at [] = omega arith
+items_within profile at (tree ∷ trees) =
+    let sum : items_of (option_to_list (line_of profile at tree) ++ lines_said profile (at + 1) trees) ≡ items_of (option_to_list (line_of profile at tree)) + items_of (lines_said profile (at + 1) trees) =
+    sum_by-append (λ (l : Line). items_in l.event) (option_to_list (line_of profile at tree)) (lines_said profile (at + 1) trees) in
     omega (
       arith,
       sum,
-      one_item (elements tree) (line_of at tree) (line_few tree at),
+      one_item (elements tree) (line_of profile at tree) (line_few profile tree at),
       text_elements (whole tree),
       whole_elements tree,
       text_first (whole tree) (map whole trees),
-      items_within (at + 1) trees,
+      items_within profile (at + 1) trees,
     )
 
 -- ---- the bounds
@@ -240,21 +248,21 @@ items_within at (tree ∷ trees) =
 some_line : Data
 some_line = null
 
-numbered : (workers : ℕ) (trees : List Data) → AllAt (HasLine workers) 2 trees → AreNumbered workers (lines_said 2 trees)
-numbered workers trees all =
-    let each = λ (k : ℕ) (line : Line) (h : k < length (lines_said 2 trees)).
-    kept_line workers (2 + k) (get_or trees k some_line) (get_or (lines_said 2 trees) k line)
-    (said_each workers 2 trees all k some_line line (omega (arith, h, said_count workers 2 trees all)))
-    (said_below workers 2 trees all k line h) in
+numbered : (settings : Settings) (trees : List Data) → AllAt (HasLine settings) 2 trees → AreNumbered settings.workers (lines_said settings.profile 2 trees)
+numbered settings trees all =
+    let each = λ (k : ℕ) (line : Line) (h : k < length (lines_said settings.profile 2 trees)).
+    kept_line settings.workers settings.profile (2 + k) (get_or trees k some_line) (get_or (lines_said settings.profile 2 trees) k line)
+    (said_each settings 2 trees all k some_line line (omega (arith, h, said_count settings 2 trees all)))
+    (said_below settings 2 trees all k line h) in
     record {
       places = λ k line h. omega (arith, (each k line h).0);
       allowed = λ k line h. (each k line h).1;
     }
 
 -- the script of a header and lines whose text is within the limits of inputs is within the bounds of scripts
-pub said_kept : (header : Header) (head : Data) (trees : List Data) → header_of head ≡ Some header → AllAt (HasLine header.workers) 2 trees → AreWithinLimits (map whole (head ∷ trees))
-    → IsScript record { workers = header.workers; auto = header.auto; node = header.node; lines = lines_said 2 trees; count = length (lines_said 2 trees) + 1 }
+pub said_kept : (header : Header) (head : Data) (trees : List Data) → header_of head ≡ Some header → AllAt (HasLine (settings_of header)) 2 trees → AreWithinLimits (map whole (head ∷ trees))
+    → IsScript (script_made header (lines_said header.profile 2 trees))
 said_kept header head trees heads all limits =
-    script_kept header (lines_said 2 trees) (header_keeps (header_of head) header (header_kept head) heads) (numbered header.workers trees all)
-    (omega (arith, said_count header.workers 2 trees all, length-map trees whole, limits.few))
-    (omega (arith, items_within 2 trees, text_first (whole head) (map whole trees), limits.small))
+    script_kept header (lines_said header.profile 2 trees) (header_keeps (header_of head) header (header_kept head) heads) (numbered (settings_of header) trees all)
+    (omega (arith, said_count (settings_of header) 2 trees all, length-map trees whole, limits.few))
+    (omega (arith, items_within header.profile 2 trees, text_first (whole head) (map whole trees), limits.small))

@@ -11,6 +11,7 @@ use Rattle.serde_json.specs.Data.{Data}
 use Rattle.ev_types.specs.Scripts.{items_in, items_of}
 use Rattle.ev_types.specs.declared.contents.Kind.TheVariants.{Cds}
 use Rattle.ev_types.specs.declared.events.Line.{Line}
+use Rattle.ev_types.specs.declared.events.Profile.{Profile}
 use Rattle.ev_types.specs.declared.limits.TheConstants.{ITEM_LIMIT}
 use Rattle.ev_wire.specs.Responses.{item_of}
 use Rattle.ev_script.specs.Lines.{line_of}
@@ -41,12 +42,12 @@ once_length (first ∷ others) =
 
 -- ---- resources of the lines that are written
 
-said_append : (at : ℕ) (xs ys : List Data) → lines_said at (xs ++ ys) ≡ lines_said at xs ++ lines_said (at + length xs) ys
-said_append at [] ys = let place : at ≡ at + 0 = omega arith in ap (λ n. lines_said n ys) place
-said_append at (x ∷ xs) ys =
+said_append : (profile : Profile) (at : ℕ) (xs ys : List Data) → lines_said profile at (xs ++ ys) ≡ lines_said profile at xs ++ lines_said profile (at + length xs) ys
+said_append profile at [] ys = let place : at ≡ at + 0 = omega arith in ap (λ n. lines_said profile n ys) place
+said_append profile at (x ∷ xs) ys =
     let place : at + 1 + length xs ≡ at + length (x ∷ xs) = omega arith in
-    ap (λ ls. option_to_list (line_of at x) ++ ls) (said_append (at + 1) xs ys ∙ ap (λ n. lines_said (at + 1) xs ++ lines_said n ys) place)
-    ∙ sym (append_assoc (option_to_list (line_of at x)) (lines_said (at + 1) xs) (lines_said (at + length (x ∷ xs)) ys))
+    ap (λ ls. option_to_list (line_of profile at x) ++ ls) (said_append profile (at + 1) xs ys ∙ ap (λ n. lines_said profile (at + 1) xs ++ lines_said profile n ys) place)
+    ∙ sym (append_assoc (option_to_list (line_of profile at x)) (lines_said profile (at + 1) xs) (lines_said profile (at + length (x ∷ xs)) ys))
 
 none_guarded : (guard : Guard) (entries : List Data) → list_any (λ (entry : Data). is_some (guard.key_of entry)) entries ≡ false → filter_map (guarded_of guard) entries ≡ []
 none_guarded guard [] h = refl
@@ -67,40 +68,40 @@ fronts_lines f (line ∷ lines) =
 -- where each line that has something guarded is written
 module _ (rules : Rules) (writes : (line : Data) → has_guarded rules.guard line ≡ true → rules.is_written line ≡ true) where
   -- the line of a prefix has no fewer resources than guarded ones
-  front_items : (front : Front) (at : ℕ) → length (guarded_in rules.guard front.line) ≤ items_of (lines_said at (gives rules front))
+  front_items : (front : Front) (at : ℕ) → length (guarded_in rules.guard front.line) ≤ items_of (lines_said rules.guard.profile at (gives rules front))
   front_items front at = by (has_guarded rules.guard front.line) refl
     where
-      by : (b : Bool) → has_guarded rules.guard front.line ≡ b → length (guarded_in rules.guard front.line) ≤ items_of (lines_said at (gives rules front))
-      by false none = omega (arith, ap length (none_guarded rules.guard (clusters_in front.line) none))
+      by : (b : Bool) → has_guarded rules.guard front.line ≡ b → length (guarded_in rules.guard front.line) ≤ items_of (lines_said rules.guard.profile at (gives rules front))
+      by false none = omega (arith, ap length (none_guarded rules.guard (clusters_in rules.guard.profile front.line) none))
       by true some =
           let guarded : List Guarded = guarded_at rules front in
           let reads : WaitsAsSaid rules.prefix rules.guard guarded front.line = waiting_reads rules.prefix rules.guard guarded front.line some in
           let line : Line = stream_line at (waiting_response rules.prefix rules.guard guarded front.line reads.response) in
           let due : List Data = lines_due rules.prefix rules.nonce (place_of front) (due_at rules front) in
-          let later : List Line = lines_said (at + 1) due in
-          let said : lines_said at (gives rules front) ≡ line ∷ later =
-          ap (λ b. lines_said at (cond b (waiting_line rules.prefix rules.guard guarded front.line ∷ []) [] ++ due)) (writes front.line some)
+          let later : List Line = lines_said rules.guard.profile (at + 1) due in
+          let said : lines_said rules.guard.profile at (gives rules front) ≡ line ∷ later =
+          ap (λ b. lines_said rules.guard.profile at (cond b (waiting_line rules.prefix rules.guard guarded front.line ∷ []) [] ++ due)) (writes front.line some)
           ∙ ap (λ found. option_to_list found ++ later) (reads.reads at) in
-          let own : items_in line.event ≡ length (clusters_in front.line) =
-          length-map (waiting_entries rules.prefix rules.guard guarded front.line) (item_of Cds)
-          ∙ length-map (clusters_in front.line) (λ (entry : Data). waiting_entry rules.prefix (place_at rules.guard guarded entry) entry) in
+          let own : items_in line.event ≡ length (clusters_in rules.guard.profile front.line) =
+          length-map (waiting_entries rules.prefix rules.guard guarded front.line) (item_of rules.guard.profile Cds)
+          ∙ length-map (clusters_in rules.guard.profile front.line) (λ (entry : Data). waiting_entry rules.prefix (place_at rules.guard guarded entry) entry) in
           let sum : items_of (line ∷ later) ≡ items_in line.event + items_of later = sum_by-cons (λ (l : Line). items_in l.event) line later in
-          omega (arith, ap items_of said, own, sum, found_length (guarded_of rules.guard) (clusters_in front.line))
+          omega (arith, ap items_of said, own, sum, found_length (guarded_of rules.guard) (clusters_in rules.guard.profile front.line))
 
-  fronts_items : (fs : List Front) (at : ℕ) → length (flat_map (λ (f : Front). guarded_in rules.guard f.line) fs) ≤ items_of (lines_said at (flat_map (gives rules) fs))
+  fronts_items : (fs : List Front) (at : ℕ) → length (flat_map (λ (f : Front). guarded_in rules.guard f.line) fs) ≤ items_of (lines_said rules.guard.profile at (flat_map (gives rules) fs))
   fronts_items [] at = omega arith
   fronts_items (f ∷ fs) at =
       let guarded : List Guarded = flat_map (λ (g : Front). guarded_in rules.guard g.line) fs in
       let later : List Data = flat_map (gives rules) fs in
       let joined : length (guarded_in rules.guard f.line ++ guarded) ≡ length (guarded_in rules.guard f.line) + length guarded =
       length-append (guarded_in rules.guard f.line) guarded in
-      let sum : items_of (lines_said at (gives rules f ++ later)) ≡ items_of (lines_said at (gives rules f)) + items_of (lines_said (at + length (gives rules f)) later) =
-      ap items_of (said_append at (gives rules f) later)
-      ∙ sum_by-append (λ (l : Line). items_in l.event) (lines_said at (gives rules f)) (lines_said (at + length (gives rules f)) later) in
+      let sum : items_of (lines_said rules.guard.profile at (gives rules f ++ later)) ≡ items_of (lines_said rules.guard.profile at (gives rules f)) + items_of (lines_said rules.guard.profile (at + length (gives rules f)) later) =
+      ap items_of (said_append rules.guard.profile at (gives rules f) later)
+      ∙ sum_by-append (λ (l : Line). items_in l.event) (lines_said rules.guard.profile at (gives rules f)) (lines_said rules.guard.profile (at + length (gives rules f)) later) in
       omega (arith, joined, sum, front_items f at, fronts_items fs (at + length (gives rules f)))
 
   -- fewer are guarded than a script may have resources
-  pub guarded_few : (lines : List Data) → items_of (lines_said 2 (given_lines rules lines)) < ITEM_LIMIT → length (guarded_by rules.guard lines) < ITEM_LIMIT
+  pub guarded_few : (lines : List Data) → items_of (lines_said rules.guard.profile 2 (given_lines rules lines)) < ITEM_LIMIT → length (guarded_by rules.guard lines) < ITEM_LIMIT
   guarded_few lines few =
       omega (arith, once_length (flat_map (guarded_in rules.guard) lines), ap length (fronts_lines (guarded_in rules.guard) lines), fronts_items (fronts lines) 2, few)
 

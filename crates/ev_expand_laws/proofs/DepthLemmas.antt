@@ -11,6 +11,7 @@ use Rattle.serde_json.specs.Find.{get, get_member}
 use Rattle.serde_json.specs.View.{items_of}
 use Rattle.ev_types.specs.declared.contents.Kind.{Kind}
 use Rattle.ev_types.specs.declared.contents.Kind.TheVariants.{Cds, Eds, Lds, Rds}
+use Rattle.ev_types.specs.declared.events.Profile.{Profile}
 use Rattle.ev_tree.specs.declared.outcome.Found.{Found}
 use Rattle.ev_tree.specs.declared.outcome.Found.TheVariants.{Absent, Wrong, Given}
 use Rattle.ev_tree.specs.Spelling.{camel_of}
@@ -234,8 +235,8 @@ listed_within (Some Lds) message n h = none_within n
 listed_within (Some Rds) message n h = none_within n
 
 -- the resources of clusters of a line are less deep than it by three
-pub clusters_within : (line : Data) (n : ℕ) → depth line ≤ n + 3 → AreWithin n (clusters_in line)
-clusters_within line n h = listed_within (kind_of (event_of line)) (message_of line) n (message_within line (n + 2) (omega (arith, h)))
+pub clusters_within : (profile : Profile) (line : Data) (n : ℕ) → depth line ≤ n + 3 → AreWithin n (clusters_in profile line)
+clusters_within profile line n h = listed_within (kind_of (event_of profile line)) (message_of line) n (message_within line (n + 2) (omega (arith, h)))
 
 waiting_by : (b : Bool) (line message : Data) (n : ℕ) → depth message ≤ n → depth line ≤ n + 1 → depth (cond b (response_tree message) line) ≤ n + 1
 waiting_by true line message n h k = omega (arith, response_depth message)
@@ -249,11 +250,11 @@ waiting_depth prefix guard gs line (suc m) few h =
     let made : List Data = waiting_entries prefix guard gs line in
     let each : AreWithin (m + 1) made =
     made_within (m + 1) (λ (entry : Data). waiting_entry prefix (place_at guard gs entry) entry)
-    (λ entry k. entry_depth prefix (place_at guard gs entry) entry m (omega arith) k) (clusters_in line) (clusters_within line (m + 1) (omega arith)) in
+    (λ entry k. entry_depth prefix (place_at guard gs entry) entry m (omega arith) k) (clusters_in guard.profile line) (clusters_within guard.profile line (m + 1) (omega arith)) in
     let entries : depth (array (items_of made)) ≤ m + 2 = omega (arith, items_within (m + 1) made each) in
     let before : depth message ≤ m + 3 = message_within line (m + 3) (omega arith) in
     let after : depth (with_value (codes "resources") (array (items_of made)) message) ≤ m + 3 = with_depth (codes "resources") (array (items_of made)) message (m + 3) (omega arith) before in
-    let whole = waiting_by (list_any (λ (entry : Data). is_some (guard.key_of entry)) (clusters_in line)) line (with_value (codes "resources") (array (items_of made)) message) (m + 3) after (omega arith) in
+    let whole = waiting_by (list_any (λ (entry : Data). is_some (guard.key_of entry)) (clusters_in guard.profile line)) line (with_value (codes "resources") (array (items_of made)) message) (m + 3) after (omega arith) in
     omega (arith, whole)
 
 -- ---- lines that follow

@@ -9,6 +9,7 @@ use Rattle.std.proofs.lemmas.Option.{slice_get_within}
 use Rattle.serde_json.specs.Data.{Data}
 use Rattle.ev_types.specs.Items.{ItemParts, ResponseParts}
 use Rattle.ev_types.specs.Same.{bytes_decide}
+use Rattle.ev_types.specs.declared.events.Profile.{Profile}
 use Rattle.ev_types.specs.declared.limits.TheConstants.{ITEM_LIMIT}
 use Rattle.ev_model.specs.Verdicts.{is_among}
 use Rattle.ev_model_laws.proofs.AnyLemmas.{or_so}
@@ -41,15 +42,15 @@ left_is : (name other : List ℕ) (endpoints : Option Data) → bare_name name e
 left_is name other None h = cc
 left_is name other (Some endpoints) h = absurd (cc)
 
-module _ (prefix nonce version name : List ℕ) (due : List DueParts) where
+module _ (profile : Profile) (prefix nonce version name : List ℕ) (due : List DueParts) where
   abbrev made : ResponseParts
-  made = following_response prefix nonce version due
+  made = following_response profile prefix nonce version due
 
   item_named : list_any (λ (item : ItemParts). bytes_eq item.name name) made.items ≡ true → IsDueName prefix due name
   item_named h =
       let one = in_any (λ (item : ItemParts). bytes_eq item.name name) made.items h in
       let among : IsIn one.0.name (filter_map (name_with prefix) due) =
-      subst (IsIn one.0.name) (following_names prefix nonce version due) (map_in (λ (item : ItemParts). item.name) made.items one.0 one.1) in
+      subst (IsIn one.0.name) (following_names profile prefix nonce version due) (map_in (λ (item : ItemParts). item.name) made.items one.0 one.1) in
       let found = in_found (name_with prefix) due one.0.name among in
       record {
         parts = found.0;

@@ -5,6 +5,7 @@ use Rattle.serde_json.specs.Data.{Data, string, array, object, Members, no_membe
 use Rattle.serde_json.specs.View.{items_of}
 use Rattle.ev_types.specs.Items.{ItemParts}
 use Rattle.ev_types.specs.declared.contents.Kind.TheVariants.{Eds}
+use Rattle.ev_types.specs.declared.events.Profile.{Profile}
 use Rattle.ev_tree.specs.declared.outcome.Found.{Found}
 use Rattle.ev_tree.specs.declared.outcome.Found.TheVariants.{Absent, Given}
 use Rattle.ev_tree.specs.Spelling.{camel_of}
@@ -161,21 +162,21 @@ texts_back [] = refl
 texts_back (text ∷ texts) = ap (λ (ts : List (List ℕ)). text ∷ ts) (texts_back texts)
 
 -- the name of an item is that of its resource
-pub item_name : (entry : Data) → (item_of Eds entry).name ≡ entry_name entry
+pub item_name : (profile : Profile) (entry : Data) → (item_of profile Eds entry).name ≡ entry_name entry
 unfolding item_of
-item_name entry = refl
+item_name profile entry = refl
 
-name_given : (version name : List ℕ) (found : Option Data) (ds : List Data) (names : List (List ℕ)) → map (λ (item : ItemParts). item.name) (map (item_of Eds) ds) ≡ names
-    → map (λ (item : ItemParts). item.name) (map (item_of Eds) (cons_option (option_map (endpoints_entry version name) found) ds)) ≡ cons_option (option_map (λ endpoints. name) found) names
-name_given version name None ds names same = same
-name_given version name (Some endpoints) ds names same =
-    ap₂ (λ (n : List ℕ) (ns : List (List ℕ)). n ∷ ns) (item_name (endpoints_entry version name endpoints) ∙ ap (given_or []) (entry_named version name endpoints)) same
+name_given : (profile : Profile) (version name : List ℕ) (found : Option Data) (ds : List Data) (names : List (List ℕ)) → map (λ (item : ItemParts). item.name) (map (item_of profile Eds) ds) ≡ names
+    → map (λ (item : ItemParts). item.name) (map (item_of profile Eds) (cons_option (option_map (endpoints_entry version name) found) ds)) ≡ cons_option (option_map (λ endpoints. name) found) names
+name_given profile version name None ds names same = same
+name_given profile version name (Some endpoints) ds names same =
+    ap₂ (λ (n : List ℕ) (ns : List (List ℕ)). n ∷ ns) (item_name profile (endpoints_entry version name endpoints) ∙ ap (given_or []) (entry_named version name endpoints)) same
 
-pub names_given : (prefix version : List ℕ) (due : List DueParts)
-    → map (λ (item : ItemParts). item.name) (map (item_of Eds) (filter_map (entry_due prefix version) due)) ≡ filter_map (name_with prefix) due
-names_given prefix version [] = refl
-names_given prefix version (d ∷ due) =
-    name_given version (private_name prefix d.place) d.endpoints (filter_map (entry_due prefix version) due) (filter_map (name_with prefix) due) (names_given prefix version due)
+pub names_given : (profile : Profile) (prefix version : List ℕ) (due : List DueParts)
+    → map (λ (item : ItemParts). item.name) (map (item_of profile Eds) (filter_map (entry_due prefix version) due)) ≡ filter_map (name_with prefix) due
+names_given profile prefix version [] = refl
+names_given profile prefix version (d ∷ due) =
+    name_given profile version (private_name prefix d.place) d.endpoints (filter_map (entry_due prefix version) due) (filter_map (name_with prefix) due) (names_given profile prefix version due)
 
 -- ---- the response
 
@@ -218,25 +219,25 @@ lists_are nonce items removed objects entries =
     ∙ (λ i. not (is_wrong (objects_found items objects i)) && not (is_wrong (texts_found (map string removed) (all_texts removed) i)) && list_all is_entry items)
     ∙ (λ i. not (right_list items i) && not (right_list (map string removed) i) && entries i)
 
-lists_read : (nonce : List ℕ) (items : List Data) (removed : List (List ℕ)) → 1 ≤ length nonce → list_all is_object items ≡ true → list_all is_entry items ≡ true
-    → response_of (message_of_lists nonce items (map string removed)) ≡ Some (record { kind = Some Eds; nonce = nonce; items = map (item_of Eds) items; removed = removed })
+lists_read : (profile : Profile) (nonce : List ℕ) (items : List Data) (removed : List (List ℕ)) → 1 ≤ length nonce → list_all is_object items ≡ true → list_all is_entry items ≡ true
+    → response_of profile (message_of_lists nonce items (map string removed)) ≡ Some (record { kind = Some Eds; nonce = nonce; items = map (item_of profile Eds) items; removed = removed })
 unfolding response_of
-lists_read nonce items removed some objects entries =
+lists_read profile nonce items removed some objects entries =
     let tree : Data = message_of_lists nonce items (map string removed) in
     let kind : response_kind tree ≡ Some Eds = type_is nonce items (map string removed) in
-    (λ i. given_if (head_is nonce items (map string removed) some i && has_lists_of (kind i) tree) (parts_of (kind i) (nonce_is nonce items (map string removed) i) tree))
-    ∙ (λ i. given_if (lists_are nonce items removed objects entries i) (parts_of (Some Eds) nonce tree))
+    (λ i. given_if (head_is nonce items (map string removed) some i && has_lists_of (kind i) tree) (parts_of profile (kind i) (nonce_is nonce items (map string removed) i) tree))
+    ∙ (λ i. given_if (lists_are nonce items removed objects entries i) (parts_of profile (Some Eds) nonce tree))
     ∙ (λ i. Some (record {
       kind = Some Eds;
       nonce = nonce;
-      items = map (item_of Eds) (entries_are nonce items (map string removed) objects i);
+      items = map (item_of profile Eds) (entries_are nonce items (map string removed) objects i);
       removed = removed_are nonce items removed i;
     }))
 
-pub message_read : (prefix nonce version : List ℕ) (due : List DueParts) → 1 ≤ length nonce
-    → response_of (following_message prefix nonce version due) ≡ Some (following_response prefix nonce version due)
-message_read prefix nonce version due some =
+pub message_read : (profile : Profile) (prefix nonce version : List ℕ) (due : List DueParts) → 1 ≤ length nonce
+    → response_of profile (following_message prefix nonce version due) ≡ Some (following_response profile prefix nonce version due)
+message_read profile prefix nonce version due some =
     let items : List Data = filter_map (entry_due prefix version) due in
-    ap response_of (message_is prefix nonce version due ∙ ap (message_of_lists (nonce ++ version) items) (names_are prefix due))
-    ∙ lists_read (nonce ++ version) items (filter_map (name_left prefix) due) (omega (arith, length-append nonce version, some))
+    ap (response_of profile) (message_is prefix nonce version due ∙ ap (message_of_lists (nonce ++ version) items) (names_are prefix due))
+    ∙ lists_read profile (nonce ++ version) items (filter_map (name_left prefix) due) (omega (arith, length-append nonce version, some))
     (all_due is_object prefix version due (entry_object version)) (all_due is_entry prefix version due (entry_right version))

@@ -11,12 +11,14 @@ use Rattle.serde_json.specs.declared.value.Value.{Value}
 use Rattle.serde_json.proofs.Nesting.{depth-read}
 use Rattle.ev_io.specs.Lines.{lines_of, onto_first, feeds_in}
 use Rattle.ev_types.specs.declared.events.Line.{Line}
-use Rattle.ev_script.specs.declared.header.Header.{Header}
+use Rattle.ev_types.specs.declared.events.Profile.{Profile}
+use Rattle.ev_script.specs.declared.forms.Settings.{Settings}
 use Rattle.ev_script.specs.declared.trees.ScriptTrees.{ScriptTrees}
 use Rattle.ev_script.specs.declared.fault_kinds.FaultKind.TheVariants.{NotLine, NoSuchWorker}
 use Rattle.ev_script.specs.Members.{tree_of}
 use Rattle.ev_script.specs.Content.{is_above}
-use Rattle.ev_script.specs.Faults.{LineForms, Input, plain_lines, worker_of, index_at, EndsLine, EndsScriptLine, tree_at, workers_in, HasNoFault}
+use Rattle.ev_script.specs.Header.{settings_of}
+use Rattle.ev_script.specs.Faults.{LineForms, Input, plain_lines, worker_of, index_at, EndsLine, EndsScriptLine, tree_at, settings_in, profile_by, profile_in, named_at, HasNoFault}
 use Rattle.ev_script.specs.Lines.{line_of}
 use Rattle.ev_script.specs.ReadScript.{HeadsScripts}
 use Rattle.ev_script.specs.ReadTrees.{IsTreesAnswer}
@@ -108,11 +110,11 @@ line_ends (byte ∷ bytes) i h = by (λ j k. line_ends bytes j k) (eqb byte 10) 
 
 -- ---- the forms
 
--- at this place the tree has the form of a line, of a script of this many workers
-pub record HasForm (forms : LineForms) (workers at : ℕ) (tree : Data) : Type 0 where
+-- at this place the tree has the form of a line, of a script with these settings
+pub record HasForm (forms : LineForms) (settings : Settings) (at : ℕ) (tree : Data) : Type 0 where
   pub named : Option ℕ
-  pub reads : forms.lines at tree ≡ Some named
-  pub below : is_above workers named ≡ false
+  pub reads : forms.lines settings.profile at tree ≡ Some named
+  pub below : is_above settings.workers named ≡ false
 
 -- a worker that is none of the script's would be a fault
 below_by : (workers : ℕ) (named : Option ℕ) → ((worker : ℕ) → named ≡ Some worker → workers ≤ worker → ⊥) → is_above workers named ≡ false
@@ -123,31 +125,32 @@ below_by workers (Some worker) never = by (is_above workers (Some worker)) refl
     by true h = absurd (never worker refl (leb-true workers worker h))
     by false h = refl
 
-form_by : (forms : LineForms) (workers at : ℕ) (tree : Data) (found : Option (Option ℕ)) → forms.lines at tree ≡ found → (found ≡ None → ⊥)
-    → ((worker : ℕ) → found ≡ Some (Some worker) → workers ≤ worker → ⊥) → HasForm forms workers at tree
-form_by forms workers at tree None is some below = absurd (some refl)
-form_by forms workers at tree (Some named) is some below =
-    record { named = named; reads = is; below = below_by workers named (λ worker e above. below worker (ap Some e) above) }
+form_by : (forms : LineForms) (settings : Settings) (at : ℕ) (tree : Data) (found : Option (Option ℕ)) → forms.lines settings.profile at tree ≡ found → (found ≡ None → ⊥)
+    → ((worker : ℕ) → found ≡ Some (Some worker) → settings.workers ≤ worker → ⊥) → HasForm forms settings at tree
+form_by forms settings at tree None is some below = absurd (some refl)
+form_by forms settings at tree (Some named) is some below =
+    record { named = named; reads = is; below = below_by settings.workers named (λ worker e above. below worker (ap Some e) above) }
 
 -- the form of a line of an input without fault
-line_form : (forms : LineForms) (input : Input) (workers : ℕ) (i : ℕ) (tree : Data) → input.audit ≡ false → IsTrue input.ended → HasNoFault forms input
-    → workers_in forms (lines_of input.bytes) ≡ Some workers → suc i < length (lines_of input.bytes)
-    → tree_of (get_or (lines_of input.bytes) (suc i) []) ≡ Some tree → HasForm forms workers (i + 2) tree
-line_form forms input workers i tree whole ended sound heads within is =
+line_form : (forms : LineForms) (input : Input) (settings : Settings) (i : ℕ) (tree : Data) → input.audit ≡ false → IsTrue input.ended → HasNoFault forms input
+    → settings_in forms (lines_of input.bytes) ≡ Some settings → suc i < length (lines_of input.bytes)
+    → tree_of (get_or (lines_of input.bytes) (suc i) []) ≡ Some tree → HasForm forms settings (i + 2) tree
+line_form forms input settings i tree whole ended sound heads within is =
     let found = line_ends input.bytes (suc i) within in
     let place : ℕ = found.place in
     let here : tree_at input place ≡ Some tree = ap (λ n. tree_of (get_or (lines_of input.bytes) n [])) found.index ∙ is in
     let at : index_at input place + 1 ≡ i + 2 = omega (arith, found.index) in
-    let reads : option_and_then (forms.lines (index_at input place + 1)) (tree_at input place) ≡ forms.lines (i + 2) tree =
-    (λ j. option_and_then (forms.lines (at j)) (here j)) in
+    let profile : profile_in forms (lines_of input.bytes) ≡ settings.profile = ap profile_by heads in
+    let reads : named_at forms input place ≡ forms.lines settings.profile (i + 2) tree =
+    (λ j. option_and_then (forms.lines (profile j) (at j)) (here j)) in
     let line : EndsScriptLine input place = record {
       ends = ends_at found.ends;
       before = λ start h begins. false≢true (sym whole ∙ begins.audit);
     } in
     let later : 0 < index_at input place = omega (arith, found.index) in
-    form_by forms workers (i + 2) tree (forms.lines (i + 2) tree) refl
+    form_by forms settings (i + 2) tree (forms.lines settings.profile (i + 2) tree) refl
     (λ none. sound place NotLine (line, later, reads ∙ none))
-    (λ worker names above. sound place NoSuchWorker (line, later, record { worker = worker; workers = workers; names = reads ∙ names; heads = heads; above = above }))
+    (λ worker names above. sound place NoSuchWorker (line, later, record { worker = worker; settings = settings; names = reads ∙ names; heads = heads; above = above }))
   where
     ends_at : {p : ℕ} → ((p < length input.bytes) × (slice_index input.bytes p ≡ 10)) ⊎ ((p ≡ length input.bytes) × (feeds_in input.bytes < length (lines_of input.bytes))) → EndsLine input p
     ends_at (inl h) = inl h
@@ -162,12 +165,12 @@ by_places P at (value ∷ values) each = (
 
 -- the trees that were read have the forms
 pub trees_have_forms : (forms : LineForms) (input : Input) (trees : ScriptTrees) → HeadsScripts forms → IsTreesAnswer forms input (Ok trees)
-    → AllAt (HasForm forms trees.header.workers) 2 (lines_in trees)
+    → AllAt (HasForm forms (settings_of trees.header)) 2 (lines_in trees)
 trees_have_forms forms input trees heads answer =
-    by_places (HasForm forms trees.header.workers) 2 trees.lines.items
-    (λ i other h. subst (λ n. HasForm forms trees.header.workers n (view (get_or trees.lines.items i other))) (omega arith)
-    (line_form forms input trees.header.workers i (view (get_or trees.lines.items i other)) answer.0.script answer.0.ended answer.0.sound
-    (ap (option_and_then forms.heads) answer.1.head ∙ heads (view trees.head) ∙ ap (option_map (λ (header : Header). header.workers)) answer.1.header)
+    by_places (HasForm forms (settings_of trees.header)) 2 trees.lines.items
+    (λ i other h. subst (λ n. HasForm forms (settings_of trees.header) n (view (get_or trees.lines.items i other))) (omega arith)
+    (line_form forms input (settings_of trees.header) i (view (get_or trees.lines.items i other)) answer.0.script answer.0.ended answer.0.sound
+    (ap (option_and_then forms.heads) answer.1.head ∙ heads (view trees.head) ∙ ap (option_map settings_of) answer.1.header)
     (omega (arith, answer.0.lines))
     (ap (λ n. tree_of (get_or (lines_of input.bytes) n [])) (omega arith) ∙ answer.1.lines i other h)))
 
@@ -176,23 +179,23 @@ trees_have_forms forms input trees heads answer =
 some_is : {A : Type 0} (x y : A) → Some x ≡ Some y → x ≡ y
 some_is x y h = cc
 
-line_by : (workers at : ℕ) (tree : Data) (named : Option ℕ) (found : Option Line) → line_of at tree ≡ found
-    → option_map (λ (line : Line). worker_of line.actor) found ≡ Some named → is_above workers named ≡ false → HasLine workers at tree
-line_by workers at tree named None is reads below = absurd (cc)
-line_by workers at tree named (Some line) is reads below =
-    record { line = line; is = is; below = ap (is_above workers) (some_is (worker_of line.actor) named reads) ∙ below }
+line_by : (settings : Settings) (at : ℕ) (tree : Data) (named : Option ℕ) (found : Option Line) → line_of settings.profile at tree ≡ found
+    → option_map (λ (line : Line). worker_of line.actor) found ≡ Some named → is_above settings.workers named ≡ false → HasLine settings at tree
+line_by settings at tree named None is reads below = absurd (cc)
+line_by settings at tree named (Some line) is reads below =
+    record { line = line; is = is; below = ap (is_above settings.workers) (some_is (worker_of line.actor) named reads) ∙ below }
 
 -- what has the plain form is a line
-pub plain_line : (workers at : ℕ) (tree : Data) → HasForm plain_lines workers at tree → HasLine workers at tree
-plain_line workers at tree form = line_by workers at tree form.named (line_of at tree) refl form.reads form.below
+pub plain_line : (settings : Settings) (at : ℕ) (tree : Data) → HasForm plain_lines settings at tree → HasLine settings at tree
+plain_line settings at tree form = line_by settings at tree form.named (line_of settings.profile at tree) refl form.reads form.below
 
-plain_at : (workers at : ℕ) (trees : List Data) → AllAt (HasForm plain_lines workers) at trees → AllAt (HasLine workers) at trees
-plain_at workers at [] all = tt
-plain_at workers at (tree ∷ trees) all = (plain_line workers at tree all.0, plain_at workers (at + 1) trees all.1)
+plain_at : (settings : Settings) (at : ℕ) (trees : List Data) → AllAt (HasForm plain_lines settings) at trees → AllAt (HasLine settings) at trees
+plain_at settings at [] all = tt
+plain_at settings at (tree ∷ trees) all = (plain_line settings at tree all.0, plain_at settings (at + 1) trees all.1)
 
 -- the trees of a script's lines are lines at their places
-pub trees_have_lines : (input : Input) (trees : ScriptTrees) → IsTreesAnswer plain_lines input (Ok trees) → AllAt (HasLine trees.header.workers) 2 (lines_in trees)
-trees_have_lines input trees answer = plain_at trees.header.workers 2 (lines_in trees) (trees_have_forms plain_lines input trees (λ tree. refl) answer)
+pub trees_have_lines : (input : Input) (trees : ScriptTrees) → IsTreesAnswer plain_lines input (Ok trees) → AllAt (HasLine (settings_of trees.header)) 2 (lines_in trees)
+trees_have_lines input trees answer = plain_at (settings_of trees.header) 2 (lines_in trees) (trees_have_forms plain_lines input trees (λ tree. refl) answer)
 
 -- ---- how deep they are
 

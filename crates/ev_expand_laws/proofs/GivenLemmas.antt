@@ -1,9 +1,12 @@
 -- The lines that a command makes are lines of a script, and not too deep.
-use Rattle.std.proofs.Common.{◌≡◌, ℕ, ◌+◌, ◌≤◌, Bool, true, false, cond, List, [], ◌∷◌, length, map, filter, flat_map, get_or, Option, None, Some, decimal, refl, sym, subst, arith}
+use Rattle.std.proofs.Common.{◌≡◌, ℕ, ◌+◌, ◌≤◌, Bool, true, false, cond, List, [], ◌∷◌, length, map, filter, flat_map, get_or, Option, None, Some, decimal, refl, sym, ap, ◌∙◌, subst, arith}
 use Rattle.std.specs.Prelude.{All, IsTrue, IfSome}
 use Rattle.std.specs.List.{enumerate_from}
 use Rattle.std.proofs.lemmas.List.Elements.{All-nil, All-cons, All-head, All-tail, All-append, All-map, All-weaker, All-filter}
 use Rattle.serde_json.specs.Data.{Data, depth}
+use Rattle.ev_types.specs.declared.events.Profile.{Profile}
+use Rattle.ev_script.specs.declared.forms.Settings.{Settings}
+use Rattle.ev_script.specs.Lines.{line_of}
 use Rattle.ev_trees.specs.Trees.{IsReadable}
 use Rattle.ev_expand.specs.Fronts.{Front, up_to, fronts, behind}
 use Rattle.ev_expand.specs.Guarding.{Guarded, waiting_line}
@@ -40,41 +43,41 @@ all_fronts P (first ∷ lines) all =
 all_one : {X : Type 0} (P : X → Type 0) (x : X) → P x → All P (x ∷ [])
 all_one P x is = All-cons P x [] is (All-nil P)
 
--- a line of a script of this many workers, not too deep
-pub record IsGiven (workers : ℕ) (tree : Data) : Type 0 where
-  pub line : HasLine workers 0 tree
+-- a line of a script with these settings, not too deep
+pub record IsGiven (settings : Settings) (tree : Data) : Type 0 where
+  pub line : HasLine settings 0 tree
   pub readable : IsReadable tree
 
 -- a line of the input
-pub record IsTaken (rules : Rules) (workers : ℕ) (tree : Data) : Type 0 where
-  pub line : IsTrue (rules.is_written tree) → HasLine workers 0 tree
+pub record IsTaken (rules : Rules) (settings : Settings) (tree : Data) : Type 0 where
+  pub line : IsTrue (rules.is_written tree) → HasLine settings 0 tree
   pub readable : IsReadable tree
 
-waits : (rules : Rules) (gs : List Guarded) (workers : ℕ) (line : Data) (b : Bool) → has_guarded rules.guard line ≡ b
-    → HasLine workers 0 line → HasLine workers 0 (waiting_line rules.prefix rules.guard gs line)
-waits rules gs workers line true some has =
+waits : (rules : Rules) (gs : List Guarded) (settings : Settings) → rules.guard.profile ≡ settings.profile → (line : Data) (b : Bool) → has_guarded rules.guard line ≡ b
+    → HasLine settings 0 line → HasLine settings 0 (waiting_line rules.prefix rules.guard gs line)
+waits rules gs settings same line true some has =
     let said : WaitsAsSaid rules.prefix rules.guard gs line = waiting_reads rules.prefix rules.guard gs line some in
-    record { line = stream_line 0 (waiting_response rules.prefix rules.guard gs line said.response); is = said.reads 0; below = refl }
-waits rules gs workers line false none has = subst (HasLine workers 0) (sym (waiting_stays rules.prefix rules.guard gs line none)) has
+    record { line = stream_line 0 (waiting_response rules.prefix rules.guard gs line said.response); is = ap (λ (profile : Profile). line_of profile 0 (waiting_line rules.prefix rules.guard gs line)) (sym same) ∙ said.reads 0; below = refl }
+waits rules gs settings same line false none has = subst (HasLine settings 0) (sym (waiting_stays rules.prefix rules.guard gs line none)) has
 
 waits_readable : (rules : Rules) (gs : List Guarded) (line : Data) → IsReadable line → IsReadable (waiting_line rules.prefix rules.guard gs line)
 waits_readable rules gs line readable = waiting_depth rules.prefix rules.guard gs line 124 (omega arith) readable
 
-written_given : (rules : Rules) (gs : List Guarded) (workers : ℕ) (line : Data) (b : Bool) → rules.is_written line ≡ b → IsTaken rules workers line
-    → All (IsGiven workers) (cond b (waiting_line rules.prefix rules.guard gs line ∷ []) [])
-written_given rules gs workers line true is taken = all_one (IsGiven workers) (waiting_line rules.prefix rules.guard gs line) (record {
-  line = waits rules gs workers line (has_guarded rules.guard line) refl (taken.line is);
+written_given : (rules : Rules) (gs : List Guarded) (settings : Settings) → rules.guard.profile ≡ settings.profile → (line : Data) (b : Bool) → rules.is_written line ≡ b → IsTaken rules settings line
+    → All (IsGiven settings) (cond b (waiting_line rules.prefix rules.guard gs line ∷ []) [])
+written_given rules gs settings same line true is taken = all_one (IsGiven settings) (waiting_line rules.prefix rules.guard gs line) (record {
+  line = waits rules gs settings same line (has_guarded rules.guard line) refl (taken.line is);
   readable = waits_readable rules gs line taken.readable;
 })
-written_given rules gs workers line false is taken = All-nil (IsGiven workers)
+written_given rules gs settings same line false is taken = All-nil (IsGiven settings)
 
-due_given : (rules : Rules) (workers at : ℕ) (due : List DueParts) → 1 ≤ length rules.nonce → DueWithin 122 due
-    → All (IsGiven workers) (lines_due rules.prefix rules.nonce at due)
-due_given rules workers at [] some within = All-nil (IsGiven workers)
-due_given rules workers at (first ∷ due) some within = all_one (IsGiven workers) (following_line rules.prefix rules.nonce (decimal at) (first ∷ due)) (record {
+due_given : (rules : Rules) (settings : Settings) (at : ℕ) (due : List DueParts) → 1 ≤ length rules.nonce → DueWithin 122 due
+    → All (IsGiven settings) (lines_due rules.prefix rules.nonce at due)
+due_given rules settings at [] some within = All-nil (IsGiven settings)
+due_given rules settings at (first ∷ due) some within = all_one (IsGiven settings) (following_line rules.prefix rules.nonce (decimal at) (first ∷ due)) (record {
   line = record {
-    line = stream_line 0 (following_response rules.prefix rules.nonce (decimal at) (first ∷ due));
-    is = following_reads rules.prefix rules.nonce (decimal at) (first ∷ due) 0 some;
+    line = stream_line 0 (following_response settings.profile rules.prefix rules.nonce (decimal at) (first ∷ due));
+    is = following_reads settings.profile rules.prefix rules.nonce (decimal at) (first ∷ due) 0 some;
     below = refl;
   };
   readable = following_depth rules.prefix rules.nonce (decimal at) (first ∷ due) 122 within;
@@ -95,39 +98,39 @@ due_shallow rules front shallow =
     (All-filter (λ (p : ℕ × Guarded). rules.is_due front p.1) (λ (p : ℕ × Guarded). P p.1) (enumerate_from 0 gs) (all_counted P 0 gs each))
 
 -- what a line gives
-gives_given : (rules : Rules) (workers : ℕ) (front : Front) → 1 ≤ length rules.nonce → IsTaken rules workers front.line → AreShallowAt rules front
-    → All (IsGiven workers) (gives rules front)
-gives_given rules workers front some taken shallow =
-    All-append (IsGiven workers) (written_line rules (guarded_at rules front) front.line) (lines_due rules.prefix rules.nonce (place_of front) (due_at rules front))
-    (written_given rules (guarded_at rules front) workers front.line (rules.is_written front.line) refl taken)
-    (due_given rules workers (place_of front) (due_at rules front) some (due_shallow rules front shallow))
+gives_given : (rules : Rules) (settings : Settings) → rules.guard.profile ≡ settings.profile → (front : Front) → 1 ≤ length rules.nonce → IsTaken rules settings front.line → AreShallowAt rules front
+    → All (IsGiven settings) (gives rules front)
+gives_given rules settings same front some taken shallow =
+    All-append (IsGiven settings) (written_line rules (guarded_at rules front) front.line) (lines_due rules.prefix rules.nonce (place_of front) (due_at rules front))
+    (written_given rules (guarded_at rules front) settings same front.line (rules.is_written front.line) refl taken)
+    (due_given rules settings (place_of front) (due_at rules front) some (due_shallow rules front shallow))
 
 -- ---- all lines
 
-taken_at : (rules : Rules) (workers at : ℕ) (lines : List Data) → AllAt (IsLineIfWritten rules workers) at lines → All IsReadable lines
-    → All (IsTaken rules workers) lines
-taken_at rules workers at [] all readable = All-nil (IsTaken rules workers)
-taken_at rules workers at (line ∷ lines) all readable =
-    All-cons (IsTaken rules workers) line lines
-    (record { line = λ is. line_anywhere workers at 0 line (all.0 is); readable = All-head IsReadable line lines readable })
-    (taken_at rules workers (at + 1) lines all.1 (All-tail IsReadable line lines readable))
+taken_at : (rules : Rules) (settings : Settings) (at : ℕ) (lines : List Data) → AllAt (IsLineIfWritten rules settings) at lines → All IsReadable lines
+    → All (IsTaken rules settings) lines
+taken_at rules settings at [] all readable = All-nil (IsTaken rules settings)
+taken_at rules settings at (line ∷ lines) all readable =
+    All-cons (IsTaken rules settings) line lines
+    (record { line = λ is. line_anywhere settings at 0 line (all.0 is); readable = All-head IsReadable line lines readable })
+    (taken_at rules settings (at + 1) lines all.1 (All-tail IsReadable line lines readable))
 
-pub lines_given : (rules : Rules) (workers : ℕ) (lines : List Data) → 1 ≤ length rules.nonce → AllAt (IsLineIfWritten rules workers) 2 lines → All IsReadable lines
-    → All (AreShallowAt rules) (fronts lines) → All (IsGiven workers) (given_lines rules lines)
-lines_given rules workers lines some written readable shallow =
-    let taken : All (λ (front : Front). IsTaken rules workers front.line) (fronts lines) =
-    all_fronts (IsTaken rules workers) lines (taken_at rules workers 2 lines written readable) in
-    all_given (IsGiven workers) (gives rules) (fronts lines)
-    (λ k front h. gives_given rules workers (get_or (fronts lines) k front) some (taken k front h) (shallow k front h))
+pub lines_given : (rules : Rules) (settings : Settings) (lines : List Data) → rules.guard.profile ≡ settings.profile → 1 ≤ length rules.nonce → AllAt (IsLineIfWritten rules settings) 2 lines → All IsReadable lines
+    → All (AreShallowAt rules) (fronts lines) → All (IsGiven settings) (given_lines rules lines)
+lines_given rules settings lines same some written readable shallow =
+    let taken : All (λ (front : Front). IsTaken rules settings front.line) (fronts lines) =
+    all_fronts (IsTaken rules settings) lines (taken_at rules settings 2 lines written readable) in
+    all_given (IsGiven settings) (gives rules) (fronts lines)
+    (λ k front h. gives_given rules settings same (get_or (fronts lines) k front) some (taken k front h) (shallow k front h))
 
-given_at : (workers at : ℕ) (trees : List Data) → All (IsGiven workers) trees → AllAt (HasLine workers) at trees
-given_at workers at [] all = tt
-given_at workers at (tree ∷ trees) all =
-    (line_anywhere workers 0 at tree (All-head (IsGiven workers) tree trees all).line, given_at workers (at + 1) trees (All-tail (IsGiven workers) tree trees all))
+given_at : (settings : Settings) (at : ℕ) (trees : List Data) → All (IsGiven settings) trees → AllAt (HasLine settings) at trees
+given_at settings at [] all = tt
+given_at settings at (tree ∷ trees) all =
+    (line_anywhere settings 0 at tree (All-head (IsGiven settings) tree trees all).line, given_at settings (at + 1) trees (All-tail (IsGiven settings) tree trees all))
 
 -- each line that is given is a line of a script at its place
-pub given_have : (workers : ℕ) (trees : List Data) → All (IsGiven workers) trees → AllAt (HasLine workers) 2 trees
-given_have workers trees all = given_at workers 2 trees all
+pub given_have : (settings : Settings) (trees : List Data) → All (IsGiven settings) trees → AllAt (HasLine settings) 2 trees
+given_have settings trees all = given_at settings 2 trees all
 
-pub given_readable : (workers : ℕ) (trees : List Data) → All (IsGiven workers) trees → All IsReadable trees
-given_readable workers trees all = All-weaker (IsGiven workers) IsReadable (λ tree is. is.readable) trees all
+pub given_readable : (settings : Settings) (trees : List Data) → All (IsGiven settings) trees → All IsReadable trees
+given_readable settings trees all = All-weaker (IsGiven settings) IsReadable (λ tree is. is.readable) trees all

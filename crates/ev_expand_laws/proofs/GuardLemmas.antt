@@ -16,10 +16,10 @@ use Rattle.ev_expand_laws.proofs.FrontLemmas.{up_to_at}
 use Rattle.ev_expand_laws.proofs.ListLemmas.{flat_in, found_in, got, in_any, in_kept}
 
 -- a guarded resource's key is guarded in its line
-pub guarded_there : (guard : Guard) (line entry : Data) (key : Key) → IsIn entry (clusters_in line) → guard.key_of entry ≡ Some key
+pub guarded_there : (guard : Guard) (line entry : Data) (key : Key) → IsIn entry (clusters_in guard.profile line) → guard.key_of entry ≡ Some key
     → IsIn (record { key = key; own = guard.own_of entry }) (guarded_in guard line)
 guarded_there guard line entry key is h =
-    found_in (guarded_of guard) (clusters_in line) entry (record { key = key; own = guard.own_of entry }) is
+    found_in (guarded_of guard) (clusters_in guard.profile line) entry (record { key = key; own = guard.own_of entry }) is
     (ap (option_map (λ (k : Key). record { key = k; own = guard.own_of entry })) h)
 
 pub once_has : (key : Key) (gs : List Guarded) → list_any (λ (g : Guarded). key_same key g.key) gs ≡ true → list_any (λ (g : Guarded). key_same key g.key) (each_once gs) ≡ true
@@ -59,7 +59,7 @@ pub record IsGuardedAt (guard : Guard) (lines : List Data) (place : ℕ) (key : 
   pub same : key ≡ guarded.key
 
 pub guarded_at_place : (guard : Guard) (lines : List Data) (index : ℕ) (front : Front) (entry : Data) (key : Key) → slice_get (fronts lines) index ≡ Some front
-    → IsIn entry (clusters_in front.line) → guard.key_of entry ≡ Some key
+    → IsIn entry (clusters_in guard.profile front.line) → guard.key_of entry ≡ Some key
     → IsGuardedAt guard lines (place_in (guarded_by guard (up_to front)) key) key
 guarded_at_place guard lines index front entry key there is h =
     let gs : List Guarded = guarded_by guard (up_to front) in

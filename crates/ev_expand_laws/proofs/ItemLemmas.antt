@@ -12,6 +12,7 @@ use Rattle.ev_types.specs.declared.contents.Content.{Content}
 use Rattle.ev_types.specs.declared.contents.Content.TheVariants.{Cluster as a_cluster}
 use Rattle.ev_types.specs.declared.contents.Body.{Body}
 use Rattle.ev_types.specs.declared.contents.Body.TheVariants.{Good, Bad, Beat}
+use Rattle.ev_types.specs.declared.events.Profile.{Profile}
 use Rattle.ev_tree.specs.declared.limits.TheConstants.{MAX_NAME_BYTES}
 use Rattle.ev_tree.specs.declared.outcome.Found.{Found}
 use Rattle.ev_tree.specs.declared.outcome.Found.TheVariants.{Given}
@@ -20,7 +21,7 @@ use Rattle.ev_tree.specs.Spelling.{camel_of}
 use Rattle.ev_tree.specs.Forms.{is_object, is_wrong, given_or, inside, present_member, value_or_absent, field_of, text_of}
 use Rattle.ev_tree.specs.Spans.{is_not_positive}
 use Rattle.ev_tree.specs.Broken.{none_broken, least_of}
-use Rattle.ev_cluster_json.specs.Clusters.{cluster_reading}
+use Rattle.ev_cluster_json.specs.Clusters.{cluster_reading, has_custom_type}
 use Rattle.ev_cluster_json.proofs.RowsMade.{not_false}
 use Rattle.ev_wire.specs.Requests.{type_url}
 use Rattle.ev_wire.specs.Bodies.{is_heartbeat, is_positive, is_of_type, breaks_v1, breaks_v2, differs, breaks_v3, own_broken, content_with, content_of, body_with, resource_of, body_of}
@@ -29,15 +30,15 @@ use Rattle.ev_expand.specs.Editing.{with_value}
 use Rattle.ev_expand.specs.Guarding.{private_name, body_in, waiting_body, waiting_entry}
 use Rattle.ev_expand_laws.specs.Waiting.{waiting_cluster, waiting_item, body_read, IsShortPrefix, IsClusterWith}
 use Rattle.ev_expand_laws.proofs.FieldLemmas.{IsOther, field_with, field_with_other, text_by, duration_by}
-use Rattle.ev_expand_laws.proofs.WaitLemmas.{KeepsFields, waiting_keeps, keeps_both, keeps_name, keeps_own_type, waits_read}
+use Rattle.ev_expand_laws.proofs.WaitLemmas.{KeepsFields, waiting_keeps, keeps_both, keeps_name, keeps_own_type, kept_custom, waits_read}
 
 -- ---- what a good body says
 
 -- the body of an item of this name and time to live is good, and is this cluster
-record IsGood (name : List ℕ) (ttl : Found Span) (body : Data) (cluster : Cluster) : Type 0 where
+record IsGood (profile : Profile) (name : List ℕ) (ttl : Found Span) (body : Data) (cluster : Cluster) : Type 0 where
   typed : is_of_type Cds body ≡ true
   own : least_of (own_broken Cds name ttl body) ≡ None
-  reads : cluster_reading body ≡ Ok cluster
+  reads : cluster_reading profile body ≡ Ok cluster
 
 content_ok : (reading : Result Cluster ℕ) (cluster : Cluster) → content_with a_cluster reading ≡ Ok (a_cluster cluster) → reading ≡ Ok cluster
 content_ok (Ok other) cluster h = cc
@@ -53,28 +54,28 @@ cond_good : (b : Bool) (body : Body) (found : Content) → cond b (Bad 1) body �
 cond_good true body found h = absurd (cc)
 cond_good false body found h = (refl, h)
 
-good_by : (name : List ℕ) (ttl : Found Span) (body : Data) (cluster : Cluster) → resource_of Cds name ttl body ≡ Good (a_cluster cluster) → IsGood name ttl body cluster
+good_by : (profile : Profile) (name : List ℕ) (ttl : Found Span) (body : Data) (cluster : Cluster) → resource_of profile Cds name ttl body ≡ Good (a_cluster cluster) → IsGood profile name ttl body cluster
 unfolding resource_of content_of
-good_by name ttl body cluster h =
-    let outer = cond_good (breaks_v1 Cds body) (body_with (least_of (own_broken Cds name ttl body)) (content_of Cds body)) (a_cluster cluster) h in
-    let inner = body_good (least_of (own_broken Cds name ttl body)) (content_of Cds body) (a_cluster cluster) outer.1 in
-    record { typed = not_false (is_of_type Cds body) outer.0; own = inner.0; reads = content_ok (cluster_reading body) cluster inner.1 }
+good_by profile name ttl body cluster h =
+    let outer = cond_good (breaks_v1 Cds body) (body_with (least_of (own_broken Cds name ttl body)) (content_of profile Cds body)) (a_cluster cluster) h in
+    let inner = body_good (least_of (own_broken Cds name ttl body)) (content_of profile Cds body) (a_cluster cluster) outer.1 in
+    record { typed = not_false (is_of_type Cds body) outer.0; own = inner.0; reads = content_ok (cluster_reading profile body) cluster inner.1 }
 
-by_good : (name : List ℕ) (ttl : Found Span) (body : Data) (cluster : Cluster) → IsGood name ttl body cluster → resource_of Cds name ttl body ≡ Good (a_cluster cluster)
+by_good : (profile : Profile) (name : List ℕ) (ttl : Found Span) (body : Data) (cluster : Cluster) → IsGood profile name ttl body cluster → resource_of profile Cds name ttl body ≡ Good (a_cluster cluster)
 unfolding resource_of content_of
-by_good name ttl body cluster is = λ i. cond (not (is.typed i)) (Bad 1) (body_with (is.own i) (content_with a_cluster (is.reads i)))
+by_good profile name ttl body cluster is = λ i. cond (not (is.typed i)) (Bad 1) (body_with (is.own i) (content_with a_cluster (is.reads i)))
 
 -- what is good of clusters is a cluster
 with_cluster : (reading : Result Cluster ℕ) (content : Content) → content_with a_cluster reading ≡ Ok content → (cluster : Cluster) × (content ≡ a_cluster cluster)
 with_cluster (Ok cluster) content h = (cluster, cc)
 with_cluster (Err rule) content h = absurd (cc)
 
-good_cluster : (name : List ℕ) (ttl : Found Span) (body : Data) (content : Content) → resource_of Cds name ttl body ≡ Good content → (cluster : Cluster) × (content ≡ a_cluster cluster)
+good_cluster : (profile : Profile) (name : List ℕ) (ttl : Found Span) (body : Data) (content : Content) → resource_of profile Cds name ttl body ≡ Good content → (cluster : Cluster) × (content ≡ a_cluster cluster)
 unfolding resource_of content_of
-good_cluster name ttl body content h =
-    let outer = cond_good (breaks_v1 Cds body) (body_with (least_of (own_broken Cds name ttl body)) (content_of Cds body)) content h in
-    let inner = body_good (least_of (own_broken Cds name ttl body)) (content_of Cds body) content outer.1 in
-    with_cluster (cluster_reading body) content inner.1
+good_cluster profile name ttl body content h =
+    let outer = cond_good (breaks_v1 Cds body) (body_with (least_of (own_broken Cds name ttl body)) (content_of profile Cds body)) content h in
+    let inner = body_good (least_of (own_broken Cds name ttl body)) (content_of profile Cds body) content outer.1 in
+    with_cluster (cluster_reading profile body) content inner.1
 
 typed_object : (body : Data) → is_of_type Cds body ≡ true → is_object body ≡ true
 unfolding is_of_type
@@ -104,13 +105,13 @@ kept_own name ttl tree made keeps = λ i. record none_broken {
 }
 
 -- a body that waits, of a cluster that a tree of the same fields is
-waits_good : (name service : List ℕ) (ttl : Found Span) (body tree : Data) (cluster : Cluster) → KeepsFields tree (waiting_body service body) → is_object body ≡ true
-    → 1 ≤ length service → nat_lt MAX_NAME_BYTES (length service) ≡ false → IsGood name ttl tree cluster
-    → IsGood name ttl (waiting_body service body) (waiting_cluster service cluster)
-waits_good name service ttl body tree cluster keeps is some short good = record {
+waits_good : (profile : Profile) (name service : List ℕ) (ttl : Found Span) (body tree : Data) (cluster : Cluster) → KeepsFields tree (waiting_body service body) → is_object body ≡ true
+    → has_custom_type tree ≡ false → 1 ≤ length service → nat_lt MAX_NAME_BYTES (length service) ≡ false → IsGood profile name ttl tree cluster
+    → IsGood profile name ttl (waiting_body service body) (waiting_cluster profile service body cluster)
+waits_good profile name service ttl body tree cluster keeps is none some short good = record {
   typed = kept_typed tree (waiting_body service body) keeps ∙ good.typed;
   own = ap least_of (kept_own name ttl tree (waiting_body service body) keeps) ∙ good.own;
-  reads = waits_read service body tree cluster is keeps some short good.reads;
+  reads = waits_read profile service body tree cluster is keeps none some short good.reads;
 }
 
 -- ---- private names
@@ -199,18 +200,18 @@ unfolding ttl_of
 kept_ttl body entry = duration_by (codes "ttl") entry (with_value (codes "resource") body entry) (field_with_other (codes "ttl") (codes "resource") body entry keeps_ttl)
 
 -- an item with another body
-item_with : (body entry : Data) (content : Content) → is_object entry ≡ true → is_object body ≡ true → resource_of Cds (entry_name entry) (ttl_of entry) body ≡ Good content
-    → item_of Cds (with_value (codes "resource") body entry) ≡ record (item_of Cds entry) { body = Good content }
+item_with : (profile : Profile) (body entry : Data) (content : Content) → is_object entry ≡ true → is_object body ≡ true → resource_of profile Cds (entry_name entry) (ttl_of entry) body ≡ Good content
+    → item_of profile Cds (with_value (codes "resource") body entry) ≡ record (item_of profile Cds entry) { body = Good content }
 unfolding item_of body_of
-item_with body entry content holds is good =
+item_with profile body entry content holds is good =
     let made : Data = with_value (codes "resource") body entry in
     let name : entry_name made ≡ entry_name entry = kept_entry_name body entry in
     let ttl : ttl_of made ≡ ttl_of entry = kept_ttl body entry in
     let version : given_or [] (text_of (codes "version") made) ≡ given_or [] (text_of (codes "version") entry) =
     ap (given_or []) (text_by (codes "version") entry made (field_with_other (codes "version") (codes "resource") body entry keeps_version)) in
     let there : field_of (codes "resource") made ≡ Given body = field_with (codes "resource") body entry one_spelling holds ∙ object_there body is in
-    let read : body_of Cds (entry_name made) (ttl_of made) (field_of (codes "resource") made) ≡ Good content =
-    (λ i. body_of Cds (name i) (ttl i) (there i)) ∙ good in
+    let read : body_of profile Cds (entry_name made) (ttl_of made) (field_of (codes "resource") made) ≡ Good content =
+    (λ i. body_of profile Cds (name i) (ttl i) (there i)) ∙ good in
     λ i. record { name = name i; version = version i; ttl = is_positive (ttl i); body = read i }
 
 -- the body of a good item is that of its resource
@@ -231,30 +232,34 @@ not_beat : (b : Bool) (body : Body) (content : Content) → cond b Beat body ≡
 not_beat true body content h = absurd (cc)
 not_beat false body content h = h
 
-pub item_good : (entry : Data) (content : Content) → (item_of Cds entry).body ≡ Good content → body_read entry (body_in entry) ≡ Good content
+pub item_good : (profile : Profile) (entry : Data) (content : Content) → (item_of profile Cds entry).body ≡ Good content → body_read profile entry (body_in entry) ≡ Good content
 unfolding item_of body_of
-item_good entry content h =
+item_good profile entry content h =
     let resource : Found Data = field_of (codes "resource") entry in
-    ap (λ (body : Data). resource_of Cds (entry_name entry) (ttl_of entry) body) (sym (field_inside entry))
-    ∙ not_beat (is_heartbeat (entry_name entry) (ttl_of entry) resource) (resource_of Cds (entry_name entry) (ttl_of entry) (inside resource)) content h
+    ap (λ (body : Data). resource_of profile Cds (entry_name entry) (ttl_of entry) body) (sym (field_inside entry))
+    ∙ not_beat (is_heartbeat (entry_name entry) (ttl_of entry) resource) (resource_of profile Cds (entry_name entry) (ttl_of entry) (inside resource)) content h
 
 -- it is a cluster
-pub item_cluster : (entry : Data) (content : Content) → (item_of Cds entry).body ≡ Good content → (cluster : Cluster) × (content ≡ a_cluster cluster)
-item_cluster entry content h = good_cluster (entry_name entry) (ttl_of entry) (body_in entry) content (item_good entry content h)
+pub item_cluster : (profile : Profile) (entry : Data) (content : Content) → (item_of profile Cds entry).body ≡ Good content → (cluster : Cluster) × (content ≡ a_cluster cluster)
+item_cluster profile entry content h = good_cluster profile (entry_name entry) (ttl_of entry) (body_in entry) content (item_good profile entry content h)
 
 pub keeps_itself : (tree : Data) → KeepsFields tree tree
 keeps_itself tree = record { object = refl; fields = λ field is. refl }
 
 -- the item of a resource whose body waits, where a body of the same fields is a good cluster
-pub item_waits : (prefix : List ℕ) (place : ℕ) (entry tree : Data) (cluster : Cluster) → IsShortPrefix prefix → KeepsFields (body_in entry) tree
-    → IsClusterWith entry cluster tree → item_of Cds (waiting_entry prefix (Some place) entry) ≡ waiting_item prefix place cluster entry
-item_waits prefix place entry tree cluster short keeps good =
+pub item_waits : (profile : Profile) (prefix : List ℕ) (place : ℕ) (entry tree : Data) (cluster : Cluster) → IsShortPrefix prefix → KeepsFields (body_in entry) tree
+    → has_custom_type (body_in entry) ≡ false → IsClusterWith profile entry cluster tree
+    → item_of profile Cds (waiting_entry prefix (Some place) entry) ≡ waiting_item profile prefix place cluster entry
+item_waits profile prefix place entry tree cluster short keeps none good =
     let service : List ℕ = private_name prefix place in
     let body : Data = body_in entry in
-    let is : IsGood (entry_name entry) (ttl_of entry) tree cluster = good_by (entry_name entry) (ttl_of entry) tree cluster good in
+    let own : Cluster = record cluster { body_text = good.0 } in
+    let is : IsGood profile (entry_name entry) (ttl_of entry) tree own = good_by profile (entry_name entry) (ttl_of entry) tree own good.1 in
     let object : is_object body ≡ true = sym keeps.object ∙ typed_object tree is.typed in
     let waits : KeepsFields tree (waiting_body service body) = keeps_both body tree (waiting_body service body) keeps (waiting_keeps service body) in
-    let made : IsGood (entry_name entry) (ttl_of entry) (waiting_body service body) (waiting_cluster service cluster) =
-    waits_good (entry_name entry) service (ttl_of entry) body tree cluster waits object (some_name prefix place) (short_name prefix place short) is in
-    item_with (waiting_body service body) entry (a_cluster (waiting_cluster service cluster)) (entry_object entry object)
-    ((waiting_keeps service body).object ∙ object) (by_good (entry_name entry) (ttl_of entry) (waiting_body service body) (waiting_cluster service cluster) made)
+    let made : IsGood profile (entry_name entry) (ttl_of entry) (waiting_body service body) (waiting_cluster profile service body cluster) =
+    waits_good profile (entry_name entry) service (ttl_of entry) body tree own waits object (kept_custom body tree keeps ∙ none) (some_name prefix place)
+    (short_name prefix place short) is in
+    item_with profile (waiting_body service body) entry (a_cluster (waiting_cluster profile service body cluster)) (entry_object entry object)
+    ((waiting_keeps service body).object ∙ object)
+    (by_good profile (entry_name entry) (ttl_of entry) (waiting_body service body) (waiting_cluster profile service body cluster) made)

@@ -10,6 +10,7 @@ use Rattle.ev_types.specs.declared.contents.Kind.TheVariants.{Cds, Eds, Lds, Rds
 use Rattle.ev_types.specs.declared.events.Actor.TheVariants.{Stream}
 use Rattle.ev_types.specs.declared.events.Event.{Event}
 use Rattle.ev_types.specs.declared.events.Event.TheVariants.{Response}
+use Rattle.ev_types.specs.declared.events.Profile.{Profile}
 use Rattle.ev_tree.specs.declared.outcome.Found.{Found}
 use Rattle.ev_tree.specs.declared.outcome.Found.TheVariants.{Absent, Wrong, Given}
 use Rattle.ev_tree.specs.Spelling.{camel_of}
@@ -170,9 +171,9 @@ head_object : (message : Data) → has_head message ≡ true → is_object messa
 unfolding has_head
 head_object message h = and_first _ _ (and_first _ (not (length (nonce_of message) == 0)) h)
 
-parts_kind : (kind : Option Kind) (nonce : List ℕ) (message : Data) → (parts_of kind nonce message).kind ≡ kind
-parts_kind None nonce message = refl
-parts_kind (Some kind) nonce message = refl
+parts_kind : (profile : Profile) (kind : Option Kind) (nonce : List ℕ) (message : Data) → (parts_of profile kind nonce message).kind ≡ kind
+parts_kind profile None nonce message = refl
+parts_kind profile (Some kind) nonce message = refl
 
 -- a response of this kind
 pub record IsOfKind (kind : Kind) (message : Data) : Type 0 where
@@ -180,53 +181,53 @@ pub record IsOfKind (kind : Kind) (message : Data) : Type 0 where
   pub lists : has_lists message ≡ true
   pub typed : response_kind message ≡ Some kind
 
-pub of_kind : (kind : Kind) (message : Data) (response : ResponseParts) → response_of message ≡ Some response → response.kind ≡ Some kind
-    → IsOfKind kind message × (parts_of (Some kind) (nonce_of message) message ≡ response)
+pub of_kind : (profile : Profile) (kind : Kind) (message : Data) (response : ResponseParts) → response_of profile message ≡ Some response → response.kind ≡ Some kind
+    → IsOfKind kind message × (parts_of profile (Some kind) (nonce_of message) message ≡ response)
 unfolding response_of
-of_kind kind message response e h =
-    let given = given_some (is_response message) (parts_of (response_kind message) (nonce_of message) message) response e in
+of_kind profile kind message response e h =
+    let given = given_some (is_response message) (parts_of profile (response_kind message) (nonce_of message) message) response e in
     let same : response_kind message ≡ Some kind =
-    sym (parts_kind (response_kind message) (nonce_of message) message) ∙ ap (λ (r : ResponseParts). r.kind) given.1 ∙ h in (
+    sym (parts_kind profile (response_kind message) (nonce_of message) message) ∙ ap (λ (r : ResponseParts). r.kind) given.1 ∙ h in (
       record {
         head = and_first (has_head message) _ given.0;
         lists = sym (ap (λ (k : Option Kind). has_lists_of k message) same) ∙ and_last (has_head message) _ given.0;
         typed = same;
       },
-      sym (ap (λ (k : Option Kind). parts_of k (nonce_of message) message) same) ∙ given.1,
+      sym (ap (λ (k : Option Kind). parts_of profile k (nonce_of message) message) same) ∙ given.1,
     )
 
 -- a message with other resources is read as the response with these
-response_with : (kind : Kind) (entries : List Data) (message : Data) → IsOfKind kind message → list_all is_object entries ≡ true → list_all is_entry entries ≡ true
-    → response_of (message_with entries message) ≡ Some (record (parts_of (Some kind) (nonce_of message) message) { items = map (item_of kind) entries })
+response_with : (profile : Profile) (kind : Kind) (entries : List Data) (message : Data) → IsOfKind kind message → list_all is_object entries ≡ true → list_all is_entry entries ≡ true
+    → response_of profile (message_with entries message) ≡ Some (record (parts_of profile (Some kind) (nonce_of message) message) { items = map (item_of profile kind) entries })
 unfolding response_of
-response_with kind entries message is objects items =
+response_with profile kind entries message is objects items =
     let made : Data = message_with entries message in
     let same : response_kind made ≡ Some kind = kind_same entries message ∙ is.typed in
     let object : is_object message ≡ true = head_object message is.head in
-    (λ i. given_if ((head_same entries message ∙ is.head) i && has_lists_of (same i) made) (parts_of (same i) (nonce_same entries message i) made))
-    ∙ (λ i. given_if (lists_with entries message object is.lists objects items i) (parts_of (Some kind) (nonce_of message) made))
+    (λ i. given_if ((head_same entries message ∙ is.head) i && has_lists_of (same i) made) (parts_of profile (same i) (nonce_same entries message i) made))
+    ∙ (λ i. given_if (lists_with entries message object is.lists objects items i) (parts_of profile (Some kind) (nonce_of message) made))
     ∙ (λ i. Some (record {
       kind = Some kind;
       nonce = nonce_of message;
-      items = map (item_of kind) (entries_with entries message object objects i);
+      items = map (item_of profile kind) (entries_with entries message object objects i);
       removed = removed_same entries message i;
     }))
 
 -- the same of the response itself
-pub response_becomes : (kind : Kind) (entries : List Data) (message : Data) (response : ResponseParts) → response_of message ≡ Some response → response.kind ≡ Some kind
+pub response_becomes : (profile : Profile) (kind : Kind) (entries : List Data) (message : Data) (response : ResponseParts) → response_of profile message ≡ Some response → response.kind ≡ Some kind
     → list_all is_object entries ≡ true → list_all is_entry entries ≡ true
-    → response_of (message_with entries message) ≡ Some (record response { items = map (item_of kind) entries })
-response_becomes kind entries message response e h objects items =
-    let of = of_kind kind message response e h in
-    response_with kind entries message of.0 objects items ∙ ap (λ (r : ResponseParts). Some (record r { items = map (item_of kind) entries })) of.1
+    → response_of profile (message_with entries message) ≡ Some (record response { items = map (item_of profile kind) entries })
+response_becomes profile kind entries message response e h objects items =
+    let of = of_kind profile kind message response e h in
+    response_with profile kind entries message of.0 objects items ∙ ap (λ (r : ResponseParts). Some (record r { items = map (item_of profile kind) entries })) of.1
 
-pub entries_right : (kind : Kind) (message : Data) (response : ResponseParts) → response_of message ≡ Some response → response.kind ≡ Some kind
+pub entries_right : (profile : Profile) (kind : Kind) (message : Data) (response : ResponseParts) → response_of profile message ≡ Some response → response.kind ≡ Some kind
     → list_all is_entry (entries_of message) ≡ true
-entries_right kind message response e h = all_entries message (of_kind kind message response e h).0.lists
+entries_right profile kind message response e h = all_entries message (of_kind profile kind message response e h).0.lists
 
 -- a line that is made of a message
-pub line_made : (at : ℕ) (message : Data) → line_of at (response_tree message) ≡ line_at at Stream (option_map (λ response. Response response) (response_of message))
-line_made at message = refl
+pub line_made : (profile : Profile) (at : ℕ) (message : Data) → line_of profile at (response_tree message) ≡ line_at at Stream (option_map (λ response. Response response) (response_of profile message))
+line_made profile at message = refl
 
 -- ---- lines with resources of clusters
 
@@ -248,5 +249,5 @@ clusters_event test None message h = absurd (true≢false (sym h))
 clusters_event test (Some (Response response)) message h = record { response = response; is = refl; kind = clusters_kind test response.kind message h }
 clusters_event test (Some event) message h = absurd (true≢false (sym h))
 
-pub line_of_clusters : (test : Data → Bool) (line : Data) → list_any test (clusters_in line) ≡ true → IsOfClusters (event_of line)
-line_of_clusters test line h = clusters_event test (event_of line) (message_of line) h
+pub line_of_clusters : (profile : Profile) (test : Data → Bool) (line : Data) → list_any test (clusters_in profile line) ≡ true → IsOfClusters (event_of profile line)
+line_of_clusters profile test line h = clusters_event test (event_of profile line) (message_of line) h

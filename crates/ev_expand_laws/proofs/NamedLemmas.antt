@@ -1,10 +1,10 @@
 -- What a generation that asks for endpoints by a name waited for is an event that names them.
-use Rattle.std.proofs.Common.{◌≡◌, ◌∙◌, ℕ, ◌+◌, ◌<◌, Bool, true, false, ◌&&◌, ◌||◌, List, [], ◌∷◌, take, Option, Some, None, sym, ap, ap₂, subst, arith}
+use Rattle.std.proofs.Common.{◌≡◌, ◌∙◌, inr, ℕ, ◌+◌, ◌-◌, ◌<◌, Bool, true, false, cond, nat_le, ◌&&◌, ◌||◌, List, [], ◌∷◌, length, take, Option, Some, None, sym, ap, ap₂, subst, arith}
 use Rattle.std.specs.Prelude.{slice_get, unwrap_or, option_map}
 use Rattle.std.specs.Cmp.{first_so, second_so}
 use Rattle.std.specs.List.{list_any, list_all}
 use Rattle.std.specs.Str.{bytes_eq}
-use Rattle.std.proofs.lemmas.Bool.{false≢true, or_left, or_right}
+use Rattle.std.proofs.lemmas.Bool.{false≢true, cond_both, or_left, or_right}
 use Rattle.ev_types.specs.Items.{ItemParts, ResponseParts}
 use Rattle.ev_types.specs.Kinds.{kind_same, kind_decides}
 use Rattle.ev_types.specs.Same.{bytes_decide}
@@ -18,11 +18,12 @@ use Rattle.ev_types.specs.declared.events.Event.{Event}
 use Rattle.ev_types.specs.declared.events.Event.TheVariants.{Response, FetchTimeout}
 use Rattle.ev_types.specs.declared.events.Verdict.{Verdict}
 use Rattle.ev_types.specs.declared.events.Verdict.TheVariants.{New, Same, Kept, Unasked, Renewed, Refused}
-use Rattle.ev_model.specs.Entries.{MadeRow, answers_wait, has_ended_wait, has_word_on, is_response_of, is_word_on, made_of, tells_of_name, times_out}
+use Rattle.ev_model.specs.Entries.{MadeRow, answers_wait, entries_for, entries_since, has_ended_wait, made_in, has_word_on, is_response_of, is_word_on, made_of, tells_of_name, times_out}
 use Rattle.ev_model.specs.Laws.{Told, WasWarm}
 use Rattle.ev_model.specs.Verdicts.{is_among, is_removed}
 use Rattle.ev_model.specs.Watching.{Dependency, dependencies_of, has_dependency, is_dependency}
 use Rattle.ev_model_laws.proofs.AnyLemmas.{or_so}
+use Rattle.ev_model_laws.proofs.OperationLists.{IsIn}
 use Rattle.ev_expand_laws.proofs.ListLemmas.{all_in, get_in, in_any, some_same, taken_get}
 
 -- a resource of the response has the name, or it is one of the removed names
@@ -86,9 +87,9 @@ times_named name (FetchTimeout timeout) answer h = moved_named name timeout answ
 times_named name event answer h = absurd (false≢true h)
 
 -- what ends the wait for endpoints names them
-pub wait_named : (name : List ℕ) (limited : Bool) (entry : Entry) → answers_wait (record { kind = Eds; name = name; limited = limited }) entry ≡ true
+pub wait_named : (name : List ℕ) (limited fresh : Bool) (entry : Entry) → answers_wait (record { kind = Eds; name = name; limited = limited; fresh = fresh }) entry ≡ true
     → NamesEndpoints name entry.event
-wait_named name limited entry h =
+wait_named name limited fresh entry h =
     or_so (tells_of_name Eds name entry.event entry.answer) (limited && times_out Eds name entry.event entry.answer)
     (λ tells. tells_named name entry.event entry.answer tells)
     (λ timed. times_named name entry.event entry.answer (second_so limited _ timed)) h
@@ -97,11 +98,26 @@ wait_named name limited entry h =
 dependency_named : (name : List ℕ) (d : Dependency) (entry : Entry) → is_dependency Eds name d ≡ true → answers_wait d entry ≡ true
     → NamesEndpoints name entry.event
 dependency_named name d entry is h =
-    wait_named name d.limited entry
-    (sym (ap₂ (λ (kind : Kind) (n : List ℕ). answers_wait (record { kind = kind; name = n; limited = d.limited }) entry)
+    wait_named name d.limited d.fresh entry
+    (sym (ap₂ (λ (kind : Kind) (n : List ℕ). answers_wait (record { kind = kind; name = n; limited = d.limited; fresh = d.fresh }) entry)
     ((kind_decides d.kind Eds).0 (first_so (kind_same d.kind Eds) (bytes_eq d.name name) is))
     ((bytes_decide d.name name).0 (second_so (kind_same d.kind Eds) (bytes_eq d.name name) is)))
     ∙ h)
+
+-- ---- entries that count
+
+-- an entry since a generation was made is one of all
+since_in : (number : ℕ) (entries : List Entry) (entry : Entry) → IsIn entry (entries_since number entries) → IsIn entry entries
+since_in number [] entry is = is
+since_in number (first ∷ entries) entry is =
+    let made : ℕ = length (made_in first.event first.answer) in
+    inr (cond_both (nat_le number made) entries (entries_since (number - made) entries) (λ (es : List Entry). IsIn entry es → IsIn entry entries)
+    (λ le here. here) (λ gt here. since_in (number - made) entries entry here) is)
+
+-- so is one that counts for a dependency of it
+for_in : (fresh : Bool) (number : ℕ) (entries : List Entry) (entry : Entry) → IsIn entry (cond fresh (entries_since number entries) entries) → IsIn entry entries
+for_in true number entries entry is = since_in number entries entry is
+for_in false number entries entry is = is
 
 -- an entry before place k names the endpoints
 pub record NamedBefore (journal : List Entry) (k : ℕ) (name : List ℕ) : Type 0 where
@@ -118,11 +134,11 @@ warmed_named told k number version row name warm made depends =
     let answered = warm.warmed.answered in
     let same : answered.row ≡ row = some_same (sym answered.made ∙ made) in
     let entries : List Entry = take (warm.warmed.place + 1) told.journal in
-    let ended : list_all (has_ended_wait entries) (dependencies_of row.content) ≡ true =
-    subst (λ (r : MadeRow). list_all (has_ended_wait entries) (dependencies_of r.content) ≡ true) same answered.answered in
+    let ended : list_all (has_ended_wait number entries) (dependencies_of row.content) ≡ true =
+    subst (λ (r : MadeRow). list_all (has_ended_wait number entries) (dependencies_of r.content) ≡ true) same answered.answered in
     let d = in_any (is_dependency Eds name) (dependencies_of row.content) depends in
-    let one = in_any (answers_wait d.0) entries (all_in (has_ended_wait entries) (dependencies_of row.content) d.0 ended d.1) in
-    let found = get_in entries one.0 one.1 in
+    let one = in_any (answers_wait d.0) (entries_for number entries d.0) (all_in (has_ended_wait number entries) (dependencies_of row.content) d.0 ended d.1) in
+    let found = get_in entries one.0 (for_in d.0.fresh number entries one.0 one.1) in
     let there = taken_get told.journal (warm.warmed.place + 1) found.0 one.0 found.1 in
     record {
       place = found.0;

@@ -13,6 +13,7 @@ use Rattle.ev_types.specs.Same.{bytes_decide, numbers_decide}
 use Rattle.ev_types.specs.declared.contents.Kind.TheVariants.{Eds}
 use Rattle.ev_types.specs.declared.events.Event.{Event}
 use Rattle.ev_types.specs.declared.events.Event.TheVariants.{Response, FetchTimeout}
+use Rattle.ev_types.specs.declared.events.Profile.{Profile}
 use Rattle.ev_model.specs.Verdicts.{is_among}
 use Rattle.ev_model_laws.proofs.AnyLemmas.{any_so, or_so}
 use Rattle.ev_expand.specs.Fronts.{event_of}
@@ -57,22 +58,24 @@ none_passes p xs i x none there =
     behind : (n m i : ℕ) → nat_lt n m ≡ false → i < m → i < n
     behind n m i h less = grind (arith, nat_tests)
 
-none_used : (prefix : List ℕ) (lines : List Data) (i : ℕ) (line : Data) → first_use prefix lines ≡ None → slice_get lines i ≡ Some line → line_uses prefix line ≡ false
-none_used prefix lines i line unused there = none_passes (line_uses prefix) lines i line (empty (position (line_uses prefix) lines) unused) there
+none_used : (profile : Profile) (prefix : List ℕ) (lines : List Data) (i : ℕ) (line : Data) → first_use profile prefix lines ≡ None → slice_get lines i ≡ Some line
+    → line_uses profile prefix line ≡ false
+none_used profile prefix lines i line unused there =
+    none_passes (line_uses profile prefix) lines i line (empty (position (line_uses profile prefix) lines) unused) there
   where
     empty : (found : Option ℕ) → option_map (λ index. index + 2) found ≡ None → found ≡ None
     empty None h = refl
     empty (Some n) h = absurd (cc)
 
 -- an event of one of its lines uses none
-pub event_unused : (prefix : List ℕ) (lines : List Data) (i : ℕ) (line : Data) (event : Event) → first_use prefix lines ≡ None → slice_get lines i ≡ Some line
-    → event_of line ≡ Some event → event_uses prefix event ≡ true → ⊥
-event_unused prefix lines i line event unused there is uses =
-    both_ways (line_uses prefix line) (none_used prefix lines i line unused there)
+pub event_unused : (profile : Profile) (prefix : List ℕ) (lines : List Data) (i : ℕ) (line : Data) (event : Event) → first_use profile prefix lines ≡ None → slice_get lines i ≡ Some line
+    → event_of profile line ≡ Some event → event_uses prefix event ≡ true → ⊥
+event_unused profile prefix lines i line event unused there is uses =
+    both_ways (line_uses profile prefix line) (none_used profile prefix lines i line unused there)
     (ap (λ e. unwrap_or (option_map (event_uses prefix) e) false) is ∙ uses)
 
 -- so no line of the input names endpoints by a private name
-pub none_names : (prefix rest : List ℕ) (lines : List Data) (i : ℕ) (line : Data) (event : Event) → first_use prefix lines ≡ None → slice_get lines i ≡ Some line
-    → event_of line ≡ Some event → NamesEndpoints (prefix ++ rest) event → ⊥
-none_names prefix rest lines i line event unused there is names =
-    event_unused prefix lines i line event unused there is (named_used prefix rest event names)
+pub none_names : (profile : Profile) (prefix rest : List ℕ) (lines : List Data) (i : ℕ) (line : Data) (event : Event) → first_use profile prefix lines ≡ None → slice_get lines i ≡ Some line
+    → event_of profile line ≡ Some event → NamesEndpoints (prefix ++ rest) event → ⊥
+none_names profile prefix rest lines i line event unused there is names =
+    event_unused profile prefix lines i line event unused there is (named_used prefix rest event names)

@@ -1,10 +1,13 @@
 -- A cluster that waits for a name is read as one whose endpoints come by it, without limit.
-use Rattle.std.proofs.Common.{◌≡◌, ◌∙◌, ℕ, ◌≤◌, Bool, true, false, not, ◌&&◌, ◌||◌, ◌==◌, nat_lt, cond, List, [], ◌∷◌, length, Option, Some, None, Ok, codes, refl, sym, ap, arith, ne_eqb}
+use Rattle.std.proofs.Common.{◌≡◌, ◌∙◌, ℕ, ◌≤◌, Bool, true, false, not, ◌&&◌, ◌||◌, ◌==◌, nat_le, nat_lt, cond, List, [], ◌∷◌, length, Option, Some, None, Ok, codes, refl, sym, ap, arith, ne_eqb}
 use Rattle.std.specs.Str.{bytes_eq}
 use Rattle.serde_json.specs.Data.{Data, string, object, no_members, put}
 use Rattle.serde_json.specs.Find.{get}
 use Rattle.ev_types.specs.declared.clusters.Cluster.{Cluster}
-use Rattle.ev_types.specs.declared.clusters.Discovery.TheVariants.{Static, Eds}
+use Rattle.ev_types.specs.declared.clusters.Discovery.TheVariants.{Static, Eds, Elsewhere}
+use Rattle.ev_types.specs.declared.events.Profile.{Profile}
+use Rattle.ev_types.specs.declared.events.Profile.TheVariants.{Own, Envoy}
+use Rattle.ev_types.specs.Profiles.{is_envoy}
 use Rattle.ev_tree.specs.declared.broken.BrokenRules.{BrokenRules}
 use Rattle.ev_tree.specs.declared.limits.TheConstants.{MAX_NAME_BYTES}
 use Rattle.ev_tree.specs.declared.outcome.Found.{Found}
@@ -16,11 +19,12 @@ use Rattle.ev_tree.specs.Forms.{in_form, object_in, is_object, is_wrong, is_give
 use Rattle.ev_tree.specs.Rules.{judged, is_name}
 use Rattle.ev_tree.specs.Broken.{none_broken, either_broken, broken_where, least_of}
 use Rattle.ev_tree.specs.Spans.{is_not_positive}
-use Rattle.ev_tree.specs.Sources.{source_broken, source_is_limited}
+use Rattle.ev_tree.specs.Floats.{body_text_of}
+use Rattle.ev_tree.specs.Sources.{source_broken, any_source_broken, source_broken_in, source_is_limited}
 use Rattle.ev_tree.proofs.Unions.{least_none}
-use Rattle.ev_cluster_json.specs.declared.parts.TheConstants.{STATIC, EDS}
+use Rattle.ev_cluster_json.specs.declared.parts.TheConstants.{STATIC, LOGICAL_DNS, EDS}
 use Rattle.ev_cluster_json.specs.Assignments.{rows_of}
-use Rattle.ev_cluster_json.specs.Clusters.{name_of, type_of, eds_of, eds_source_of, service_name_of, service_with, service_of, load_assignment_of, is_checked, own_broken, eds_broken, load_assignment_broken, cluster_broken, discovery_of, cluster_of, cluster_reading}
+use Rattle.ev_cluster_json.specs.Clusters.{name_of, type_of, has_custom_type, is_in_cluster, is_by_eds, holds_hosts, asks_hosts, eds_of, eds_source_of, service_name_of, service_with, service_of, load_assignment_of, is_checked, own_broken, eds_broken, load_assignment_broken, cluster_broken, discovery_of, cluster_of, cluster_reading}
 use Rattle.ev_cluster_json.proofs.RowsMade.{left_false, right_false}
 use Rattle.ev_expand.specs.Editing.{without, with_value}
 use Rattle.ev_expand.specs.Guarding.{waiting_config, stripped_body, waiting_body}
@@ -122,6 +126,9 @@ kept_name : (tree made : Data) → KeepsFields tree made → name_of made ≡ na
 unfolding name_of
 kept_name tree made keeps = ap (given_or []) (text_by (codes "name") tree made (keeps.fields (codes "name") keeps_name))
 
+pub kept_custom : (tree made : Data) → KeepsFields tree made → has_custom_type made ≡ has_custom_type tree
+kept_custom tree made keeps = ap is_given (object_by (codes "cluster_type") tree made (keeps.fields (codes "cluster_type") keeps_cluster_type))
+
 kept_checked : (tree made : Data) → KeepsFields tree made → is_checked made ≡ is_checked tree
 unfolding is_checked
 kept_checked tree made keeps =
@@ -172,9 +179,10 @@ config_given name body is = λ i. either_spelling (present_member (none i)) (pre
 source : Data
 source = object (put (codes "ads") (object no_members) (put (codes "initialFetchTimeout") (string (codes "0s")) no_members))
 
-source_right : source_broken source ≡ none_broken
-unfolding source source_broken object_of duration_of field_of camel_of span_of before_unit signed_span seconds_span whole_span
-source_right = refl
+source_right : (profile : Profile) → source_broken_in profile source ≡ none_broken
+unfolding source source_broken any_source_broken object_of duration_of field_of camel_of span_of before_unit signed_span seconds_span whole_span
+source_right Own = refl
+source_right Envoy = refl
 
 source_unlimited : source_is_limited source ≡ false
 unfolding source source_is_limited object_of duration_of field_of camel_of span_of before_unit signed_span seconds_span whole_span
@@ -216,19 +224,45 @@ some_bytes : (own name : List ℕ) → 1 ≤ length name → service_with own na
 some_bytes own [] some = absurd (omega arith)
 some_bytes own (x ∷ xs) some = ap (λ (b : Bool). cond b own (x ∷ xs)) (ne_eqb (length (x ∷ xs)) 0 (λ e. omega arith))
 
-waits_discovery : (name : List ℕ) (body : Data) → is_object body ≡ true → 1 ≤ length name → discovery_of (waiting_body name body) ≡ Eds name false
-unfolding discovery_of source_is_limited
-waits_discovery name body is some =
-    ap (λ (type : ℕ). cond (type == STATIC) (Static (rows_of (load_assignment_of (waiting_body name body)))) (Eds (service_of (waiting_body name body)) (source_is_limited (eds_source_of (waiting_body name body))))) (waits_type name body is)
-    ∙ (λ i. Eds (service_with (name_of (waiting_body name body)) (waits_service name body is i)) (source_is_limited (waits_source name body is i)))
-    ∙ (λ i. Eds (some_bytes (name_of (waiting_body name body)) name some i) (source_unlimited i))
+-- a cluster of the type EDS without a custom type has its hosts by EDS
+not_held : (profile : Profile) (custom : Bool) → custom ≡ false → is_in_cluster profile custom EDS ≡ false
+not_held Own custom none = refl
+not_held Envoy custom none = ap (λ (c : Bool). not c && nat_le EDS LOGICAL_DNS) none
 
-waits_cluster : (name : List ℕ) (body tree : Data) → is_object body ≡ true → KeepsFields tree (waiting_body name body) → 1 ≤ length name
-    → cluster_of (waiting_body name body) ≡ waiting_cluster name (cluster_of tree)
-waits_cluster name body tree is keeps some = λ i. record {
+by_eds : (profile : Profile) (custom : Bool) → custom ≡ false → is_by_eds profile custom EDS ≡ true
+by_eds Own custom none = refl
+by_eds Envoy custom none = ap (λ (c : Bool). not c && (EDS == EDS)) none
+
+waits_held : (profile : Profile) (name : List ℕ) (body : Data) → is_object body ≡ true → has_custom_type (waiting_body name body) ≡ false
+    → holds_hosts profile (waiting_body name body) ≡ false
+waits_held profile name body is none =
+    ap (λ (type : ℕ). is_in_cluster profile (has_custom_type (waiting_body name body)) type) (waits_type name body is)
+    ∙ not_held profile (has_custom_type (waiting_body name body)) none
+
+waits_asked : (profile : Profile) (name : List ℕ) (body : Data) → is_object body ≡ true → has_custom_type (waiting_body name body) ≡ false
+    → asks_hosts profile (waiting_body name body) ≡ true
+waits_asked profile name body is none =
+    ap (λ (type : ℕ). is_by_eds profile (has_custom_type (waiting_body name body)) type) (waits_type name body is)
+    ∙ by_eds profile (has_custom_type (waiting_body name body)) none
+
+waits_discovery : (profile : Profile) (name : List ℕ) (body : Data) → is_object body ≡ true → has_custom_type (waiting_body name body) ≡ false → 1 ≤ length name
+    → discovery_of profile (waiting_body name body) ≡ Eds name false (is_envoy profile)
+unfolding discovery_of source_is_limited
+waits_discovery profile name body is none some =
+    let made : Data = waiting_body name body in
+    (λ i. cond (waits_held profile name body is none i) (Static (rows_of profile (load_assignment_of made)))
+    (cond (waits_asked profile name body is none i) (Eds (service_of made) (source_is_limited (eds_source_of made)) (is_envoy profile)) Elsewhere))
+    ∙ (λ i. Eds (service_with (name_of made) (waits_service name body is i)) (source_is_limited (waits_source name body is i)) (is_envoy profile))
+    ∙ (λ i. Eds (some_bytes (name_of made) name some i) (source_unlimited i) (is_envoy profile))
+
+waits_cluster : (profile : Profile) (name : List ℕ) (body tree : Data) → is_object body ≡ true → has_custom_type (waiting_body name body) ≡ false
+    → KeepsFields tree (waiting_body name body) → 1 ≤ length name
+    → cluster_of profile (waiting_body name body) ≡ waiting_cluster profile name body (cluster_of profile tree)
+waits_cluster profile name body tree is none keeps some = λ i. record {
   name = kept_name tree (waiting_body name body) keeps i;
-  discovery = waits_discovery name body is some i;
+  discovery = waits_discovery profile name body is none some i;
   checked = kept_checked tree (waiting_body name body) keeps i;
+  body_text = body_text_of profile (waiting_body name body);
 }
 
 -- ---- what it breaks
@@ -238,21 +272,20 @@ pub record HasSoundFields (tree : Data) : Type 0 where
   pub named : is_wrong (text_of (codes "name") tree) ≡ false
   pub name : (not (is_wrong (text_of (codes "name") tree)) && not (is_name (name_of tree))) ≡ false
   pub custom : is_wrong (object_of (codes "cluster_type") tree) ≡ false
-  pub none_custom : is_given (object_of (codes "cluster_type") tree) ≡ false
+  pub none_custom : has_custom_type tree ≡ false
   pub timeout : is_wrong (duration_of (codes "connect_timeout") tree) ≡ false
   pub positive : is_not_positive (duration_of (codes "connect_timeout") tree) ≡ false
   pub checks : is_wrong (objects_of (codes "health_checks") tree) ≡ false
 
-clear_sound : (tree : Data) → cluster_broken tree ≡ none_broken → HasSoundFields tree
+clear_sound : (profile : Profile) (tree : Data) → cluster_broken profile tree ≡ none_broken → has_custom_type tree ≡ false → HasSoundFields tree
 unfolding cluster_broken own_broken
-clear_sound tree clear =
+clear_sound profile tree clear none =
     let v6 = left_false _ _ (ap (λ (b : BrokenRules). b.v6) clear) in
-    let v7 = left_false _ _ (ap (λ (b : BrokenRules). b.v7) clear) in
     record {
       named = left_false _ _ (left_false _ _ (left_false _ _ (left_false _ _ v6)));
       name = left_false _ _ (ap (λ (b : BrokenRules). b.v3) clear);
       custom = right_false _ _ (left_false _ _ (left_false _ _ v6));
-      none_custom = right_false _ _ v7;
+      none_custom = none;
       timeout = right_false _ _ (left_false _ _ v6);
       positive = left_false _ _ (ap (λ (b : BrokenRules). b.v11) clear);
       checks = right_false _ _ v6;
@@ -265,10 +298,15 @@ broken_by_length name = record none_broken { v2 = nat_lt MAX_NAME_BYTES (length 
 wrong_type : (name : List ℕ) (body : Data) → is_object body ≡ true → is_wrong (enumeration_of (codes "type") DiscoveryTable (waiting_body name body)) ≡ false
 wrong_type name body is = ap is_wrong (type_read (waiting_body name body) (type_given name body is))
 
-waits_own : (name : List ℕ) (body tree : Data) → is_object body ≡ true → KeepsFields tree (waiting_body name body) → HasSoundFields tree
-    → own_broken (waiting_body name body) ≡ none_broken
+-- the own profile's rule on types isn't broken, and the other has none
+types_right : (profile : Profile) → (not (is_envoy profile) && false) ≡ false
+types_right Own = refl
+types_right Envoy = refl
+
+waits_own : (profile : Profile) (name : List ℕ) (body tree : Data) → is_object body ≡ true → KeepsFields tree (waiting_body name body) → HasSoundFields tree
+    → own_broken profile (waiting_body name body) ≡ none_broken
 unfolding own_broken
-waits_own name body tree is keeps sound =
+waits_own profile name body tree is keeps sound =
     let made : Data = waiting_body name body in
     let text : text_of (codes "name") made ≡ text_of (codes "name") tree = text_by (codes "name") tree made (keeps.fields (codes "name") keeps_name) in
     let custom : object_of (codes "cluster_type") made ≡ object_of (codes "cluster_type") tree =
@@ -280,7 +318,9 @@ waits_own name body tree is keeps sound =
     let named : is_wrong (text_of (codes "name") made) ≡ false = ap is_wrong text ∙ sound.named in
     let own : (not (is_wrong (text_of (codes "name") made)) && not (is_name (name_of made))) ≡ false =
     (λ i. not (is_wrong (text i)) && not (is_name (kept_name tree made keeps i))) ∙ sound.name in
-    let none_custom : is_given (object_of (codes "cluster_type") made) ≡ false = ap is_given custom ∙ sound.none_custom in
+    let none_custom : has_custom_type made ≡ false = ap is_given custom ∙ sound.none_custom in
+    let types : (not (is_envoy profile) && (not (type_of made == STATIC || type_of made == EDS) || has_custom_type made)) ≡ false =
+    (λ i. not (is_envoy profile) && (not (waits_type name body is i == STATIC || waits_type name body is i == EDS) || none_custom i)) ∙ types_right profile in
     let custom_right : is_wrong (object_of (codes "cluster_type") made) ≡ false = ap is_wrong custom ∙ sound.custom in
     let timeout_right : is_wrong (duration_of (codes "connect_timeout") made) ≡ false = ap is_wrong timeout ∙ sound.timeout in
     let positive : is_not_positive (duration_of (codes "connect_timeout") made) ≡ false = ap is_not_positive timeout ∙ sound.positive in
@@ -288,33 +328,35 @@ waits_own name body tree is keeps sound =
     λ i. record none_broken {
       v3 = own i;
       v6 = named i || wrong_type name body is i || custom_right i || timeout_right i || checks_right i;
-      v7 = not (waits_type name body is i == STATIC || waits_type name body is i == EDS) || none_custom i;
+      v7 = types i;
       v11 = positive i;
     }
 
-waits_broken : (name : List ℕ) (body : Data) → is_object body ≡ true → eds_broken true (waiting_body name body) ≡ broken_by_length name
+waits_broken : (profile : Profile) (name : List ℕ) (body : Data) → is_object body ≡ true → eds_broken profile true (waiting_body name body) ≡ broken_by_length name
 unfolding eds_broken
-waits_broken name body is =
+waits_broken profile name body is =
     let made : Data = waiting_body name body in
     let config = waits_config name body is in
     let service : text_of (codes "service_name") (eds_of made) ≡ Given name = ap (text_of (codes "service_name")) (waits_eds name body is) ∙ config_service name in
     let eds : object_of (codes "eds_config") (eds_of made) ≡ Given source = ap (object_of (codes "eds_config")) (waits_eds name body is) ∙ config_source name in
-    (λ i. either_broken (broken_where (is_given (config i)) (source_broken (waits_source name body is i))) (record none_broken {
+    (λ i. either_broken (broken_where (is_given (config i)) (source_broken_in profile (waits_source name body is i))) (record none_broken {
       v2 = nat_lt MAX_NAME_BYTES (length (waits_service name body is i));
       v6 = is_wrong (config i) || is_wrong (eds i) || is_wrong (service i);
       v8 = is_absent (config i);
       v9 = false;
     }))
-    ∙ (λ i. either_broken (source_right i) (broken_by_length name))
+    ∙ (λ i. either_broken (source_right profile i) (broken_by_length name))
 
-waits_rules : (name : List ℕ) (body tree : Data) → is_object body ≡ true → KeepsFields tree (waiting_body name body) → HasSoundFields tree
-    → cluster_broken (waiting_body name body) ≡ broken_by_length name
+waits_rules : (profile : Profile) (name : List ℕ) (body tree : Data) → is_object body ≡ true → KeepsFields tree (waiting_body name body) → HasSoundFields tree
+    → cluster_broken profile (waiting_body name body) ≡ broken_by_length name
 unfolding cluster_broken
-waits_rules name body tree is keeps sound =
+waits_rules profile name body tree is keeps sound =
     let made : Data = waiting_body name body in
-    let type : type_of made ≡ EDS = waits_type name body is in
-    (λ i. either_broken (waits_own name body tree is keeps sound i) (either_broken (eds_broken (type i == EDS) made) (broken_where (type i == STATIC) (load_assignment_broken made))))
-    ∙ (λ i. either_broken none_broken (either_broken (waits_broken name body is i) none_broken))
+    let none : has_custom_type made ≡ false = kept_custom tree made keeps ∙ sound.none_custom in
+    (λ i. either_broken (waits_own profile name body tree is keeps sound i)
+    (either_broken (eds_broken profile (waits_asked profile name body is none i) made)
+    (broken_where (waits_held profile name body is none i) (load_assignment_broken profile made))))
+    ∙ (λ i. either_broken none_broken (either_broken (waits_broken profile name body is i) none_broken))
     ∙ or_nothing (nat_lt MAX_NAME_BYTES (length name))
   where
     or_nothing : (long : Bool) → either_broken none_broken (either_broken (record none_broken { v2 = long }) none_broken) ≡ record none_broken { v2 = long }
@@ -326,11 +368,12 @@ judged_ok None value other h = (refl, cc)
 judged_ok (Some rule) value other h = absurd (cc)
 
 -- a body of the same fields as one that reads as a cluster reads as the cluster that waits
-pub waits_read : (name : List ℕ) (body tree : Data) (cluster : Cluster) → is_object body ≡ true → KeepsFields tree (waiting_body name body)
-    → 1 ≤ length name → nat_lt MAX_NAME_BYTES (length name) ≡ false → cluster_reading tree ≡ Ok cluster
-    → cluster_reading (waiting_body name body) ≡ Ok (waiting_cluster name cluster)
-waits_read name body tree cluster is keeps some short reads =
-    let parts = judged_ok (least_of (cluster_broken tree)) (cluster_of tree) cluster reads in
-    let sound : HasSoundFields tree = clear_sound tree (least_none (cluster_broken tree) parts.0) in
-    (λ i. judged (least_of (waits_rules name body tree is keeps sound i)) (waits_cluster name body tree is keeps some i))
-    ∙ (λ i. judged (least_of (record none_broken { v2 = short i })) (waiting_cluster name (parts.1 i)))
+pub waits_read : (profile : Profile) (name : List ℕ) (body tree : Data) (cluster : Cluster) → is_object body ≡ true → KeepsFields tree (waiting_body name body)
+    → has_custom_type tree ≡ false → 1 ≤ length name → nat_lt MAX_NAME_BYTES (length name) ≡ false → cluster_reading profile tree ≡ Ok cluster
+    → cluster_reading profile (waiting_body name body) ≡ Ok (waiting_cluster profile name body cluster)
+waits_read profile name body tree cluster is keeps none some short reads =
+    let parts = judged_ok (least_of (cluster_broken profile tree)) (cluster_of profile tree) cluster reads in
+    let sound : HasSoundFields tree = clear_sound profile tree (least_none (cluster_broken profile tree) parts.0) none in
+    let custom : has_custom_type (waiting_body name body) ≡ false = kept_custom tree (waiting_body name body) keeps ∙ none in
+    (λ i. judged (least_of (waits_rules profile name body tree is keeps sound i)) (waits_cluster profile name body tree is custom keeps some i))
+    ∙ (λ i. judged (least_of (record none_broken { v2 = short i })) (waiting_cluster profile name body (parts.1 i)))

@@ -4,6 +4,8 @@ use Rattle.serde_json.specs.Data.{Data}
 use Rattle.serde_json.specs.View.{view}
 use Rattle.ev_types.specs.Scripts.{ScriptParts}
 use Rattle.ev_types.specs.declared.events.Line.{Line}
+use Rattle.ev_types.specs.declared.events.Profile.{Profile}
+use Rattle.ev_script.specs.declared.forms.Settings.{Settings}
 use Rattle.ev_script.specs.declared.trees.ScriptTrees.{ScriptTrees}
 use Rattle.ev_script.specs.Content.{is_above}
 use Rattle.ev_script.specs.Faults.{Input, worker_of}
@@ -16,16 +18,16 @@ use Rattle.ev_expand.specs.Expanding.{Rules, gives}
 abbrev pub lines_in : ScriptTrees → List Data
 lines_in trees = map view trees.lines.items
 
--- the lines that trees are, from this place on
-abbrev pub lines_said : ℕ → List Data → List Line
-lines_said at [] = []
-lines_said at (tree ∷ trees) = option_to_list (line_of at tree) ++ lines_said (at + 1) trees
+-- the lines that trees are in a profile, from this place on
+abbrev pub lines_said : Profile → ℕ → List Data → List Line
+lines_said profile at [] = []
+lines_said profile at (tree ∷ trees) = option_to_list (line_of profile at tree) ++ lines_said profile (at + 1) trees
 
--- the tree is, at this place, a line of a script of this many workers
-pub record HasLine (workers at : ℕ) (tree : Data) : Type 0 where
+-- the tree is, at this place, a line of a script with these settings
+pub record HasLine (settings : Settings) (at : ℕ) (tree : Data) : Type 0 where
   pub line : Line
-  pub is : line_of at tree ≡ Some line
-  pub below : is_above workers (worker_of line.actor) ≡ false
+  pub is : line_of settings.profile at tree ≡ Some line
+  pub below : is_above settings.workers (worker_of line.actor) ≡ false
 
 -- from this place on, one after another
 abbrev pub AllAt : (ℕ → Data → Type 0) → ℕ → List Data → Type 0
@@ -42,4 +44,4 @@ given_lines rules lines = flat_map (gives rules) (fronts lines)
 
 -- the script that the text is
 abbrev pub expanded_script : Rules → ScriptTrees → ScriptParts
-expanded_script rules trees = script_made trees.header (lines_said 2 (given_lines rules (lines_in trees)))
+expanded_script rules trees = script_made trees.header (lines_said trees.header.profile 2 (given_lines rules (lines_in trees)))

@@ -5,9 +5,10 @@ use Rattle.serde_json.specs.Data.{Data, depth}
 use Rattle.serde_json.specs.Read.{max_depth}
 use Rattle.serde_json.specs.View.{view}
 use Rattle.ev_types.specs.Scripts.{IsScript}
+use Rattle.ev_script.specs.declared.forms.Settings.{Settings}
 use Rattle.ev_script.specs.declared.trees.ScriptTrees.{ScriptTrees}
 use Rattle.ev_script.specs.Faults.{plain_lines, HasNoFault}
-use Rattle.ev_script.specs.Header.{header_of}
+use Rattle.ev_script.specs.Header.{header_of, settings_of}
 use Rattle.ev_script.specs.Script.{script_of}
 use Rattle.ev_trees.specs.Trees.{IsReadable}
 use Rattle.ev_expand.specs.Fronts.{Front, up_to, fronts}
@@ -15,9 +16,9 @@ use Rattle.ev_expand.specs.Guarding.{Guarded}
 use Rattle.ev_expand.specs.Expanding.{Rules, guarded_at, IsExpanded}
 use Rattle.ev_expand_laws.specs.Said.{lines_in, HasLine, AllAt, input_of_text, expanded_script}
 
--- where it is written, the line is at this place one of a script of this many workers
-abbrev pub IsLineIfWritten : Rules → ℕ → ℕ → Data → Type 0
-IsLineIfWritten rules workers at line = IsTrue (rules.is_written line) → HasLine workers at line
+-- where it is written, the line is at this place one of a script with these settings
+abbrev pub IsLineIfWritten : Rules → Settings → ℕ → Data → Type 0
+IsLineIfWritten rules settings at line = IsTrue (rules.is_written line) → HasLine settings at line
 
 -- endpoints that a line which follows may have: it nests deeper by five
 abbrev pub IsShallow : Data → Type 0
@@ -27,11 +28,12 @@ IsShallow endpoints = depth endpoints + 5 ≤ max_depth
 abbrev pub AreShallowAt : Rules → Front → Type 0
 AreShallowAt rules front = All (λ (g : Guarded). IfSome (rules.endpoints_of (up_to front) g) IsShallow) (guarded_at rules front)
 
--- Trees of an input of which a command makes a script: a header, and lines of its workers where they are written. None is too
--- deep, and no line that follows is. The nonces of added lines aren't empty.
+-- Trees of an input of which a command makes a script: a header, and lines of its workers where they are written, which are read
+-- by the header's profile. None is too deep, and no line that follows is. The nonces of added lines aren't empty.
 pub record IsExpandable (rules : Rules) (trees : ScriptTrees) : Type 0 where
+  pub profile : rules.guard.profile ≡ trees.header.profile
   pub heads : header_of (view trees.head) ≡ Some trees.header
-  pub written : AllAt (IsLineIfWritten rules trees.header.workers) 2 (lines_in trees)
+  pub written : AllAt (IsLineIfWritten rules (settings_of trees.header)) 2 (lines_in trees)
   pub readable : All IsReadable (view trees.head ∷ lines_in trees)
   pub shallow : All (AreShallowAt rules) (fronts (lines_in trees))
   pub nonce : 1 ≤ length rules.nonce

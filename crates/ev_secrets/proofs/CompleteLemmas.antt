@@ -19,16 +19,11 @@ use Rattle.ev_secrets.specs.Waiting.{EntersAll, EntersOne, is_served}
 use Rattle.ev_secrets.proofs.PlaceLemmas.{number_swapped, stands_own}
 use Rattle.ev_secrets.proofs.TestLemmas.{all_so}
 
-and_true : (a : Bool) → (a && true) ≡ a
-and_true true = refl
-and_true false = refl
-
--- a place that was put under its endpoints is served
-pub serves : (d : Discovery) (service copied : List ℕ) (limited : Bool) (place : ℕ) (before after : PlacesKept) → d ≡ Eds service limited → copied ≡ service → Enters (Endpoints copied) place before after
-    → is_served after place d ≡ true
-serves d service copied limited place before after is same enters =
-    ap (is_served after place) is ∙ and_true (stands_under after (Endpoints service) place)
-    ∙ ap (λ (name : List ℕ). stands_under after (Endpoints name) place) (sym same) ∙ stands_own (Endpoints copied) place before after enters
+-- a place that was put under endpoints is under them
+pub serves : (service copied : List ℕ) (place : ℕ) (before after : PlacesKept) → copied ≡ service → Enters (Endpoints copied) place before after
+    → stands_under after (Endpoints service) place ≡ true
+serves service copied place before after same enters =
+    ap (λ (name : List ℕ). stands_under after (Endpoints name) place) (sym same) ∙ stands_own (Endpoints copied) place before after enters
 
 swapped : (a b c : Bool) → (b || (a || c)) ≡ ((a || b) || c)
 swapped true true c = refl

@@ -13,7 +13,7 @@ use Rattle.std.specs.Str.{bytes_eq}
 use Rattle.indexmap.specs.IndexSet.{IndexSet, contains}
 use Rattle.ev_types.specs.Same.{bytes_decide}
 use Rattle.ev_types.specs.declared.clusters.Discovery.{Discovery}
-use Rattle.ev_types.specs.declared.clusters.Discovery.TheVariants.{Static, Eds}
+use Rattle.ev_types.specs.declared.clusters.Discovery.TheVariants.{Static, Eds, Elsewhere}
 use Rattle.ev_expand.specs.Guarding.{Guarded}
 use Rattle.ev_secrets.specs.declared.awaited.Awaited.TheVariants.{Endpoints}
 use Rattle.ev_secrets.specs.declared.complete.Complete.{Complete}
@@ -153,7 +153,8 @@ found_due marks values gs cs may up has holds =
 given_served : {S : Type 0} (given : IndexSet (List ℕ) S) (served : PlacesKept) (n : ℕ) (d : Discovery) → is_served served n d ≡ true
     → list_any (contains bytes_eq given) (services_of d) ≡ true → stands_under_any served given.keys n ≡ true
 given_served {S} given served n (Static rows) all any = absurd (cc)
-given_served {S} given served n (Eds service limited) all any =
+given_served {S} given served n Elsewhere all any = absurd (cc)
+given_served {S} given served n (Eds service limited fresh) all any =
     any_so (bytes_eq service) (λ (name : List ℕ). stands_under served (Endpoints name) n)
     (λ name same. ap (λ (x : List ℕ). stands_under served (Endpoints x) n) (sym ((bytes_decide service name).0 same)) ∙ alone (stands_under served (Endpoints service) n) all) given.keys
     (only (contains bytes_eq given service) any)

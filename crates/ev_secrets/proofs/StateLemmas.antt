@@ -13,8 +13,9 @@ use Rattle.std.proofs.lemmas.Option.{slice_get_past}
 use Rattle.serde_json.specs.Data.{Data}
 use Rattle.ev_types.specs.Same.{numbers_decide}
 use Rattle.ev_types.specs.declared.clusters.Discovery.{Discovery}
-use Rattle.ev_types.specs.declared.clusters.Discovery.TheVariants.{Static, Eds}
+use Rattle.ev_types.specs.declared.clusters.Discovery.TheVariants.{Static, Eds, Elsewhere}
 use Rattle.ev_types.specs.declared.events.Event.{Event}
+use Rattle.ev_types.specs.declared.events.Profile.{Profile}
 use Rattle.ev_expand.specs.declared.keys.Key.{Key}
 use Rattle.ev_expand.specs.Keys.{key_same, key_decides}
 use Rattle.ev_expand.specs.Expanding.{due_at}
@@ -46,27 +47,27 @@ stream_step : (l o : Option Bool) → unwrap_or o (unwrap_or l false) ≡ unwrap
 stream_step l None = refl
 stream_step l (Some v) = refl
 
-pub stream_now : (before : List Data) (line : Data) → open_after (stream_at before) (event_of line) ≡ stream_at (before ++ line ∷ [])
-stream_now before line =
-    let said : Data → Option Bool = λ l. option_and_then stream_said (event_of l) in
+pub stream_now : (profile : Profile) (before : List Data) (line : Data) → open_after (stream_at profile before) (event_of profile line) ≡ stream_at profile (before ++ line ∷ [])
+stream_now profile before line =
+    let said : Data → Option Bool = λ l. option_and_then stream_said (event_of profile l) in
     stream_step (last_or None (filter_map said before)) (said line)
     ∙ sym (ap (λ (o : Option Bool). unwrap_or o false) (ap (last_or None) (filter_map-append said before (line ∷ [])) ∙ last-append None (filter_map said before) (cons_option (said line) [])))
 
 -- ---- what was reported, and values
 
-pub told_now : (before : List Data) (line : Data) (a : Awaited)
-    → is_told (before ++ line ∷ []) a ≡ (is_told before a || list_any (awaited_same a) (flat_map told_by (heard_now (stream_at (before ++ line ∷ [])) line)))
-told_now before line a =
-    ap (λ (ls : List Data). list_any (awaited_same a) (flat_map told_by ls)) (heard-push before line)
-    ∙ ap (list_any (awaited_same a)) (flat_map-append told_by (heard before) (heard_now (stream_at (before ++ line ∷ [])) line))
-    ∙ list_any-append (awaited_same a) (flat_map told_by (heard before)) (flat_map told_by (heard_now (stream_at (before ++ line ∷ [])) line))
+pub told_now : (profile : Profile) (before : List Data) (line : Data) (a : Awaited)
+    → is_told profile (before ++ line ∷ []) a ≡ (is_told profile before a || list_any (awaited_same a) (flat_map (told_by profile) (heard_now (stream_at profile (before ++ line ∷ [])) line)))
+told_now profile before line a =
+    ap (λ (ls : List Data). list_any (awaited_same a) (flat_map (told_by profile) ls)) (heard-push profile before line)
+    ∙ ap (list_any (awaited_same a)) (flat_map-append (told_by profile) (heard profile before) (heard_now (stream_at profile (before ++ line ∷ [])) line))
+    ∙ list_any-append (awaited_same a) (flat_map (told_by profile) (heard profile before)) (flat_map (told_by profile) (heard_now (stream_at profile (before ++ line ∷ [])) line))
 
-pub value_now : (before : List Data) (line : Data) (name : List ℕ)
-    → value_of (before ++ line ∷ []) name ≡ later_value name (value_of before name) (flat_map values_in (heard_now (stream_at (before ++ line ∷ [])) line))
-value_now before line name =
-    ap (λ (ls : List Data). later_value name None (flat_map values_in ls)) (heard-push before line)
-    ∙ ap (later_value name None) (flat_map-append values_in (heard before) (heard_now (stream_at (before ++ line ∷ [])) line))
-    ∙ later-append name None (flat_map values_in (heard before)) (flat_map values_in (heard_now (stream_at (before ++ line ∷ [])) line))
+pub value_now : (profile : Profile) (before : List Data) (line : Data) (name : List ℕ)
+    → value_of profile (before ++ line ∷ []) name ≡ later_value name (value_of profile before name) (flat_map (values_in profile) (heard_now (stream_at profile (before ++ line ∷ [])) line))
+value_now profile before line name =
+    ap (λ (ls : List Data). later_value name None (flat_map (values_in profile) ls)) (heard-push profile before line)
+    ∙ ap (later_value name None) (flat_map-append (values_in profile) (heard profile before) (heard_now (stream_at profile (before ++ line ∷ [])) line))
+    ∙ later-append name None (flat_map (values_in profile) (heard profile before)) (flat_map (values_in profile) (heard_now (stream_at profile (before ++ line ∷ [])) line))
 
 -- ---- what is complete
 
@@ -82,8 +83,8 @@ pub map_same : {A B : Type 0} (f g : A → B) (xs : List A) → ((x : A) → f x
 map_same f g [] h = refl
 map_same f g (x ∷ xs) h = ap₂ (λ y ys. y ∷ ys) (h x) (map_same f g xs h)
 
-pub completed_as : (lines : List Data) (told : Told) (g : Guarded) → ((a : Awaited) → has_told told a ≡ is_told lines a) → completed told g ≡ is_complete lines g.key
-completed_as lines told g h = all_same (has_told told) (is_told lines) (awaited_by g.key) h
+pub completed_as : (profile : Profile) (lines : List Data) (told : Told) (g : Guarded) → ((a : Awaited) → has_told told a ≡ is_told profile lines a) → completed told g ≡ is_complete profile lines g.key
+completed_as profile lines told g h = all_same (has_told told) (is_told profile lines) (awaited_by g.key) h
 
 -- ---- what is due
 
@@ -134,44 +135,44 @@ either_place old more new n g f m marked here among (inr past) =
     ap (λ (b : Bool). m || not b) (was_at old n f None (slice_get_past old n past)) ∙ or-true m ∙ sym (ap (λ (b : Bool). b || not (f g)) fresh)
 
 -- a cause by a resource or by what was not complete before
-cause_as : (before : List Data) (line : Data) (n : ℕ) (g : Guarded) → slice_get (guarded_by by_secrets (before ++ line ∷ [])) n ≡ Some g
-    → (is_marked (map (place_at by_secrets (guarded_by by_secrets (before ++ line ∷ []))) (clusters_in line)) n
-    || not (was_by (λ (g : Guarded). is_complete before g.key) (guarded_by by_secrets before) n))
-    ≡ (has_guarded line g.key || not (is_complete before g.key))
-cause_as before line n g h =
-    let old : List Guarded = guarded_by by_secrets before in
-    let all : List Guarded = guarded_by by_secrets (before ++ line ∷ []) in
-    let f : Guarded → Bool = λ (x : Guarded). is_complete before x.key in
-    let extended : IsExtended old (each_once (flat_map (guarded_in by_secrets) before ++ guarded_in by_secrets line)) (guarded_in by_secrets line) = once_extends (flat_map (guarded_in by_secrets) before) (guarded_in by_secrets line) in
-    let grown : all ≡ old ++ extended.more = guarded-push by_secrets before line ∙ extended.grown in
-    let distinct : AreDistinct all = once_distinct (flat_map (guarded_in by_secrets) (before ++ line ∷ [])) in
-    let marked : is_marked (map (place_at by_secrets all) (clusters_in line)) n ≡ has_guarded line g.key = marked_as by_secrets all n g (clusters_in line) distinct h in
+cause_as : (profile : Profile) (before : List Data) (line : Data) (n : ℕ) (g : Guarded) → slice_get (guarded_by (by_secrets profile) (before ++ line ∷ [])) n ≡ Some g
+    → (is_marked (map (place_at (by_secrets profile) (guarded_by (by_secrets profile) (before ++ line ∷ []))) (clusters_in profile line)) n
+    || not (was_by (λ (g : Guarded). is_complete profile before g.key) (guarded_by (by_secrets profile) before) n))
+    ≡ (has_guarded profile line g.key || not (is_complete profile before g.key))
+cause_as profile before line n g h =
+    let old : List Guarded = guarded_by (by_secrets profile) before in
+    let all : List Guarded = guarded_by (by_secrets profile) (before ++ line ∷ []) in
+    let f : Guarded → Bool = λ (x : Guarded). is_complete profile before x.key in
+    let extended : IsExtended old (each_once (flat_map (guarded_in (by_secrets profile)) before ++ guarded_in (by_secrets profile) line)) (guarded_in (by_secrets profile) line) = once_extends (flat_map (guarded_in (by_secrets profile)) before) (guarded_in (by_secrets profile) line) in
+    let grown : all ≡ old ++ extended.more = guarded-push (by_secrets profile) before line ∙ extended.grown in
+    let distinct : AreDistinct all = once_distinct (flat_map (guarded_in (by_secrets profile)) (before ++ line ∷ [])) in
+    let marked : is_marked (map (place_at (by_secrets profile) all) (clusters_in profile line)) n ≡ has_guarded profile line g.key = marked_as (by_secrets profile) all n g (clusters_in profile line) distinct h in
     let here : slice_get (old ++ extended.more) n ≡ Some g = subst (λ (gs : List Guarded). slice_get gs n ≡ Some g) grown h in
-    either_place old extended.more (guarded_in by_secrets line) n g f _ marked here extended.among (cases_lt n (length old))
+    either_place old extended.more (guarded_in (by_secrets profile) line) n g f _ marked here extended.among (cases_lt n (length old))
 
-given_true : (b : Bool) (line : Data) (name : List ℕ) → b ≡ true → gives_to name (flat_map values_in (heard_now b line)) ≡ gives_name line name
-given_true true line name h = ap (gives_to name) (append-nil (values_in line))
-given_true false line name h = absurd (cc)
+given_true : (profile : Profile) (b : Bool) (line : Data) (name : List ℕ) → b ≡ true → gives_to name (flat_map (values_in profile) (heard_now b line)) ≡ gives_name profile line name
+given_true profile true line name h = ap (gives_to name) (append-nil (values_in profile line))
+given_true profile false line name h = absurd (cc)
 
 -- what makes the marks of a look those of a line
-pub record AreMarksOf (before : List Data) (line : Data) (marks : Marks) : Type 0 where
-  pub stream : marks.connected ≡ stream_at (before ++ line ∷ [])
-  pub opening : marks.opened ≡ opens (front_of before line)
-  pub had : (n : ℕ) → marks.was n ≡ was_by (λ (g : Guarded). is_complete before g.key) (guarded_by by_secrets before) n
-  pub now : (n : ℕ) (g : Guarded) → slice_get (guarded_by by_secrets (before ++ line ∷ [])) n ≡ Some g → marks.now n ≡ is_complete (before ++ line ∷ []) g.key
-  pub marked : (n : ℕ) → marks.items n ≡ is_marked (map (place_at by_secrets (guarded_by by_secrets (before ++ line ∷ []))) (clusters_in line)) n
-  pub values : (name : List ℕ) → marks.given name ≡ gives_to name (flat_map values_in (heard_now (stream_at (before ++ line ∷ [])) line))
+pub record AreMarksOf (profile : Profile) (before : List Data) (line : Data) (marks : Marks) : Type 0 where
+  pub stream : marks.connected ≡ stream_at profile (before ++ line ∷ [])
+  pub opening : marks.opened ≡ opens profile (front_of before line)
+  pub had : (n : ℕ) → marks.was n ≡ was_by (λ (g : Guarded). is_complete profile before g.key) (guarded_by (by_secrets profile) before) n
+  pub now : (n : ℕ) (g : Guarded) → slice_get (guarded_by (by_secrets profile) (before ++ line ∷ [])) n ≡ Some g → marks.now n ≡ is_complete profile (before ++ line ∷ []) g.key
+  pub marked : (n : ℕ) → marks.items n ≡ is_marked (map (place_at (by_secrets profile) (guarded_by (by_secrets profile) (before ++ line ∷ []))) (clusters_in profile line)) n
+  pub values : (name : List ℕ) → marks.given name ≡ gives_to name (flat_map (values_in profile) (heard_now (stream_at profile (before ++ line ∷ [])) line))
 
-due_as : (before : List Data) (line : Data) (marks : Marks) (n : ℕ) (g : Guarded) → AreMarksOf before line marks
-    → slice_get (guarded_by by_secrets (before ++ line ∷ [])) n ≡ Some g → due_by marks (n, g) ≡ is_due (front_of before line) g
-due_as before line marks n g are at =
+due_as : (profile : Profile) (before : List Data) (line : Data) (marks : Marks) (n : ℕ) (g : Guarded) → AreMarksOf profile before line marks
+    → slice_get (guarded_by (by_secrets profile) (before ++ line ∷ [])) n ≡ Some g → due_by marks (n, g) ≡ is_due profile (front_of before line) g
+due_as profile before line marks n g are at =
     ap₂ (λ (s c : Bool). s && c && is_awake marks n g.key) are.stream (are.now n g at)
-    ∙ both_sides (stream_at (before ++ line ∷ [])) (is_complete (before ++ line ∷ []) g.key) _ _
+    ∙ both_sides (stream_at profile (before ++ line ∷ [])) (is_complete profile (before ++ line ∷ []) g.key) _ _
     (λ connected.
-    let cause = ap₂ (λ (i w : Bool). i || not w) (are.marked n) (are.had n) ∙ cause_as before line n g at in
+    let cause = ap₂ (λ (i w : Bool). i || not w) (are.marked n) (are.had n) ∙ cause_as profile before line n g at in
     ap (λ (o : Bool). o || marks.items n || not (marks.was n) || list_any marks.given (services_of g.key.cluster.discovery)) are.opening
-    ∙ joined (opens (front_of before line)) (marks.items n) (not (marks.was n)) _ (has_guarded line g.key) (not (is_complete before g.key)) (gives_endpoints line g.key) cause
-    (any_same marks.given (gives_name line) (services_of g.key.cluster.discovery) (λ name. are.values name ∙ given_true (stream_at (before ++ line ∷ [])) line name connected)))
+    ∙ joined (opens profile (front_of before line)) (marks.items n) (not (marks.was n)) _ (has_guarded profile line g.key) (not (is_complete profile before g.key)) (gives_endpoints profile line g.key) cause
+    (any_same marks.given (gives_name profile line) (services_of g.key.cluster.discovery) (λ name. are.values name ∙ given_true profile (stream_at profile (before ++ line ∷ [])) line name connected)))
 
 same_due : (m : ℕ) (gs : List Guarded) (p q : ℕ × Guarded → Bool) → ((i : ℕ) (g : Guarded) → slice_get gs i ≡ Some g → p (m + i, g) ≡ q (m + i, g)) → filter p (enumerate_from m gs) ≡ filter q (enumerate_from m gs)
 same_due m [] p q h = refl
@@ -182,60 +183,61 @@ same_due m (g ∷ gs) p q h =
     same_due (m + 1) gs p q (λ i x k. let e : m + suc i ≡ m + 1 + i = omega arith in subst (λ (j : ℕ). p (j, x) ≡ q (j, x)) e (h (suc i) x k)) in
     λ j. cond (first j) ((m, g) ∷ rest j) (rest j)
 
-endpoints_as : (lines : List Data) (values : Values) (discovery : Discovery) (g : Guarded) → ((name : List ℕ) → shown_value values name ≡ value_of lines name)
-    → endpoints_with values discovery g.own ≡ endpoints_by discovery lines g
-endpoints_as lines values (Static rows) g h = refl
-endpoints_as lines values (Eds service limited) g h = h service
+endpoints_as : (profile : Profile) (lines : List Data) (values : Values) (discovery : Discovery) (g : Guarded) → ((name : List ℕ) → shown_value values name ≡ value_of profile lines name)
+    → endpoints_with values discovery g.own ≡ endpoints_by profile discovery lines g
+endpoints_as profile lines values (Static rows) g h = refl
+endpoints_as profile lines values (Eds service limited fresh) g h = h service
+endpoints_as profile lines values Elsewhere g h = refl
 
 -- a look finds what is due at the line
-pub due_found : (before : List Data) (line : Data) (values : Values) (marks : Marks) (gs : List Guarded) → ((name : List ℕ) → shown_value values name ≡ value_of (before ++ line ∷ []) name)
-    → AreMarksOf before line marks → gs ≡ guarded_by by_secrets (before ++ line ∷ []) → due_among marks values (enumerate_from 0 gs) ≡ due_at tls_rules (front_of before line)
-due_found before line values marks gs k are kept =
-    let all : List Guarded = guarded_by by_secrets (before ++ line ∷ []) in
-    let P : ℕ × Guarded → Bool = λ (p : ℕ × Guarded). is_due (front_of before line) p.1 in
+pub due_found : (profile : Profile) (before : List Data) (line : Data) (values : Values) (marks : Marks) (gs : List Guarded) → ((name : List ℕ) → shown_value values name ≡ value_of profile (before ++ line ∷ []) name)
+    → AreMarksOf profile before line marks → gs ≡ guarded_by (by_secrets profile) (before ++ line ∷ []) → due_among marks values (enumerate_from 0 gs) ≡ due_at (tls_rules profile) (front_of before line)
+due_found profile before line values marks gs k are kept =
+    let all : List Guarded = guarded_by (by_secrets profile) (before ++ line ∷ []) in
+    let P : ℕ × Guarded → Bool = λ (p : ℕ × Guarded). is_due profile (front_of before line) p.1 in
     ap (λ (xs : List Guarded). due_among marks values (enumerate_from 0 xs)) kept
-    ∙ map_same (due_parts values) (λ (p : ℕ × Guarded). record { place = p.0; endpoints = endpoints_by p.1.key.cluster.discovery (before ++ line ∷ []) p.1 }) (filter (due_by marks) (enumerate_from 0 all))
-    (λ p. ap (λ (e : Option Data). record { place = p.0; endpoints = e }) (endpoints_as (before ++ line ∷ []) values p.1.key.cluster.discovery p.1 k))
-    ∙ ap (map (λ (p : ℕ × Guarded). record { place = p.0; endpoints = endpoints_by p.1.key.cluster.discovery (before ++ line ∷ []) p.1 }))
-    (same_due 0 all (due_by marks) P (λ i g at. let e : 0 + i ≡ i = omega arith in subst (λ (n : ℕ). due_by marks (n, g) ≡ is_due (front_of before line) g) (sym e) (due_as before line marks i g are at)))
+    ∙ map_same (due_parts values) (λ (p : ℕ × Guarded). record { place = p.0; endpoints = endpoints_by profile p.1.key.cluster.discovery (before ++ line ∷ []) p.1 }) (filter (due_by marks) (enumerate_from 0 all))
+    (λ p. ap (λ (e : Option Data). record { place = p.0; endpoints = e }) (endpoints_as profile (before ++ line ∷ []) values p.1.key.cluster.discovery p.1 k))
+    ∙ ap (map (λ (p : ℕ × Guarded). record { place = p.0; endpoints = endpoints_by profile p.1.key.cluster.discovery (before ++ line ∷ []) p.1 }))
+    (same_due 0 all (due_by marks) P (λ i g at. let e : 0 + i ≡ i = omega arith in subst (λ (n : ℕ). due_by marks (n, g) ≡ is_due profile (front_of before line) g) (sym e) (due_as profile before line marks i g are at)))
 
 -- what a test of what is complete says of a place, by what was reported
-pub was_as : (lines : List Data) (told : Told) (gs : List Guarded) (n : ℕ) → ((a : Awaited) → has_told told a ≡ is_told lines a)
-    → complete_at told gs n ≡ was_by (λ (g : Guarded). is_complete lines g.key) gs n
-was_as lines told gs n h = by (slice_get gs n)
+pub was_as : (profile : Profile) (lines : List Data) (told : Told) (gs : List Guarded) (n : ℕ) → ((a : Awaited) → has_told told a ≡ is_told profile lines a)
+    → complete_at told gs n ≡ was_by (λ (g : Guarded). is_complete profile lines g.key) gs n
+was_as profile lines told gs n h = by (slice_get gs n)
   where
-    by : (o : Option Guarded) → unwrap_or (option_map (completed told) o) false ≡ unwrap_or (option_map (λ (g : Guarded). is_complete lines g.key) o) false
+    by : (o : Option Guarded) → unwrap_or (option_map (completed told) o) false ≡ unwrap_or (option_map (λ (g : Guarded). is_complete profile lines g.key) o) false
     by None = refl
-    by (Some g) = completed_as lines told g h
+    by (Some g) = completed_as profile lines told g h
 
 -- what is guarded after one line more comes after the others
-pub guarded_grows : (before : List Data) (line : Data) (all : List Guarded) → all ≡ guarded_by by_secrets (before ++ line ∷ []) → Grows (guarded_by by_secrets before) all
-guarded_grows before line all kept =
-    let old : List Guarded = guarded_by by_secrets before in
-    let extended : IsExtended old (each_once (flat_map (guarded_in by_secrets) before ++ guarded_in by_secrets line)) (guarded_in by_secrets line) = once_extends (flat_map (guarded_in by_secrets) before) (guarded_in by_secrets line) in
-    let grown : all ≡ old ++ extended.more = kept ∙ guarded-push by_secrets before line ∙ extended.grown in
+pub guarded_grows : (profile : Profile) (before : List Data) (line : Data) (all : List Guarded) → all ≡ guarded_by (by_secrets profile) (before ++ line ∷ []) → Grows (guarded_by (by_secrets profile) before) all
+guarded_grows profile before line all kept =
+    let old : List Guarded = guarded_by (by_secrets profile) before in
+    let extended : IsExtended old (each_once (flat_map (guarded_in (by_secrets profile)) before ++ guarded_in (by_secrets profile) line)) (guarded_in (by_secrets profile) line) = once_extends (flat_map (guarded_in (by_secrets profile)) before) (guarded_in (by_secrets profile) line) in
+    let grown : all ≡ old ++ extended.more = kept ∙ guarded-push (by_secrets profile) before line ∙ extended.grown in
     record {
       longer = let l : length all ≡ length old + length extended.more = ap length grown ∙ length-append old extended.more in omega (arith, l);
       first = λ n within. ap (λ (xs : List Guarded). slice_get xs n) grown ∙ first_get old extended.more n within;
     }
 
 -- what is known after one line more, by what it reported and gave
-pub record Hears (before : List Data) (line : Data) (connected : Bool) (gave : List (List ℕ × Data)) (told : Told) (values : Values) : Type 0 where
-  pub stream : connected ≡ stream_at (before ++ line ∷ [])
-  pub given : gave ≡ flat_map values_in (heard_now (stream_at (before ++ line ∷ [])) line)
-  pub tells : (a : Awaited) → has_told told a ≡ is_told (before ++ line ∷ []) a
-  pub shows : (name : List ℕ) → shown_value values name ≡ value_of (before ++ line ∷ []) name
+pub record Hears (profile : Profile) (before : List Data) (line : Data) (connected : Bool) (gave : List (List ℕ × Data)) (told : Told) (values : Values) : Type 0 where
+  pub stream : connected ≡ stream_at profile (before ++ line ∷ [])
+  pub given : gave ≡ flat_map (values_in profile) (heard_now (stream_at profile (before ++ line ∷ [])) line)
+  pub tells : (a : Awaited) → has_told told a ≡ is_told profile (before ++ line ∷ []) a
+  pub shows : (name : List ℕ) → shown_value values name ≡ value_of profile (before ++ line ∷ []) name
 
-pub hears : (before : List Data) (line : Data) (s : Secrets) (event : Option Event) (connected : Bool) (heard : List Awaited) (gave : List (List ℕ × Data)) (told : Told) (values : Values)
-    → IsBehind s before → event ≡ event_of line → connected ≡ open_after s.connected event → heard ≡ flat_map told_by (heard_now connected line) → gave ≡ flat_map values_in (heard_now connected line)
-    → AddsAll s.told told heard → ((name : List ℕ) → shown_value values name ≡ later_value name (shown_value s.values name) gave) → Hears before line connected gave told values
-hears before line s event connected heard gave told values behind read opened telling giving adds later =
-    let stream : connected ≡ stream_at (before ++ line ∷ []) = opened ∙ (λ i. open_after (behind.stream i) (read i)) ∙ stream_now before line in
-    let said : heard ≡ flat_map told_by (heard_now (stream_at (before ++ line ∷ [])) line) = telling ∙ ap (λ (b : Bool). flat_map told_by (heard_now b line)) stream in
-    let given : gave ≡ flat_map values_in (heard_now (stream_at (before ++ line ∷ [])) line) = giving ∙ ap (λ (b : Bool). flat_map values_in (heard_now b line)) stream in
+pub hears : (profile : Profile) (before : List Data) (line : Data) (s : Secrets) (event : Option Event) (connected : Bool) (heard : List Awaited) (gave : List (List ℕ × Data)) (told : Told) (values : Values)
+    → IsBehind profile s before → event ≡ event_of profile line → connected ≡ open_after s.connected event → heard ≡ flat_map (told_by profile) (heard_now connected line) → gave ≡ flat_map (values_in profile) (heard_now connected line)
+    → AddsAll s.told told heard → ((name : List ℕ) → shown_value values name ≡ later_value name (shown_value s.values name) gave) → Hears profile before line connected gave told values
+hears profile before line s event connected heard gave told values behind read opened telling giving adds later =
+    let stream : connected ≡ stream_at profile (before ++ line ∷ []) = opened ∙ (λ i. open_after (behind.stream i) (read i)) ∙ stream_now profile before line in
+    let said : heard ≡ flat_map (told_by profile) (heard_now (stream_at profile (before ++ line ∷ [])) line) = telling ∙ ap (λ (b : Bool). flat_map (told_by profile) (heard_now b line)) stream in
+    let given : gave ≡ flat_map (values_in profile) (heard_now (stream_at profile (before ++ line ∷ [])) line) = giving ∙ ap (λ (b : Bool). flat_map (values_in profile) (heard_now b line)) stream in
     record {
       stream = stream;
       given = given;
-      tells = λ a. adds a ∙ (λ i. behind.told a i || list_any (awaited_same a) (said i)) ∙ sym (told_now before line a);
-      shows = λ name. later name ∙ (λ i. later_value name (behind.values name i) (given i)) ∙ sym (value_now before line name);
+      tells = λ a. adds a ∙ (λ i. behind.told a i || list_any (awaited_same a) (said i)) ∙ sym (told_now profile before line a);
+      shows = λ name. later name ∙ (λ i. later_value name (behind.values name i) (given i)) ∙ sym (value_now profile before line name);
     }

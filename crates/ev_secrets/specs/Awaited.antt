@@ -6,7 +6,7 @@ use Rattle.std.specs.Str.{bytes_eq}
 use Rattle.std.proofs.Common.{ap}
 use Rattle.ev_types.specs.Same.{decides_as, bytes_decide}
 use Rattle.ev_types.specs.declared.clusters.Discovery.{Discovery}
-use Rattle.ev_types.specs.declared.clusters.Discovery.TheVariants.{Static, Eds}
+use Rattle.ev_types.specs.declared.clusters.Discovery.TheVariants.{Static, Eds, Elsewhere}
 use Rattle.ev_expand.specs.declared.keys.Key.{Key}
 use Rattle.ev_secrets.specs.declared.awaited.Awaited.{Awaited}
 use Rattle.ev_secrets.specs.declared.awaited.Awaited.TheVariants.{Secret, Endpoints}
@@ -29,7 +29,8 @@ awaited_hash_input (Endpoints name) = fed.bool true ++ fed.str name
 -- the name by which a cluster's endpoints are asked for, where they are
 abbrev pub services_of : Discovery → List (List ℕ)
 services_of (Static rows) = []
-services_of (Eds service limited) = service ∷ []
+services_of (Eds service limited fresh) = service ∷ []
+services_of Elsewhere = []
 
 -- what the clusters of a key wait for: each secret that they name, and then their endpoints
 abbrev pub awaited_by : Key → List Awaited

@@ -7,7 +7,7 @@ use Rattle.std.specs.Str.{bytes_eq}
 use Rattle.indexmap.specs.IndexSet.{contains}
 use Rattle.serde_json.specs.Data.{Data}
 use Rattle.ev_types.specs.declared.clusters.Discovery.{Discovery}
-use Rattle.ev_types.specs.declared.clusters.Discovery.TheVariants.{Static, Eds}
+use Rattle.ev_types.specs.declared.clusters.Discovery.TheVariants.{Static, Eds, Elsewhere}
 use Rattle.ev_expand.specs.declared.keys.Key.{Key}
 use Rattle.ev_expand.specs.Following.{DueParts}
 use Rattle.ev_expand.specs.Guarding.{Guarded}
@@ -24,7 +24,8 @@ use Rattle.ev_secrets.specs.Waiting.{is_served}
 -- the endpoints of something guarded, by these values
 abbrev pub endpoints_with : Values → Discovery → Data → Option Data
 endpoints_with values (Static rows) own = Some own
-endpoints_with values (Eds service limited) own = shown_value values service
+endpoints_with values (Eds service limited fresh) own = shown_value values service
+endpoints_with values Elsewhere own = None
 
 -- What is known at a line: whether a stream is open, and was opened by the line, which places were complete before it, which are
 -- now, which have a guarded resource in it, and which names it gives a value.

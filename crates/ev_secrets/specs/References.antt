@@ -1,6 +1,6 @@
 -- The secrets that a cluster names: by `transport_socket` of Envoy's cluster, with the context of TLS towards upstream hosts, where
--- their values come by the secret discovery service.
-use Rattle.std.specs.Prelude.{ℕ, Bool, ◌==◌, List, [], ◌∷◌, ◌++◌, length, filter_map, Option, Some, None, if◌then◌else◌, codes}
+-- their values come by the secret discovery service. Of clusters whose hosts are names or are found elsewhere none is looked at.
+use Rattle.std.specs.Prelude.{ℕ, Bool, not, ◌&&◌, ◌||◌, ◌==◌, List, [], ◌∷◌, ◌++◌, length, filter_map, Option, Some, None, if◌then◌else◌, codes}
 use Rattle.std.specs.Str.{bytes_eq}
 use Rattle.serde_json.specs.Data.{Data, null, array, no_items}
 use Rattle.ev_types.specs.declared.contents.Kind.TheVariants.{Cds}
@@ -9,13 +9,15 @@ use Rattle.ev_types.specs.declared.contents.Body.TheVariants.{Good, Bad, Beat}
 use Rattle.ev_types.specs.declared.contents.Content.{Content}
 use Rattle.ev_types.specs.declared.contents.Content.TheVariants.{Cluster as a_cluster, Assignment as an_assignment, Listener as a_listener, Routes as routes}
 use Rattle.ev_types.specs.declared.clusters.Cluster.{Cluster}
+use Rattle.ev_types.specs.declared.events.Profile.{Profile}
 use Rattle.ev_tree.specs.declared.outcome.Found.{Found}
 use Rattle.ev_tree.specs.declared.outcome.Found.TheVariants.{Absent, Wrong, Given}
 use Rattle.ev_tree.specs.Forms.{is_given, given_or, inside, listed, field_of, text_of, object_of, list_of}
-use Rattle.ev_cluster_json.specs.Clusters.{load_assignment_of}
+use Rattle.ev_cluster_json.specs.Clusters.{has_custom_type, is_static, is_eds, load_assignment_of}
 use Rattle.ev_cluster_json.specs.Made.{name_in}
 use Rattle.ev_wire.specs.Responses.{item_of}
 use Rattle.ev_expand.specs.declared.keys.Key.{Key}
+use Rattle.ev_expand.specs.Keys.{key_with}
 use Rattle.ev_expand.specs.Guarding.{Guard, body_in}
 
 -- the type of the context of TLS towards upstream hosts
@@ -63,7 +65,7 @@ references_of body = filter_map secret_named (secret_configs (tls_context body))
 
 -- the key of a good cluster that names secrets
 abbrev pub cluster_key : Cluster → List (List ℕ) → Option Key
-cluster_key cluster names = if length names == 0 then None else Some (record { cluster = cluster; names = names })
+cluster_key cluster names = if length names == 0 then None else Some (key_with cluster names)
 
 abbrev pub content_key : Content → List (List ℕ) → Option Key
 content_key (a_cluster cluster) names = cluster_key cluster names
@@ -80,9 +82,18 @@ body_key Beat names = None
 abbrev pub endpoints_in : Data → Data
 endpoints_in assignment = given_or (array no_items) (field_of (codes "endpoints") assignment)
 
--- a resource is guarded where its body is good and names secrets. Of the first of a key its own endpoints are kept.
-abbrev pub by_secrets : Guard
-by_secrets = record {
-  key_of = λ entry. body_key (item_of Cds entry).body (references_of (body_in entry));
+-- the written type of a cluster is STATIC or EDS, and no custom type is given
+abbrev pub has_own_hosts : Data → Bool
+has_own_hosts body = not (has_custom_type body) && (is_static body || is_eds body)
+
+-- the key of a resource that is read as this body, where it is guarded
+abbrev pub key_by : Body → Data → Option Key
+key_by read body = if has_own_hosts body then body_key read (references_of body) else None
+
+-- A resource is guarded where its body is good, of such a type, and names secrets. Of the first of a key its own endpoints are kept.
+abbrev pub by_secrets : Profile → Guard
+by_secrets profile = record {
+  profile = profile;
+  key_of = λ entry. key_by (item_of profile Cds entry).body (body_in entry);
   own_of = λ entry. endpoints_in (load_assignment_of (body_in entry));
 }

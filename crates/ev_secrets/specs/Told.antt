@@ -13,6 +13,7 @@ use Rattle.ev_types.specs.declared.contents.Body.{Body}
 use Rattle.ev_types.specs.declared.contents.Body.TheVariants.{Good, Bad, Beat}
 use Rattle.ev_types.specs.declared.events.Event.{Event}
 use Rattle.ev_types.specs.declared.events.Event.TheVariants.{Response}
+use Rattle.ev_types.specs.declared.events.Profile.{Profile}
 use Rattle.ev_model.specs.Verdicts.{items_named, is_among}
 use Rattle.ev_tree.specs.Forms.{given_or, listed, text_of, list_of}
 use Rattle.ev_cluster_json.specs.Made.{name_in}
@@ -68,16 +69,16 @@ told_with (Some (Response response)) message = told_as response.kind response me
 told_with event message = []
 
 -- what comes with a line
-abbrev pub told_by : Data → List Awaited
-told_by line = told_with (event_of line) (message_of line)
+abbrev pub told_by : Profile → Data → List Awaited
+told_by profile line = told_with (event_of profile line) (message_of line)
 
 -- it has come in these lines, where a stream was open
-abbrev pub is_told : List Data → Awaited → Bool
-is_told lines awaited = list_any (awaited_same awaited) (flat_map told_by (heard lines))
+abbrev pub is_told : Profile → List Data → Awaited → Bool
+is_told profile lines awaited = list_any (awaited_same awaited) (flat_map (told_by profile) (heard profile lines))
 
 -- all that the clusters of the key wait for has come
-abbrev pub is_complete : List Data → Key → Bool
-is_complete lines key = list_all (is_told lines) (awaited_by key)
+abbrev pub is_complete : Profile → List Data → Key → Bool
+is_complete profile lines key = list_all (is_told profile lines) (awaited_by key)
 
 -- ---- values
 
@@ -93,38 +94,38 @@ gives_value response item =
     is_good item.body && not (nat_le 2 (length (items_named item.name response.items))) && not (is_among item.name response.removed)
 
 -- the value that it gives: its endpoints
-abbrev pub value_given : ResponseParts → Data → Option (List ℕ × Data)
-value_given response entry =
-    if gives_value response (item_of Eds entry) then Some ((item_of Eds entry).name, endpoints_in (body_in entry)) else None
+abbrev pub value_given : Profile → ResponseParts → Data → Option (List ℕ × Data)
+value_given profile response entry =
+    if gives_value response (item_of profile Eds entry) then Some ((item_of profile Eds entry).name, endpoints_in (body_in entry)) else None
 
 -- the values that these resources of a response give
-abbrev pub given_among : ResponseParts → List Data → List (List ℕ × Data)
-given_among response entries = filter_map (value_given response) entries
+abbrev pub given_among : Profile → ResponseParts → List Data → List (List ℕ × Data)
+given_among profile response entries = filter_map (value_given profile response) entries
 
 -- the values that a response of endpoints gives
-abbrev pub given_in : ResponseParts → Data → List (List ℕ × Data)
-given_in response message = given_among response (entries_of message)
+abbrev pub given_in : Profile → ResponseParts → Data → List (List ℕ × Data)
+given_in profile response message = given_among profile response (entries_of message)
 
-abbrev pub given_as : Option Kind → ResponseParts → Data → List (List ℕ × Data)
-given_as (Some Eds) response message = given_in response message
-given_as kind response message = []
+abbrev pub given_as : Profile → Option Kind → ResponseParts → Data → List (List ℕ × Data)
+given_as profile (Some Eds) response message = given_in profile response message
+given_as profile kind response message = []
 
-abbrev pub given_with : Option Event → Data → List (List ℕ × Data)
-given_with (Some (Response response)) message = given_as response.kind response message
-given_with event message = []
+abbrev pub given_with : Profile → Option Event → Data → List (List ℕ × Data)
+given_with profile (Some (Response response)) message = given_as profile response.kind response message
+given_with profile event message = []
 
 -- what a value with its name shows
 abbrev pub value_shown : List ℕ × Value → List ℕ × Data
 value_shown value = (value.0, view value.1)
 
 -- the values that a line gives, by name
-abbrev pub values_in : Data → List (List ℕ × Data)
-values_in line = given_with (event_of line) (message_of line)
+abbrev pub values_in : Profile → Data → List (List ℕ × Data)
+values_in profile line = given_with profile (event_of profile line) (message_of line)
 
 -- the last value of a name among these
 abbrev pub last_value : List ℕ → List (List ℕ × Data) → Option Data
 last_value name values = last_or None (map (λ (v : List ℕ × Data). v.1) (filter (λ (v : List ℕ × Data). bytes_eq v.0 name) values))
 
 -- the value of a name: the last one that was given where a stream was open
-abbrev pub value_of : List Data → List ℕ → Option Data
-value_of lines name = last_value name (flat_map values_in (heard lines))
+abbrev pub value_of : Profile → List Data → List ℕ → Option Data
+value_of profile lines name = last_value name (flat_map (values_in profile) (heard profile lines))

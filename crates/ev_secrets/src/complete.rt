@@ -12,7 +12,7 @@ ghost use Rattle.ev_secrets.specs.Waiting.{AreComplete, EntersAll, EntersOne, Ke
 use crate::awaited::Awaited;
 use crate::places::Places;
 use ev_expand::Numbers;
-use ev_types::{Discovery, TryCopy};
+use ev_types::{Discovery, Name, TryCopy};
 use indexmap::IndexSet;
 use std::alloc::{AllocError, Global};
 
@@ -73,9 +73,23 @@ fn serve(
     ensures kept { OnOk result (KeepsUnder served.old served.new) }
     ensures served { OnOk result (is_served served.new place discovery.now ≡ true) }
 {
-    let Discovery::Eds { service, .. } = discovery else {
-        return Ok(());
-    };
+    match discovery {
+        Discovery::Eds { service, .. } => serve_by(alloc, served, service, place),
+        Discovery::Static(_) => Ok(()),
+        Discovery::Elsewhere => Ok(()),
+    }
+}
+
+// Puts a place under endpoints of this name.
+fn serve_by(
+    alloc: Global,
+    served: &mut Places,
+    service: &Name,
+    place: usize,
+) -> Result<(), AllocError>
+    ensures kept { OnOk result (KeepsUnder served.old served.new) }
+    ensures served { OnOk result (stands_under served.new (Endpoints service.now) place ≡ true) }
+{
     let endpoints = Awaited::Endpoints(service.copy(alloc)?);
     served.put(alloc, &endpoints, place)
 }

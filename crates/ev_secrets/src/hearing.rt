@@ -7,7 +7,7 @@ ghost use Rattle.ev_secrets.specs.Told.{told_by, values_in, value_shown};
 use crate::awaited::Awaited;
 use crate::told::told_by;
 use crate::values::values_in;
-use ev_types::{Event, Name};
+use ev_types::{Event, Name, Profile};
 use serde_json::Value;
 use std::alloc::{AllocError, Global};
 
@@ -21,14 +21,15 @@ pub(crate) struct News {
 // What comes with a line, and the values that it gives, where a stream is open.
 pub(crate) fn hear(
     alloc: Global,
+    profile: Profile,
     connected: bool,
     line: &Value,
     event: &Option<Event>,
 ) -> Result<News, AllocError>
-    requires { event.now ≡ event_of (view line.now) }
-    ensures told { IfOk result (λ news. news.told.items ≡ flat_map told_by (heard_now connected (view line.now))) }
+    requires { event.now ≡ event_of profile (view line.now) }
+    ensures told { IfOk result (λ news. news.told.items ≡ flat_map (told_by profile) (heard_now connected (view line.now))) }
     ensures values { IfOk result (λ news. map value_shown news.values.items
-        ≡ flat_map values_in (heard_now connected (view line.now))) }
+        ≡ flat_map (values_in profile) (heard_now connected (view line.now))) }
 {
     if !connected {
         return Ok(News {
@@ -37,8 +38,8 @@ pub(crate) fn hear(
         });
     }
     Ok(News {
-        told: told_by(alloc, line, event)?,
-        values: values_in(alloc, line, event)?,
+        told: told_by(alloc, profile, line, event)?,
+        values: values_in(alloc, profile, line, event)?,
     })
 }
 

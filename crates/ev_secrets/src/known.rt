@@ -1,4 +1,4 @@
-ghost use Rattle.std.specs.Prelude.{◌≡◌, ℕ, List, map, take, false, true, None, option_map, IfOk, OnOk};
+ghost use Rattle.std.specs.Prelude.{◌≡◌, ◌∷◌, [], ℕ, List, map, take, false, true, None, option_map, IfOk, OnOk};
 ghost use Rattle.serde_json.specs.View.{view};
 ghost use Rattle.ev_mentions.specs.Mentions.{Puts};
 ghost use Rattle.ev_secrets.specs.declared.awaited.Awaited.{Awaited};
@@ -88,9 +88,21 @@ impl Told {
     ) -> Result<Option<Awaited>, AllocError>
         ensures { IfOk result (λ next. next ≡ first_untold self.now (map Endpoints (services_of discovery.now))) }
     {
-        let Discovery::Eds { service, .. } = discovery else {
-            return Ok(None);
-        };
+        match discovery {
+            Discovery::Eds { service, .. } => self.next_endpoints(alloc, service),
+            Discovery::Static(_) => Ok(None),
+            Discovery::Elsewhere => Ok(None),
+        }
+    }
+
+    // The endpoints of this name, where they haven't come.
+    fn next_endpoints(
+        &self,
+        alloc: Global,
+        service: &Name,
+    ) -> Result<Option<Awaited>, AllocError>
+        ensures { IfOk result (λ next. next ≡ first_untold self.now (Endpoints service.now ∷ [])) }
+    {
         if self.endpoints.contains(service) {
             return Ok(None);
         }

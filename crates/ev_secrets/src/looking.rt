@@ -163,6 +163,7 @@ fn gives_to(given: &IndexSet<Name>, discovery: &Discovery) -> bool
     match discovery {
         Discovery::Static(_) => false,
         Discovery::Eds { service, .. } => given.contains(service),
+        Discovery::Elsewhere => false,
     }
 }
 
@@ -177,6 +178,7 @@ fn endpoints_with(
     match discovery {
         Discovery::Static(_) => Ok(Some(own.clone()?)),
         Discovery::Eds { service, .. } => copy_of(values.get(service)),
+        Discovery::Elsewhere => Ok(None),
     }
 }
 

@@ -5,14 +5,20 @@ ghost use Rattle.serde_json.specs.View.{view};
 ghost use Rattle.ev_tree.specs.Forms.{tree_of, found_map, given_or, inside, object_of};
 ghost use Rattle.ev_cluster_json.specs.Clusters.{load_assignment_of};
 ghost use Rattle.ev_expand.specs.Guarding.{body_in};
-ghost use Rattle.ev_secrets.specs.References.{socket_config, is_tls, context_in, tls_context, own_name, secret_named, given_list, references_of, endpoints_in, cluster_key, content_key, body_key};
+ghost use Rattle.ev_secrets.specs.References.{socket_config, is_tls, context_in, tls_context, own_name, secret_named, given_list, references_of, endpoints_in, cluster_key, content_key, body_key, has_own_hosts, key_by};
 
 use crate::names::make_name;
 use ev_expand::Key;
-use ev_tree::{Found, member};
-use ev_types::{Body, Cluster, Content, Name, Seq, TryCopy};
+use ev_tree::{EnumTable, Found, member};
+use ev_types::{Body, Cluster, Content, Name, Seq};
 use serde_json::Value;
 use std::alloc::{AllocError, Global};
+
+/// The number of the type STATIC, which a cluster has where none is given.
+const STATIC: u32 = 0;
+
+/// The number of the type EDS.
+const EDS: u32 = 3;
 
 /// The type of the context of TLS towards upstream hosts.
 const UPSTREAM_TLS: &str =
@@ -92,7 +98,7 @@ fn secret_named(alloc: Global, config: &Value) -> Result<Option<Name>, AllocErro
 }
 
 // The secrets that a cluster names, by its body.
-pub(crate) fn references_of(alloc: Global, body: Option<&Value>) -> Result<Vec<Name>, AllocError>
+fn references_of(alloc: Global, body: Option<&Value>) -> Result<Vec<Name>, AllocError>
     ensures { IfOk result (λ names. names.items ≡ references_of (tree_of body.entry)) }
 {
     let context = tls_context(alloc, body)?;
@@ -170,8 +176,33 @@ fn value_or_none(alloc: Global, found: Found<&Value>) -> Result<Value, AllocErro
     }
 }
 
+// The key of a resource of this body, which is read as this, where it is guarded.
+pub(crate) fn key_by(
+    alloc: Global,
+    read: &Body,
+    body: Option<&Value>,
+) -> Result<Option<Key>, AllocError>
+    ensures { IfOk result (λ key. key ≡ key_by read.now (tree_of body.entry)) }
+{
+    if !has_own_hosts(alloc, body)? {
+        return Ok(None);
+    }
+    body_key(alloc, read, references_of(alloc, body)?)
+}
+
+// Whether the written type of a cluster is STATIC or EDS, and no custom type is given.
+#[tactic(auto, unfolding(ev_cluster_json::specs::Clusters::type_of))]
+fn has_own_hosts(alloc: Global, body: Option<&Value>) -> Result<bool, AllocError>
+    ensures { IfOk result (λ has. has ≡ has_own_hosts (tree_of body.entry)) }
+{
+    let custom = member::object(alloc, body, "cluster_type")?;
+    let kind = member::enumeration(alloc, body, "type", EnumTable::Discovery)?;
+    let number = kind.given_or(STATIC);
+    Ok(!custom.is_given() && (number == STATIC || number == EDS))
+}
+
 // The key of a good cluster that names secrets.
-pub(crate) fn body_key(
+fn body_key(
     alloc: Global,
     body: &Body,
     names: Vec<Name>,
@@ -210,8 +241,5 @@ fn cluster_key(
     if names.len() == 0 {
         return Ok(None);
     }
-    Ok(Some(Key {
-        cluster: cluster.copy(alloc)?,
-        names: Seq::from_vec(names),
-    }))
+    Ok(Some(Key::of(alloc, cluster, Seq::from_vec(names))?))
 }

@@ -7,15 +7,16 @@ ghost use Rattle.ev_secrets.specs.Looking.{AreMarks};
 ghost use Rattle.ev_secrets.specs.Marking.{GainsPlaces, is_marked, is_place};
 ghost use Rattle.ev_secrets.specs.Sealing.{tls_rules};
 ghost use Rattle.ev_secrets.specs.State.{IsBehind};
+ghost use Rattle.ev_types.specs.declared.events.Profile.{Profile};
 
 use crate::complete::{Complete, insert_place};
 use crate::hearing::{News, hear, is_quiet, open_after};
 use crate::known::{Told, Values};
 use crate::looking::{Marked, look};
-use crate::references::{body_in, body_key, own_endpoints, references_of};
+use crate::references::{body_in, key_by, own_endpoints};
 use crate::waiting::Waiting;
 use ev_expand::{Due, ExpandError, Expansion, Key, Numbers, expand_with};
-use ev_types::{Event, Item, Name};
+use ev_types::{Event, Item, Name, Profile};
 use indexmap::IndexSet;
 use serde_json::Value;
 use std::alloc::{AllocError, Global};
@@ -38,7 +39,7 @@ pub(crate) struct Secrets {
 impl Secrets {
     // Nothing is known. It takes no memory.
     pub(crate) fn new(alloc: Global) -> Secrets
-        ensures { IsBehind result [] }
+        ensures { (profile : Profile) → IsBehind profile result [] }
     {
         Secrets {
             connected: false,
@@ -51,10 +52,13 @@ impl Secrets {
 }
 
 impl Expansion for Secrets {
+    ghost use Rattle.std.proofs.Common.{refl};
     ghost use Rattle.ev_secrets.specs.Sealing.{tls_rules};
     ghost use Rattle.ev_secrets.specs.State.{IsBehind};
 
     ghost rules = { tls_rules };
+
+    ghost reads = { λ profile. refl };
 
     ghost is_behind = { IsBehind };
 
@@ -70,17 +74,24 @@ impl Expansion for Secrets {
         true
     }
 
-    fn key(&self, alloc: Global, item: &Item, entry: &Value) -> Result<Option<Key>, AllocError> {
-        body_key(alloc, &item.body, references_of(alloc, body_in(entry))?)
+    fn key(
+        &self,
+        alloc: Global,
+        _profile: Profile,
+        item: &Item,
+        entry: &Value,
+    ) -> Result<Option<Key>, AllocError> {
+        key_by(alloc, &item.body, body_in(entry))
     }
 
-    fn own(&self, alloc: Global, entry: &Value) -> Result<Value, AllocError> {
+    fn own(&self, alloc: Global, _profile: Profile, entry: &Value) -> Result<Value, AllocError> {
         own_endpoints(alloc, body_in(entry))
     }
 
     fn due(
         &mut self,
         alloc: Global,
+        profile: Profile,
         line: &Value,
         event: &Option<Event>,
         numbers: &Numbers,
@@ -91,7 +102,7 @@ impl Expansion for Secrets {
         }
         let was_open = self.connected;
         self.connected = open_after(was_open, event);
-        let News { told, values } = hear(alloc, self.connected, line, event)?;
+        let News { told, values } = hear(alloc, profile, self.connected, line, event)?;
         let finished = self.waiting.go_on(alloc, &mut self.told, told, numbers)?;
         let given = self.values.take_all(alloc, values)?;
         let marks = marks(alloc, was_open, self.connected, finished, items, given)?;
@@ -143,14 +154,19 @@ fn put_place(set: &mut IndexSet<usize>, item: Option<usize>) -> Result<(), Alloc
     }
 }
 
-/// The text of a script whose clusters wait for their secrets, by its header and its lines.
+/// The text of a script whose clusters wait for their secrets, by its header and its lines, which are read by this profile.
 ///
 /// # Errors
 /// `Private` exactly for the first line that uses a name that begins with `tls/` for endpoints. `Large` where there is none,
 /// exactly for the line with whose output the text goes above a limit of inputs. `OutOfMemory` where memory runs out, and for 2^32
 /// lines and more.
-pub fn expand(alloc: Global, head: &Value, lines: &[Value]) -> Result<Vec<u8>, ExpandError>
-    ensures { IsExpanded tls_rules (view head.now) (map view lines.now) result }
+pub fn expand(
+    alloc: Global,
+    profile: Profile,
+    head: &Value,
+    lines: &[Value],
+) -> Result<Vec<u8>, ExpandError>
+    ensures { IsExpanded (tls_rules profile) (view head.now) (map view lines.now) result }
 {
-    expand_with(alloc, Secrets::new(alloc), head, lines)
+    expand_with(alloc, profile, Secrets::new(alloc), head, lines)
 }

@@ -12,7 +12,7 @@ use crate::names::{make_name, push_name};
 use crate::references::own_name;
 use ev_expand::message_of;
 use ev_tree::member;
-use ev_types::{Body, Event, Item, Kind, Name, Response, Text};
+use ev_types::{Body, Event, Item, Kind, Name, Profile, Response, Text};
 use serde_json::Value;
 use std::alloc::{AllocError, Global};
 
@@ -22,11 +22,12 @@ const SECRETS: &str = "type.googleapis.com/envoy.extensions.transport_sockets.tl
 // What comes with a line. The event is what it is read as.
 pub(crate) fn told_by(
     alloc: Global,
+    profile: Profile,
     line: &Value,
     event: &Option<Event>,
 ) -> Result<Vec<Awaited>, AllocError>
-    requires { event.now ≡ event_of (view line.now) }
-    ensures { IfOk result (λ told. told.items ≡ told_by (view line.now)) }
+    requires { event.now ≡ event_of profile (view line.now) }
+    ensures { IfOk result (λ told. told.items ≡ told_by profile (view line.now)) }
 {
     match event {
         Some(Event::Response(response)) => told_as(alloc, response, message_of(line)),

@@ -11,66 +11,70 @@ use crate::references::{body_in, endpoints_in};
 use ev_expand::message_of;
 use ev_mentions::Mentions;
 use ev_tree::member;
-use ev_types::{Body, Event, Item, Kind, Name, Response};
+use ev_types::{Body, Event, Item, Kind, Name, Profile, Response};
 use serde_json::Value;
 use std::alloc::{AllocError, Global};
 
 // The values that a line gives, by name. The event is what the line is read as.
 pub(crate) fn values_in(
     alloc: Global,
+    profile: Profile,
     line: &Value,
     event: &Option<Event>,
 ) -> Result<Vec<(Name, Value)>, AllocError>
-    requires { event.now ≡ event_of (view line.now) }
-    ensures { IfOk result (λ values. map value_shown values.items ≡ values_in (view line.now)) }
+    requires { event.now ≡ event_of profile (view line.now) }
+    ensures { IfOk result (λ values. map value_shown values.items ≡ values_in profile (view line.now)) }
 {
     match event {
-        Some(event) => event_values(alloc, line, event),
+        Some(event) => event_values(alloc, profile, line, event),
         None => Ok(Vec::new(alloc)),
     }
 }
 
 fn event_values(
     alloc: Global,
+    profile: Profile,
     line: &Value,
     event: &Event,
 ) -> Result<Vec<(Name, Value)>, AllocError>
-    requires { event_of (view line.now) ≡ Some event.now }
-    ensures { IfOk result (λ values. map value_shown values.items ≡ values_in (view line.now)) }
+    requires { event_of profile (view line.now) ≡ Some event.now }
+    ensures { IfOk result (λ values. map value_shown values.items ≡ values_in profile (view line.now)) }
 {
     match event {
-        Event::Response(response) => response_values(alloc, line, response),
+        Event::Response(response) => response_values(alloc, profile, line, response),
         _ => Ok(Vec::new(alloc)),
     }
 }
 
 fn response_values(
     alloc: Global,
+    profile: Profile,
     line: &Value,
     response: &Response,
 ) -> Result<Vec<(Name, Value)>, AllocError>
-    requires { event_of (view line.now) ≡ Some (a_response response.now) }
-    ensures { IfOk result (λ values. map value_shown values.items ≡ values_in (view line.now)) }
+    requires { event_of profile (view line.now) ≡ Some (a_response response.now) }
+    ensures { IfOk result (λ values. map value_shown values.items ≡ values_in profile (view line.now)) }
 {
     match response.kind {
-        Some(kind) => kind_values(alloc, line, response, kind),
+        Some(kind) => kind_values(alloc, profile, line, response, kind),
         None => Ok(Vec::new(alloc)),
     }
 }
 
 fn kind_values(
     alloc: Global,
+    profile: Profile,
     line: &Value,
     response: &Response,
     kind: Kind,
 ) -> Result<Vec<(Name, Value)>, AllocError>
-    requires event { event_of (view line.now) ≡ Some (a_response response.now) }
+    requires event { event_of profile (view line.now) ≡ Some (a_response response.now) }
     requires kind { response.now.kind ≡ Some kind }
-    ensures { IfOk result (λ values. map value_shown values.items ≡ values_in (view line.now)) }
+    ensures { IfOk result (λ values. map value_shown values.items ≡ values_in profile (view line.now)) }
 {
     match kind {
         Kind::Cds => Ok(Vec::new(alloc)),
-        Kind::Eds => endpoint_values(alloc, response, message_of(line)),
+        Kind::Eds => endpoint_values(alloc, profile, response, message_of(line)),
         Kind::Lds => Ok(Vec::new(alloc)),
         Kind::Rds => Ok(Vec::new(alloc)),
     }
@@ -79,15 +83,16 @@ fn kind_values(
 // The values that a response of endpoints gives.
 fn endpoint_values(
     alloc: Global,
+    profile: Profile,
     response: &Response,
     message: Option<&Value>,
 ) -> Result<Vec<(Name, Value)>, AllocError>
-    requires { response.now.items ≡ map (item_of Eds) (entries_of (tree_of message)) }
-    ensures { IfOk result (λ values. map value_shown values.items ≡ given_in response.now (tree_of message.entry)) }
+    requires { response.now.items ≡ map (item_of profile Eds) (entries_of (tree_of message)) }
+    ensures { IfOk result (λ values. map value_shown values.items ≡ given_in profile response.now (tree_of message.entry)) }
 {
     let entries = entries_of(alloc, message)?;
     let mentions = Mentions::of(alloc, response)?;
-    entry_values(alloc, &mentions, items_of(response), entries)
+    entry_values(alloc, profile, &mentions, items_of(response), entries)
 }
 
 // The resources of a message.
@@ -108,16 +113,17 @@ fn items_of(response: &Response) -> &[Item]
 // The values of these resources, which are read as these.
 fn entry_values(
     alloc: Global,
+    profile: Profile,
     mentions: &Mentions<'_>,
     items: &[Item],
     entries: &[Value],
 ) -> Result<Vec<(Name, Value)>, AllocError>
-    requires { items.now ≡ map (item_of Eds) (map view entries.now) }
-    ensures { IfOk result (λ values. map value_shown values.items ≡ given_among mentions.now (map view entries.now)) }
+    requires { items.now ≡ map (item_of profile Eds) (map view entries.now) }
+    ensures { IfOk result (λ values. map value_shown values.items ≡ given_among profile mentions.now (map view entries.now)) }
 {
     let mut values = Vec::new(alloc);
     for (index, entry) in entries.iter().enumerate() {
-        push_value(alloc, &mut values, mentions, &items[index], entry)?;
+        push_value(alloc, profile, &mut values, mentions, &items[index], entry)?;
     }
     Ok(values)
 }
@@ -125,14 +131,15 @@ fn entry_values(
 // Appends the value that a resource gives to these, where it gives one.
 fn push_value(
     alloc: Global,
+    profile: Profile,
     values: &mut Vec<(Name, Value)>,
     mentions: &Mentions<'_>,
     item: &Item,
     entry: &Value,
 ) -> Result<(), AllocError>
-    requires { item.now ≡ item_of Eds (view entry.now) }
+    requires { item.now ≡ item_of profile Eds (view entry.now) }
     ensures { OnOk result (map value_shown values.new.items
-        ≡ map value_shown values.old.items ++ option_to_list (value_given mentions.now (view entry.now))) }
+        ≡ map value_shown values.old.items ++ option_to_list (value_given profile mentions.now (view entry.now))) }
 {
     if !gives_value(mentions, item) {
         return Ok(());

@@ -7,9 +7,9 @@ use Rattle.ev_secrets.proofs.PushLemmas.{given_more, read_at}
 use Rattle.ev_secrets.proofs.values.entry_values.Goals as goal
 
 pub push_value-requires : goal.push_value-requires
-push_value-requires c = read_at (item_of Eds) view c.args.items.now c.args.entries.now c.loop-index.index _ _ c.requires c.loop-index-test.true c.index-items-index.is c.index-entries-index.is
+push_value-requires c = read_at (item_of c.args.profile Eds) view c.args.items.now c.args.entries.now c.loop-index.index _ _ c.requires c.loop-index-test.true c.index-items-index.is c.index-entries-index.is
 
 pub loop-index-preserved : goal.loop-index-preserved
 loop-index-preserved c =
-    given_more view (value_given c.args.mentions.now) c.args.entries.now c.loop-index.index c.index-entries-index.result [] (map value_shown c.loop-index.values.items) _ c.loop-index-test.true c.index-entries-index.is
+    given_more view (value_given c.args.profile c.args.mentions.now) c.args.entries.now c.loop-index.index c.index-entries-index.result [] (map value_shown c.loop-index.values.items) _ c.loop-index-test.true c.index-entries-index.is
     c.loop-index.invariant c.in_ok-push_value.ensures

@@ -9,5 +9,5 @@ use Rattle.ev_secrets.proofs.values.kind_values.Goals as goal
 
 pub endpoint_values-requires : goal.endpoint_values-requires
 endpoint_values-requires c =
-    items_read (view c.args.line.now) c.args.response.now Eds c.requires.event (c.requires.kind ∙ ap (λ (k : Kind). Some k) c.in-Eds.is)
-    ∙ ap (λ (message : Data). map (item_of Eds) (entries_of message)) (sym c.message_of.ensures)
+    items_read c.args.profile (view c.args.line.now) c.args.response.now Eds c.requires.event (c.requires.kind ∙ ap (λ (k : Kind). Some k) c.in-Eds.is)
+    ∙ ap (λ (message : Data). map (item_of c.args.profile Eds) (entries_of message)) (sym c.message_of.ensures)

@@ -15,5 +15,5 @@ returns-clause-due c = λ before behind kept.
     IfOk-weaker c.find_due.result _ _
     (λ due h. h
     ∙ ap (λ (gs : List Guarded). due_found s.answers gs s.connected c.args.self.now.connected (contains nat_cmp c.in_ok-touched.touched) (contains nat_cmp s.complete.places)) kept
-    ∙ due_now before (view c.args.line.now) s.answers s.complete c.in_ok-touched.touched s.connected c.args.self.now.connected now.stream behind.stream now.answers now.complete touched)
+    ∙ due_now c.args.profile before (view c.args.line.now) s.answers s.complete c.in_ok-touched.touched s.connected c.args.self.now.connected now.stream behind.stream now.answers now.complete touched)
     c.find_due.ensures.due

@@ -2,7 +2,7 @@ use Rattle.std.proofs.Common.{refl}
 use Rattle.ev_secrets.proofs.secrets.Secrets.new.Goals as goal
 
 pub returns : goal.returns
-returns c = record {
+returns c = λ profile. record {
   stream = refl;
   told = c.new.ensures;
   values = c.new-2.ensures;
