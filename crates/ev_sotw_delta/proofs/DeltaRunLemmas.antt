@@ -11,6 +11,8 @@ use Rattle.ev_types.specs.declared.events.Actor.TheVariants.{Stream}
 use Rattle.ev_types.specs.declared.events.Event.{Event}
 use Rattle.ev_types.specs.declared.events.Event.TheVariants.{Connect, Disconnect, Response, Health, FetchTimeout, DrainTimeout, TtlExpired, Publish, Reap, Accept, Close, Settle}
 use Rattle.ev_types.specs.declared.events.Line.{Line}
+use Rattle.ev_types.specs.declared.events.Profile.{Profile}
+use Rattle.ev_script.specs.declared.forms.Settings.{Settings}
 use Rattle.ev_model.specs.Verdicts.{is_among}
 use Rattle.ev_names.proofs.NameLemmas.{among_sorted, among_other}
 use Rattle.ev_script.specs.Members.{is_op}
@@ -46,53 +48,53 @@ pub record Agrees (heard : Heard) (names : NamesSoFar) : Type 0 where
 -- ---- responses
 
 -- the items have the names of the resources
-told_items : (kind : Kind) (response : DiscoveryParts) (removed : List (List ℕ)) (name : List ℕ) → IsDiscovery response
-    → has_item (told_with (Some kind) response removed) name ≡ is_among name (names_in kind response)
-told_items kind response removed name is = by response.resources ∙ sym (among_sorted (map (resource_name kind) response.resources) name)
+told_items : (profile : Profile) (kind : Kind) (response : DiscoveryParts) (removed : List (List ℕ)) (name : List ℕ) → IsDiscovery response
+    → has_item (told_with profile (Some kind) response removed) name ≡ is_among name (names_in kind response)
+told_items profile kind response removed name is = by response.resources ∙ sym (among_sorted (map (resource_name kind) response.resources) name)
   where
-    by : (resources : List Data) → list_any (λ (item : ItemParts). bytes_eq item.name name) (map (item_told kind response.version) resources) ≡ is_among name (map (resource_name kind) resources)
+    by : (resources : List Data) → list_any (λ (item : ItemParts). bytes_eq item.name name) (map (item_told profile kind response.version) resources) ≡ is_among name (map (resource_name kind) resources)
     by [] = refl
-    by (resource ∷ resources) = λ i. bytes_eq ((read_so response [] is).named kind resource i) name || by resources i
+    by (resource ∷ resources) = λ i. bytes_eq ((read_so profile response [] is).named kind resource i) name || by resources i
 
-respond_fits : (found : Option Kind) (response : DiscoveryParts) (removed : List (List ℕ)) (heard : Heard) (names : NamesSoFar) → Agrees heard names → IsDiscovery response
-    → removed ≡ removed_by_kind found names response → FitsKind (told_with found response removed).kind (told_with found response removed) heard
-respond_fits None response removed heard names agrees is gone = tt
-respond_fits (Some Cds) response removed heard names agrees is gone = λ name there none.
-    removed_so (told_with (Some Cds) response removed) name
+respond_fits : (profile : Profile) (found : Option Kind) (response : DiscoveryParts) (removed : List (List ℕ)) (heard : Heard) (names : NamesSoFar) → Agrees heard names → IsDiscovery response
+    → removed ≡ removed_by_kind found names response → FitsKind (told_with profile found response removed).kind (told_with profile found response removed) heard
+respond_fits profile None response removed heard names agrees is gone = tt
+respond_fits profile (Some Cds) response removed heard names agrees is gone = λ name there none.
+    removed_so (told_with profile (Some Cds) response removed) name
     (ap (is_among name) gone ∙ among_other (names_in Cds response) names.clusters name
-    ∙ (λ i. (sym (agrees.clusters name) ∙ there) i && not ((sym (told_items Cds response removed name is) ∙ none) i))) none
-respond_fits (Some Eds) response removed heard names agrees is gone = gone
-respond_fits (Some Lds) response removed heard names agrees is gone = λ name there none.
-    removed_so (told_with (Some Lds) response removed) name
+    ∙ (λ i. (sym (agrees.clusters name) ∙ there) i && not ((sym (told_items profile Cds response removed name is) ∙ none) i))) none
+respond_fits profile (Some Eds) response removed heard names agrees is gone = gone
+respond_fits profile (Some Lds) response removed heard names agrees is gone = λ name there none.
+    removed_so (told_with profile (Some Lds) response removed) name
     (ap (is_among name) gone ∙ among_other (names_in Lds response) names.listeners name
-    ∙ (λ i. (sym (agrees.listeners name) ∙ there) i && not ((sym (told_items Lds response removed name is) ∙ none) i))) none
-respond_fits (Some Rds) response removed heard names agrees is gone = gone
+    ∙ (λ i. (sym (agrees.listeners name) ∙ there) i && not ((sym (told_items profile Lds response removed name is) ∙ none) i))) none
+respond_fits profile (Some Rds) response removed heard names agrees is gone = gone
 
-names_turn : (kind : Kind) (response : DiscoveryParts) (removed : List (List ℕ)) (name : List ℕ) (connected : Bool) (old new : List (List ℕ)) → IsDiscovery response
+names_turn : (profile : Profile) (kind : Kind) (response : DiscoveryParts) (removed : List (List ℕ)) (name : List ℕ) (connected : Bool) (old new : List (List ℕ)) → IsDiscovery response
     → is_among name old ≡ is_among name new
-    → is_among name (cond connected (item_names (told_with (Some kind) response removed)) old) ≡ is_among name (cond connected (names_in kind response) new)
-names_turn kind response removed name true old new is same = among_items (told_with (Some kind) response removed) name ∙ told_items kind response removed name is
-names_turn kind response removed name false old new is same = same
+    → is_among name (cond connected (item_names (told_with profile (Some kind) response removed)) old) ≡ is_among name (cond connected (names_in kind response) new)
+names_turn profile kind response removed name true old new is same = among_items (told_with profile (Some kind) response removed) name ∙ told_items profile kind response removed name is
+names_turn profile kind response removed name false old new is same = same
 
-respond_agrees : (found : Option Kind) (response : DiscoveryParts) (removed : List (List ℕ)) (heard : Heard) (names : NamesSoFar) → Agrees heard names → IsDiscovery response
-    → Agrees (heard_of (told_with found response removed).kind (told_with found response removed) heard) (after_kind found response names)
-respond_agrees None response removed heard names agrees is = agrees
-respond_agrees (Some Cds) response removed heard names agrees is = record {
+respond_agrees : (profile : Profile) (found : Option Kind) (response : DiscoveryParts) (removed : List (List ℕ)) (heard : Heard) (names : NamesSoFar) → Agrees heard names → IsDiscovery response
+    → Agrees (heard_of (told_with profile found response removed).kind (told_with profile found response removed) heard) (after_kind found response names)
+respond_agrees profile None response removed heard names agrees is = agrees
+respond_agrees profile (Some Cds) response removed heard names agrees is = record {
   connected = agrees.connected;
   clusters = λ name.
-      ap (λ b. is_among name (cond b (item_names (told_with (Some Cds) response removed)) heard.clusters)) agrees.connected
-      ∙ names_turn Cds response removed name names.connected heard.clusters names.clusters is (agrees.clusters name);
+      ap (λ b. is_among name (cond b (item_names (told_with profile (Some Cds) response removed)) heard.clusters)) agrees.connected
+      ∙ names_turn profile Cds response removed name names.connected heard.clusters names.clusters is (agrees.clusters name);
   listeners = agrees.listeners;
 }
-respond_agrees (Some Eds) response removed heard names agrees is = agrees
-respond_agrees (Some Lds) response removed heard names agrees is = record {
+respond_agrees profile (Some Eds) response removed heard names agrees is = agrees
+respond_agrees profile (Some Lds) response removed heard names agrees is = record {
   connected = agrees.connected;
   clusters = agrees.clusters;
   listeners = λ name.
-      ap (λ b. is_among name (cond b (item_names (told_with (Some Lds) response removed)) heard.listeners)) agrees.connected
-      ∙ names_turn Lds response removed name names.connected heard.listeners names.listeners is (agrees.listeners name);
+      ap (λ b. is_among name (cond b (item_names (told_with profile (Some Lds) response removed)) heard.listeners)) agrees.connected
+      ∙ names_turn profile Lds response removed name names.connected heard.listeners names.listeners is (agrees.listeners name);
 }
-respond_agrees (Some Rds) response removed heard names agrees is = agrees
+respond_agrees profile (Some Rds) response removed heard names agrees is = agrees
 
 -- ---- other events
 
@@ -168,28 +170,28 @@ plain_agrees line event heard names plain agrees = record {
 
 -- ---- one line after another
 
-record NextFits (at : ℕ) (before : List Data) (line : Data) (heard : Heard) : Type 0 where
+record NextFits (profile : Profile) (at : ℕ) (before : List Data) (line : Data) (heard : Heard) : Type 0 where
   told : Line
-  is : line_of at (delta_of before line) ≡ Some told
+  is : line_of profile at (delta_of before line) ≡ Some told
   fits : FitsAt told.event heard
   after : NamesSoFar
   follows : FollowsLines (before ++ line ∷ []) after
   agrees : Agrees (heard_after told.event heard) after
 
-response_fits : (at : ℕ) (before : List Data) (line : Data) (heard : Heard) (names : NamesSoFar) (response : DiscoveryParts) → response_in line ≡ Some response
-    → FollowsLines before names → Agrees heard names → NextFits at before line heard
-response_fits at before line heard names response is follows agrees =
+response_fits : (profile : Profile) (at : ℕ) (before : List Data) (line : Data) (heard : Heard) (names : NamesSoFar) (response : DiscoveryParts) → response_in line ≡ Some response
+    → FollowsLines before names → Agrees heard names → NextFits profile at before line heard
+response_fits profile at before line heard names response is follows agrees =
     let proper : IsDiscovery response = response_is line response is in
     let removed : List (List ℕ) = removed_at before response in
     let made : delta_of before line ≡ delta_line (delta_message response (map string removed)) =
     ap (λ found. unwrap_or (option_map (λ r. delta_line (delta_message r (map string (removed_at before r)))) found) line) is in
     record {
-      told = record { at = at; actor = Stream; event = Response (response_told response removed) };
-      is = ap (line_of at) made ∙ line_made at response removed proper;
-      fits = respond_fits response.kind response removed heard names agrees proper (sym (removed_follows before response names follows));
+      told = record { at = at; actor = Stream; event = Response (response_told profile response removed) };
+      is = ap (line_of profile at) made ∙ line_made profile at response removed proper;
+      fits = respond_fits profile response.kind response removed heard names agrees proper (sym (removed_follows before response names follows));
       after = after_response response names;
       follows = follows_response before line response names is follows;
-      agrees = respond_agrees response.kind response removed heard names agrees proper;
+      agrees = respond_agrees profile response.kind response removed heard names agrees proper;
     }
 
 -- a response names no worker
@@ -197,23 +199,23 @@ abbrev no_worker : DiscoveryParts → Option ℕ
 no_worker response = None
 
 -- a line without a response isn't one of responses
-not_responding : (line : Data) (at : ℕ) (named : Option ℕ) (found : Option DiscoveryParts) → found ≡ None → (b : Bool)
-    → cond b (option_map no_worker found) (plain_lines.lines at line) ≡ Some named → b ≡ false
-not_responding line at named found none true h = absurd (no_some (sym (ap (option_map no_worker) none) ∙ h))
+not_responding : (profile : Profile) (line : Data) (at : ℕ) (named : Option ℕ) (found : Option DiscoveryParts) → found ≡ None → (b : Bool)
+    → cond b (option_map no_worker found) (plain_lines.lines profile at line) ≡ Some named → b ≡ false
+not_responding profile line at named found none true h = absurd (no_some (sym (ap (option_map no_worker) none) ∙ h))
   where
     no_some : None ≡ Some named → ⊥
     no_some e = cc
-not_responding line at named found none false h = refl
+not_responding profile line at named found none false h = refl
 
-plain_next : (workers at : ℕ) (before : List Data) (line : Data) (heard : Heard) (names : NamesSoFar) → response_in line ≡ None → HasForm sotw_lines workers at line
-    → FollowsLines before names → Agrees heard names → NextFits at before line heard
-plain_next workers at before line heard names none form follows agrees =
-    let has : HasLine workers at (delta_of before line) = delta_has workers at before line form in
+plain_next : (settings : Settings) (at : ℕ) (before : List Data) (line : Data) (heard : Heard) (names : NamesSoFar) → response_in line ≡ None → HasForm sotw_lines settings at line
+    → FollowsLines before names → Agrees heard names → NextFits settings.profile at before line heard
+plain_next settings at before line heard names none form follows agrees =
+    let has : HasLine settings at (delta_of before line) = delta_has settings at before line form in
     let same : delta_of before line ≡ line =
     ap (λ found. unwrap_or (option_map (λ r. delta_line (delta_message r (map string (removed_at before r)))) found) line) none in
-    let is : line_of at line ≡ Some has.line = ap (line_of at) (sym same) ∙ has.is in
-    let apart : is_op (codes "response") line ≡ false = not_responding line at form.named (response_in line) none (is_op (codes "response") line) form.reads in
-    let plain : IsPlain line has.line.event = plain_line workers at line has.line (kept_line workers at line has.line is has.below).1 apart is in
+    let is : line_of settings.profile at line ≡ Some has.line = ap (line_of settings.profile at) (sym same) ∙ has.is in
+    let apart : is_op (codes "response") line ≡ false = not_responding settings.profile line at form.named (response_in line) none (is_op (codes "response") line) form.reads in
+    let plain : IsPlain line has.line.event = plain_line settings.workers settings.profile at line has.line (kept_line settings.workers settings.profile at line has.line is has.below).1 apart is in
     record {
       told = has.line;
       is = has.is;
@@ -223,19 +225,19 @@ plain_next workers at before line heard names none form follows agrees =
       agrees = plain_agrees line has.line.event heard names plain agrees;
     }
 
-next_fits : (workers at : ℕ) (before : List Data) (line : Data) (heard : Heard) (names : NamesSoFar) → HasForm sotw_lines workers at line
-    → FollowsLines before names → Agrees heard names → NextFits at before line heard
-next_fits workers at before line heard names form follows agrees = by (response_in line) refl
+next_fits : (settings : Settings) (at : ℕ) (before : List Data) (line : Data) (heard : Heard) (names : NamesSoFar) → HasForm sotw_lines settings at line
+    → FollowsLines before names → Agrees heard names → NextFits settings.profile at before line heard
+next_fits settings at before line heard names form follows agrees = by (response_in line) refl
   where
-    by : (found : Option DiscoveryParts) → response_in line ≡ found → NextFits at before line heard
-    by None none = plain_next workers at before line heard names none form follows agrees
-    by (Some response) is = response_fits at before line heard names response is follows agrees
+    by : (found : Option DiscoveryParts) → response_in line ≡ found → NextFits settings.profile at before line heard
+    by None none = plain_next settings at before line heard names none form follows agrees
+    by (Some response) is = response_fits settings.profile at before line heard names response is follows agrees
 
-pub lines_fit : (workers at : ℕ) (before lines : List Data) (heard : Heard) (names : NamesSoFar) → AllAt (HasForm sotw_lines workers) at lines
-    → FollowsLines before names → Agrees heard names → AllFit heard (line_events (lines_said at (map placed_delta (with_before before lines))))
-lines_fit workers at before [] heard names all follows agrees = tt
-lines_fit workers at before (line ∷ lines) heard names all follows agrees =
-    let next = next_fits workers at before line heard names all.0 follows agrees in
+pub lines_fit : (settings : Settings) (at : ℕ) (before lines : List Data) (heard : Heard) (names : NamesSoFar) → AllAt (HasForm sotw_lines settings) at lines
+    → FollowsLines before names → Agrees heard names → AllFit heard (line_events (lines_said settings.profile at (map placed_delta (with_before before lines))))
+lines_fit settings at before [] heard names all follows agrees = tt
+lines_fit settings at before (line ∷ lines) heard names all follows agrees =
+    let next = next_fits settings at before line heard names all.0 follows agrees in
     let rest : List Data = map placed_delta (with_before (before ++ line ∷ []) lines) in
-    subst (λ ls. AllFit heard (line_events ls)) (sym (ap (λ found. option_to_list found ++ lines_said (at + 1) rest) next.is))
-    (next.fits, lines_fit workers (at + 1) (before ++ line ∷ []) lines (heard_after next.told.event heard) next.after all.1 next.follows next.agrees)
+    subst (λ ls. AllFit heard (line_events ls)) (sym (ap (λ found. option_to_list found ++ lines_said settings.profile (at + 1) rest) next.is))
+    (next.fits, lines_fit settings (at + 1) (before ++ line ∷ []) lines (heard_after next.told.event heard) next.after all.1 next.follows next.agrees)

@@ -11,6 +11,7 @@ use Rattle.ev_types.specs.declared.events.Actor.TheVariants.{Stream, Health as h
 use Rattle.ev_types.specs.declared.events.Event.{Event}
 use Rattle.ev_types.specs.declared.events.Event.TheVariants.{Connect, Disconnect, Response, Health, FetchTimeout, DrainTimeout, TtlExpired, Publish, Reap, Accept, Close, Settle}
 use Rattle.ev_types.specs.declared.events.Line.{Line}
+use Rattle.ev_types.specs.declared.events.Profile.{Profile}
 use Rattle.ev_model.specs.Operations.{actor_same}
 use Rattle.ev_script.specs.Members.{has_only, member_of, is_word, is_op}
 use Rattle.ev_script.specs.LineForms.{line_at}
@@ -18,7 +19,7 @@ use Rattle.ev_script.specs.StreamLines.{connect_line, disconnect_line, response_
 use Rattle.ev_script.specs.HealthLines.{health_line, health_in}
 use Rattle.ev_script.specs.TimerLines.{timeout_line, drain_line, expired_line}
 use Rattle.ev_script.specs.MainLines.{publish_line, reap_line}
-use Rattle.ev_script.specs.WorkerLines.{worker_in, accept_line, close_line, settle_line}
+use Rattle.ev_script.specs.WorkerLines.{worker_in, accept_members, accept_line, close_line, settle_line}
 use Rattle.ev_script.specs.Lines.{main_side_line, line_by, line_of}
 use Rattle.ev_stream_laws.specs.MainSide.{stream_told}
 use Rattle.ev_sotw_lines.specs.Deltas.{stream_said}
@@ -85,7 +86,7 @@ pub record IsPlain (tree : Data) (event : Event) : Type 0 where
   pub said : stream_told event ≡ stream_said tree
   pub plain : is_response event ≡ false
 
-module _ (workers at : ℕ) (op : List ℕ) (tree : Data) (line : Line) (may : MayMake workers line.actor line.event) (other : bytes_eq op (codes "response") ≡ false) where
+module _ (workers : ℕ) (profile : Profile) (at : ℕ) (op : List ℕ) (tree : Data) (line : Line) (may : MayMake workers line.actor line.event) (other : bytes_eq op (codes "response") ≡ false) where
   abbrev said_by : Option Bool
   said_by = cond (bytes_eq op (codes "connect")) (Some true) (cond (bytes_eq op (codes "disconnect")) (Some false) None)
 
@@ -140,14 +141,14 @@ module _ (workers at : ℕ) (op : List ℕ) (tree : Data) (line : Line) (may : M
         ap is_response (sym e),
       )
 
-  responds : bytes_eq op (codes "response") ≡ true → response_line at tree ≡ Some line → Plain
+  responds : bytes_eq op (codes "response") ≡ true → response_line profile at tree ≡ Some line → Plain
   responds is h = absurd (false≢true (sym other ∙ is))
 
-  by_main_side : main_side_line op at tree ≡ Some line → Plain
+  by_main_side : main_side_line profile op at tree ≡ Some line → Plain
   by_main_side =
       choose (codes "connect") (connect_line at tree) _ connects (λ _.
       choose (codes "disconnect") (disconnect_line at tree) _ disconnects (λ _.
-      choose (codes "response") (response_line at tree) _ responds (λ _.
+      choose (codes "response") (response_line profile at tree) _ responds (λ _.
       choose (codes "health") (health_line at tree) _ (quiet (codes "health") refl refl (health_line at tree)
       (not_cond (has_only (codes "op" ∷ codes "cluster" ∷ codes "address" ∷ codes "port" ∷ codes "healthy" ∷ []) tree) _ (not_at at health (health_in tree) refl))) (λ _.
       choose (codes "fetchTimeout") (timeout_line at tree) _ (quiet (codes "fetchTimeout") refl refl (timeout_line at tree) (not_at at Timer _ refl)) (λ _.
@@ -160,24 +161,24 @@ module _ (workers at : ℕ) (op : List ℕ) (tree : Data) (line : Line) (may : M
       choose (codes "reap") (reap_line at tree) None (quiet (codes "reap") refl refl (reap_line at tree)
       (not_cond (has_only (codes "op" ∷ []) tree) _ (not_at at Main (Some Reap) refl))) (λ _ h. absurd (cc))))))))))
 
-  by_op : line_by op at tree ≡ Some line → Plain
+  by_op : line_by profile op at tree ≡ Some line → Plain
   by_op =
-      choose (codes "accept") (accept_line at tree) _ (quiet (codes "accept") refl refl (accept_line at tree)
-      (not_cond (has_only (codes "op" ∷ codes "worker" ∷ codes "conn" ∷ codes "address" ∷ codes "port" ∷ codes "host" ∷ codes "path" ∷ codes "pick" ∷ []) tree) _
+      choose (codes "accept") (accept_line profile at tree) _ (quiet (codes "accept") refl refl (accept_line profile at tree)
+      (not_cond (has_only (codes "op" ∷ accept_members profile) tree) _
       (not_worker at _ (worker_in tree)))) (λ _.
       choose (codes "close") (close_line at tree) _ (quiet (codes "close") refl refl (close_line at tree)
       (not_cond (has_only (codes "op" ∷ codes "worker" ∷ codes "conn" ∷ []) tree) _ (not_worker at _ (worker_in tree)))) (λ _.
-      choose (codes "settle") (settle_line at tree) (main_side_line op at tree) (quiet (codes "settle") refl refl (settle_line at tree)
+      choose (codes "settle") (settle_line at tree) (main_side_line profile op at tree) (quiet (codes "settle") refl refl (settle_line at tree)
       (not_cond (has_only (codes "op" ∷ codes "worker" ∷ []) tree) _ (not_worker at (Some Settle) (worker_in tree)))) (λ _. by_main_side)))
 
-pub plain_line : (workers at : ℕ) (tree : Data) (line : Line) → MayMake workers line.actor line.event → is_op (codes "response") tree ≡ false → line_of at tree ≡ Some line → IsPlain tree line.event
-plain_line workers at tree line may other is = by (member_of as_str (codes "op") tree) refl other is
+pub plain_line : (workers : ℕ) (profile : Profile) (at : ℕ) (tree : Data) (line : Line) → MayMake workers line.actor line.event → is_op (codes "response") tree ≡ false → line_of profile at tree ≡ Some line → IsPlain tree line.event
+plain_line workers profile at tree line may other is = by (member_of as_str (codes "op") tree) refl other is
   where
     by : (found : Option (List ℕ)) → member_of as_str (codes "op") tree ≡ found → is_word (codes "response") found ≡ false
-        → option_and_then (λ op. line_by op at tree) found ≡ Some line → IsPlain tree line.event
+        → option_and_then (λ op. line_by profile op at tree) found ≡ Some line → IsPlain tree line.event
     by None named apart h = absurd (cc)
     by (Some op) named apart h =
-        let plain = by_op workers at op tree line may apart h in
+        let plain = by_op workers profile at op tree line may apart h in
         record {
           said = plain.0 ∙ sym (λ i. cond (is_word (codes "connect") (named i)) (Some true) (cond (is_word (codes "disconnect") (named i)) (Some false) None));
           plain = plain.1;

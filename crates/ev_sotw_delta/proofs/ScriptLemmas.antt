@@ -6,6 +6,8 @@ use Rattle.serde_json.specs.Find.{get}
 use Rattle.serde_json.specs.View.{view}
 use Rattle.ev_types.specs.declared.events.Actor.TheVariants.{Stream}
 use Rattle.ev_types.specs.declared.events.Event.TheVariants.{Response}
+use Rattle.ev_types.specs.declared.events.Profile.{Profile}
+use Rattle.ev_script.specs.declared.forms.Settings.{Settings}
 use Rattle.ev_tree.specs.Forms.{given_or, text_of}
 use Rattle.ev_wire.specs.Responses.{kind_with, response_kind, nonce_of, has_head, response_of}
 use Rattle.ev_script.specs.Members.{has_only, member_of, is_op}
@@ -13,6 +15,7 @@ use Rattle.ev_script.specs.LineForms.{with_only, line_at}
 use Rattle.ev_script.specs.Lines.{line_of}
 use Rattle.ev_script.specs.declared.trees.ScriptTrees.{ScriptTrees}
 use Rattle.ev_script.specs.Faults.{Input, plain_lines, HasNoFault}
+use Rattle.ev_script.specs.Header.{settings_of}
 use Rattle.ev_script.specs.ReadTrees.{IsTreesAnswer}
 use Rattle.ev_script.specs.Script.{script_of}
 use Rattle.ev_trees.specs.Trees.{text_of_trees}
@@ -79,15 +82,16 @@ response_is line response h =
 
 -- ---- the line that is made
 
-made_line : (at : ℕ) (message : Data) → line_of at (delta_line message) ≡ line_at at Stream (option_map (λ response. Response response) (response_of message))
-made_line at message = refl
+made_line : (profile : Profile) (at : ℕ) (message : Data) → line_of profile at (delta_line message) ≡ line_at at Stream (option_map (λ response. Response response) (response_of profile message))
+made_line profile at message = refl
 
 -- the line that is made of a response
-pub line_made : (at : ℕ) (response : DiscoveryParts) (removed : List (List ℕ)) → IsDiscovery response
-    → line_of at (delta_line (delta_message response (map string removed))) ≡ Some (record { at = at; actor = Stream; event = Response (response_told response removed) })
-line_made at response removed is =
-    made_line at (delta_message response (map string removed))
-    ∙ ap (λ found. line_at at Stream (option_map (λ r. Response r) found)) (read_so response removed is).reads
+pub line_made : (profile : Profile) (at : ℕ) (response : DiscoveryParts) (removed : List (List ℕ)) → IsDiscovery response
+    → line_of profile at (delta_line (delta_message response (map string removed)))
+    ≡ Some (record { at = at; actor = Stream; event = Response (response_told profile response removed) })
+line_made profile at response removed is =
+    made_line profile at (delta_message response (map string removed))
+    ∙ ap (λ found. line_at at Stream (option_map (λ r. Response r) found)) (read_so profile response removed is).reads
 
 -- ---- lines by their places
 
@@ -95,35 +99,35 @@ line_made at response removed is =
 abbrev no_worker : DiscoveryParts → Option ℕ
 no_worker response = None
 
-response_has : (workers at : ℕ) (before : List Data) (line : Data) (found : Option DiscoveryParts) (named : Option ℕ) → response_in line ≡ found
-    → option_map no_worker found ≡ Some named → HasLine workers at (delta_of before line)
-response_has workers at before line None named is reads = absurd (cc)
-response_has workers at before line (Some response) named is reads =
+response_has : (settings : Settings) (at : ℕ) (before : List Data) (line : Data) (found : Option DiscoveryParts) (named : Option ℕ) → response_in line ≡ found
+    → option_map no_worker found ≡ Some named → HasLine settings at (delta_of before line)
+response_has settings at before line None named is reads = absurd (cc)
+response_has settings at before line (Some response) named is reads =
     let made : delta_of before line ≡ delta_line (delta_message response (map string (removed_at before response))) =
     ap (λ found. unwrap_or (option_map (λ r. delta_line (delta_message r (map string (removed_at before r)))) found) line) is in
     record {
-      line = record { at = at; actor = Stream; event = Response (response_told response (removed_at before response)) };
-      is = ap (line_of at) made ∙ line_made at response (removed_at before response) (response_is line response is);
+      line = record { at = at; actor = Stream; event = Response (response_told settings.profile response (removed_at before response)) };
+      is = ap (line_of settings.profile at) made ∙ line_made settings.profile at response (removed_at before response) (response_is line response is);
       below = refl;
     }
 
 -- what a line becomes is a line
-pub delta_has : (workers at : ℕ) (before : List Data) (line : Data) → HasForm sotw_lines workers at line → HasLine workers at (delta_of before line)
-delta_has workers at before line form = by (is_op (codes "response") line) refl form.reads
+pub delta_has : (settings : Settings) (at : ℕ) (before : List Data) (line : Data) → HasForm sotw_lines settings at line → HasLine settings at (delta_of before line)
+delta_has settings at before line form = by (is_op (codes "response") line) refl form.reads
   where
     by : (b : Bool) → is_op (codes "response") line ≡ b
-        → cond b (option_map no_worker (response_in line)) (plain_lines.lines at line) ≡ Some form.named → HasLine workers at (delta_of before line)
-    by true op reads = response_has workers at before line (response_in line) form.named refl reads
+        → cond b (option_map no_worker (response_in line)) (plain_lines.lines settings.profile at line) ≡ Some form.named → HasLine settings at (delta_of before line)
+    by true op reads = response_has settings at before line (response_in line) form.named refl reads
     by false op reads =
         let none : response_in line ≡ None =
         ap (λ b. cond b (with_only (codes "message" ∷ []) line (member_of discovery_of (codes "message") line)) None) op in
         let same : delta_of before line ≡ line =
         ap (λ found. unwrap_or (option_map (λ r. delta_line (delta_message r (map string (removed_at before r)))) found) line) none in
-        subst (HasLine workers at) (sym same) (plain_line workers at line (record { named = form.named; reads = reads; below = form.below }))
+        subst (HasLine settings at) (sym same) (plain_line settings at line (record { named = form.named; reads = reads; below = form.below }))
 
-pub deltas_have : (workers at : ℕ) (before lines : List Data) → AllAt (HasForm sotw_lines workers) at lines → AllAt (HasLine workers) at (map placed_delta (with_before before lines))
-deltas_have workers at before [] all = tt
-deltas_have workers at before (line ∷ lines) all = (delta_has workers at before line all.0, deltas_have workers (at + 1) (before ++ line ∷ []) lines all.1)
+pub deltas_have : (settings : Settings) (at : ℕ) (before lines : List Data) → AllAt (HasForm sotw_lines settings) at lines → AllAt (HasLine settings) at (map placed_delta (with_before before lines))
+deltas_have settings at before [] all = tt
+deltas_have settings at before (line ∷ lines) all = (delta_has settings at before line all.0, deltas_have settings (at + 1) (before ++ line ∷ []) lines all.1)
 
 -- ---- the text
 
@@ -131,9 +135,9 @@ deltas_have workers at before (line ∷ lines) all = (delta_has workers at befor
 pub text_is_script : (input : Input) (trees : ScriptTrees) (text : TextSoFar) → IsTreesAnswer sotw_lines input (Ok trees) → IsWritten (written_of trees) text
     → HasNoFault plain_lines (input_of_text text.bytes.items) × (script_of false text.bytes.items ≡ Some (delta_script trees))
 text_is_script input trees text read written =
-    let workers : ℕ = trees.header.workers in
+    let settings : Settings = settings_of trees.header in
     let deltas : List Data = deltas_of (lines_in trees) in
-    let all : AllAt (HasLine workers) 2 deltas = deltas_have workers 2 [] (lines_in trees) (trees_have_forms sotw_lines input trees (λ tree. refl) read) in
+    let all : AllAt (HasLine settings) 2 deltas = deltas_have settings 2 [] (lines_in trees) (trees_have_forms sotw_lines input trees (λ tree. refl) read) in
     let script = trees_said trees.header (view trees.head) deltas read.1.header all written.read_back written.fits.limits in
     let bytes : text.bytes.items ≡ text_of_trees (written_of trees) = written.text_is.bytes in (
       subst (λ bs. HasNoFault plain_lines (input_of_text bs)) (sym bytes) script.0,

@@ -23,6 +23,7 @@ use Rattle.ev_model.specs.Watching.{is_by_name, is_watched, watched_of}
 use Rattle.ev_model_laws.proofs.PlaceLemmas.{IsAnswered, entry_answered, world_next}
 use Rattle.ev_script.specs.declared.trees.ScriptTrees.{ScriptTrees}
 use Rattle.ev_script.specs.Faults.{Input}
+use Rattle.ev_script.specs.Header.{settings_of}
 use Rattle.ev_script.specs.ReadTrees.{IsTreesAnswer}
 use Rattle.ev_stream_laws.specs.Watches.{has_live, has_item}
 use Rattle.ev_stream_laws.proofs.HoldLemmas.{side_holds}
@@ -50,7 +51,7 @@ nothing_said = record { connected = false; clusters = []; listeners = [] }
 script_fits : (input : Input) (trees : ScriptTrees) → IsTreesAnswer sotw_lines input (Ok trees) → AllFit nothing_heard (line_events (delta_script trees).lines)
 unfolding nothing_said
 script_fits input trees read =
-    lines_fit trees.header.workers 2 [] (lines_in trees) nothing_heard nothing_said (trees_have_forms sotw_lines input trees (λ tree. refl) read)
+    lines_fit (settings_of trees.header) 2 [] (lines_in trees) nothing_heard nothing_said (trees_have_forms sotw_lines input trees (λ tree. refl) read)
     (record { connected = refl; clusters = refl; listeners = refl }) (record { connected = refl; clusters = λ name. refl; listeners = λ name. refl })
 
 -- the events of a run of a script are of the state of the world where those of its lines are

@@ -22,7 +22,7 @@ written_of trees = map whole (view trees.head ∷ deltas_of (lines_in trees))
 
 -- the script that is written
 abbrev pub delta_script : ScriptTrees → ScriptParts
-delta_script trees = script_made trees.header (lines_said 2 (deltas_of (lines_in trees)))
+delta_script trees = script_made trees.header (lines_said trees.header.profile 2 (deltas_of (lines_in trees)))
 
 -- ---- limits
 
