@@ -239,6 +239,11 @@ item_good profile entry content h =
     ap (λ (body : Data). resource_of profile Cds (entry_name entry) (ttl_of entry) body) (sym (field_inside entry))
     ∙ not_beat (is_heartbeat (entry_name entry) (ttl_of entry) resource) (resource_of profile Cds (entry_name entry) (ttl_of entry) (inside resource)) content h
 
+-- a good body reads as its cluster
+pub good_reads : (profile : Profile) (entry : Data) (cluster : Cluster) → body_read profile entry (body_in entry) ≡ Good (a_cluster cluster)
+    → cluster_reading profile (body_in entry) ≡ Ok cluster
+good_reads profile entry cluster good = (good_by profile (entry_name entry) (ttl_of entry) (body_in entry) cluster good).reads
+
 -- it is a cluster
 pub item_cluster : (profile : Profile) (entry : Data) (content : Content) → (item_of profile Cds entry).body ≡ Good content → (cluster : Cluster) × (content ≡ a_cluster cluster)
 item_cluster profile entry content h = good_cluster profile (entry_name entry) (ttl_of entry) (body_in entry) content (item_good profile entry content h)

@@ -24,8 +24,8 @@ use Rattle.ev_tree.specs.Sources.{source_broken, any_source_broken, source_broke
 use Rattle.ev_tree.proofs.Unions.{least_none}
 use Rattle.ev_cluster_json.specs.declared.parts.TheConstants.{STATIC, LOGICAL_DNS, EDS}
 use Rattle.ev_cluster_json.specs.Assignments.{rows_of}
-use Rattle.ev_cluster_json.specs.Clusters.{name_of, type_of, has_custom_type, is_in_cluster, is_by_eds, holds_hosts, asks_hosts, eds_of, eds_source_of, service_name_of, service_with, service_of, load_assignment_of, is_checked, own_broken, eds_broken, load_assignment_broken, cluster_broken, discovery_of, cluster_of, cluster_reading}
-use Rattle.ev_cluster_json.proofs.RowsMade.{left_false, right_false}
+use Rattle.ev_cluster_json.specs.Clusters.{name_of, type_of, is_static, is_eds, has_custom_type, is_in_cluster, is_by_eds, holds_hosts, asks_hosts, eds_of, eds_source_of, service_name_of, service_with, service_of, load_assignment_of, is_checked, own_broken, eds_broken, load_assignment_broken, cluster_broken, discovery_of, cluster_of, cluster_reading}
+use Rattle.ev_cluster_json.proofs.RowsMade.{left_false, right_false, not_false}
 use Rattle.ev_expand.specs.Editing.{without, with_value}
 use Rattle.ev_expand.specs.Guarding.{waiting_config, stripped_body, waiting_body}
 use Rattle.ev_expand_laws.specs.Waiting.{waiting_cluster}
@@ -366,6 +366,15 @@ waits_rules profile name body tree is keeps sound =
 judged_ok : {A : Type 0} (found : Option ℕ) (value other : A) → judged found value ≡ Ok other → (found ≡ None) × (value ≡ other)
 judged_ok None value other h = (refl, cc)
 judged_ok (Some rule) value other h = absurd (cc)
+
+-- by this project's own rules a cluster has the type STATIC or EDS, and no custom type
+pub own_types : (tree : Data) (cluster : Cluster) → cluster_reading Own tree ≡ Ok cluster → ((is_static tree || is_eds tree) ≡ true) × (has_custom_type tree ≡ false)
+unfolding cluster_broken own_broken
+own_types tree cluster reads =
+    let parts = judged_ok (least_of (cluster_broken Own tree)) (cluster_of Own tree) cluster reads in
+    let clear : cluster_broken Own tree ≡ none_broken = least_none (cluster_broken Own tree) parts.0 in
+    let v7 : (not (is_static tree || is_eds tree) || has_custom_type tree) ≡ false = left_false _ _ (ap (λ (b : BrokenRules). b.v7) clear) in
+    (not_false (is_static tree || is_eds tree) (left_false _ _ v7), right_false _ _ v7)
 
 -- a body of the same fields as one that reads as a cluster reads as the cluster that waits
 pub waits_read : (profile : Profile) (name : List ℕ) (body tree : Data) (cluster : Cluster) → is_object body ≡ true → KeepsFields tree (waiting_body name body)

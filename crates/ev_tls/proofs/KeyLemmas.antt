@@ -21,6 +21,7 @@ use Rattle.ev_types.specs.declared.events.Entry.{Entry}
 use Rattle.ev_types.specs.declared.events.Event.{Event}
 use Rattle.ev_types.specs.declared.events.Event.TheVariants.{Response, FetchTimeout}
 use Rattle.ev_types.specs.declared.events.Line.{Line}
+use Rattle.ev_types.specs.declared.events.Profile.{Profile}
 use Rattle.ev_types.specs.declared.journals.Format.{Format}
 use Rattle.ev_types.specs.declared.limits.TheConstants.{ITEM_LIMIT}
 use Rattle.ev_model.specs.Entries.{MadeRow, last_settled, made_of}
@@ -59,12 +60,13 @@ pub record AsksFor (journal : List Entry) (number place : ℕ) : Type 0 where
   pub cluster : Cluster
   pub content : row.content ≡ a_cluster cluster
   pub limited : Bool
-  pub asks : cluster.discovery ≡ by_name (private_name (codes "tls/") place) limited
+  pub fresh : Bool
+  pub asks : cluster.discovery ≡ by_name (private_name (codes "tls/") place) limited fresh
 
 -- the guarded key of this place names the secret
-pub record KeyNames (lines : List Data) (place : ℕ) (secret : List ℕ) : Type 0 where
+pub record KeyNames (profile : Profile) (lines : List Data) (place : ℕ) (secret : List ℕ) : Type 0 where
   pub guarded : Guarded
-  pub there : slice_get (guarded_by by_secrets lines) place ≡ Some guarded
+  pub there : slice_get (guarded_by (by_secrets profile) lines) place ≡ Some guarded
   pub named : Contains guarded.key.names secret
 
 -- ---- who names endpoints
@@ -85,11 +87,14 @@ names_own name event names = absurd names
 -- ---- in a run
 
 module _ (trees : ScriptTrees) (format : Format) (journal : List Entry) (kept : IsScript (sealed_script trees)) (run : IsRunOf format (sealed_script trees) journal) where
+  abbrev profile : Profile
+  profile = trees.header.profile
+
   -- the line of the text by which an entry names endpoints
   record IsNamedBy (name : List ℕ) (entry : Entry) : Type 0 where
     line : Line
     does : line_operation line ≡ operation_of entry
-    said : IsSaid 2 (given_lines tls_rules (lines_in trees)) line
+    said : IsSaid profile 2 (given_lines (tls_rules profile) (lines_in trees)) line
     names : NamesEndpoints name line.event
 
   named_by : (k : ℕ) (name : List ℕ) (named : NamedBefore journal k name) → IsNamedBy name named.entry
@@ -106,7 +111,7 @@ module _ (trees : ScriptTrees) (format : Format) (journal : List Entry) (kept : 
       record {
         line = own.line;
         does = own.is;
-        said = said_is 2 (given_lines tls_rules (lines_in trees)) own.line own.among;
+        said = said_is profile 2 (given_lines (tls_rules profile) (lines_in trees)) own.line own.among;
         names = subst (λ (o : Operation). NamesEndpoints name o.event) (sym own.is) named.names;
       }
 
@@ -118,7 +123,7 @@ module _ (trees : ScriptTrees) (format : Format) (journal : List Entry) (kept : 
 
   -- what a line became is done before an entry of the stream after it
   own_before : (index : ℕ) (tree : Data) (own : IsOwnLine trees index tree) (q : ℕ) (entry : Entry) → slice_get journal q ≡ Some entry → entry.actor ≡ Stream
-      → place_given tls_rules (lines_in trees) index < entry.at → DoneBefore journal q (line_operation own.line)
+      → place_given (tls_rules profile) (lines_in trees) index < entry.at → DoneBefore journal q (line_operation own.line)
   own_before index tree own q entry there by less =
       done_before (sealed_script trees) journal Stream q entry (line_operation own.line) kept
       (side_holds format (sealed_script trees) journal Stream kept tt run) there by
@@ -126,7 +131,7 @@ module _ (trees : ScriptTrees) (format : Format) (journal : List Entry) (kept : 
       (earlier_at (line_operation own.line) (operation_of entry) (omega (arith, own.at, less)))
 
   stands : (k index : ℕ) (tree : Data) (own : IsOwnLine trees index tree) (q : ℕ) → slice_get (lines_in trees) index ≡ Some tree → q < k
-      → DoneBefore journal q (line_operation own.line) → StandsBefore journal k (lines_in trees) index
+      → DoneBefore journal q (line_operation own.line) → StandsBefore profile journal k (lines_in trees) index
   stands k index tree own q there less done = record {
     place = done.place;
     earlier = omega (arith, done.earlier, less);
@@ -137,18 +142,18 @@ module _ (trees : ScriptTrees) (format : Format) (journal : List Entry) (kept : 
       at = ap (λ (o : Operation). o.at) done.does ∙ own.at;
       own = ap (λ (o : Operation). o.step) done.does;
     };
-    says = ap (option_and_then event_of) there ∙ own.says ∙ sym (ap (λ (o : Operation). Some o.event) done.does);
+    says = ap (option_and_then (event_of profile)) there ∙ own.says ∙ sym (ap (λ (o : Operation). Some o.event) done.does);
   }
 
   -- a line that reports a secret was done before the entry of a line that follows one not before it
-  told_before : (k index place : ℕ) (secret : List ℕ) → IsToldAt (lines_in trees) (index + 1) (Secret secret) → (q : ℕ) (entry : Entry)
-      → slice_get journal q ≡ Some entry → entry.actor ≡ Stream → entry.at ≡ 2 + place → given_before tls_rules (lines_in trees) index < place → q < k
-      → WasTold journal k (lines_in trees) secret
+  told_before : (k index place : ℕ) (secret : List ℕ) → IsToldAt profile (lines_in trees) (index + 1) (Secret secret) → (q : ℕ) (entry : Entry)
+      → slice_get journal q ≡ Some entry → entry.actor ≡ Stream → entry.at ≡ 2 + place → given_before (tls_rules profile) (lines_in trees) index < place → q < k
+      → WasTold profile journal k (lines_in trees) secret
   told_before k index place secret told q entry there by at behind less =
       let here : IsFrontAt (lines_in trees) told.index told.front = front_at (lines_in trees) told.index told.front told.there in
       let own : IsOwnLine trees told.index told.front.line = telling_line trees told.index told.front secret kept told.there told.tells in
-      let rises : given_before tls_rules (lines_in trees) told.index ≤ given_before tls_rules (lines_in trees) index =
-      given_rises tls_rules (lines_in trees) told.index index told.front told.within told.there in
+      let rises : given_before (tls_rules profile) (lines_in trees) told.index ≤ given_before (tls_rules profile) (lines_in trees) index =
+      given_rises (tls_rules profile) (lines_in trees) told.index index told.front told.within told.there in
       let done : DoneBefore journal q (line_operation own.line) =
       own_before told.index told.front.line own q entry there by (omega (arith, rises, behind, at)) in
       record {
@@ -156,28 +161,28 @@ module _ (trees : ScriptTrees) (format : Format) (journal : List Entry) (kept : 
         told = record {
           line = told.front.line;
           there = here.here;
-          connected = subst (λ ls. stream_at ls ≡ true) (up_to_at (lines_in trees) told.index told.front told.there) told.connected;
-          tells = in_contains (told_by told.front.line) (Secret secret) told.tells;
+          connected = subst (λ ls. stream_at profile ls ≡ true) (up_to_at (lines_in trees) told.index told.front told.there) told.connected;
+          tells = in_contains (told_by profile told.front.line) (Secret secret) told.tells;
         };
         before = stands k told.index told.front.line own q here.here less done;
       }
 
   -- where the place of a guarded key is due each secret that it names was reported
-  due_told : (n place : ℕ) (line : Line) (secret : List ℕ) (behind : FollowsDue (lines_in trees) n (private_name (codes "tls/") place) line)
-      → KeyNames (lines_in trees) place secret → IsToldAt (lines_in trees) (behind.index + 1) (Secret secret)
+  due_told : (n place : ℕ) (line : Line) (secret : List ℕ) (behind : FollowsDue profile (lines_in trees) n (private_name (codes "tls/") place) line)
+      → KeyNames profile (lines_in trees) place secret → IsToldAt profile (lines_in trees) (behind.index + 1) (Secret secret)
   due_told n place line secret behind names =
       let up_to_is : up_to behind.front ≡ take (behind.index + 1) (lines_in trees) = up_to_at (lines_in trees) behind.index behind.front behind.there in
-      let few : length (guarded_by by_secrets (lines_in trees)) < ITEM_LIMIT = guarded_few tls_rules (λ line some. refl) (lines_in trees) kept.few_items in
-      let due : is_due behind.front names.guarded ≡ true =
-      named_due tls_rules (lines_in trees) behind.index place behind.front names.guarded few behind.there names.there behind.due.names in
-      let heard : is_told (up_to behind.front) (Secret secret) ≡ true =
-      complete_told (up_to behind.front) names.guarded.key secret (due_is_complete behind.front names.guarded due) names.named in
-      told_at (lines_in trees) (behind.index + 1) (Secret secret) (subst (λ ls. is_told ls (Secret secret) ≡ true) up_to_is heard)
+      let few : length (guarded_by (by_secrets profile) (lines_in trees)) < ITEM_LIMIT = guarded_few (tls_rules profile) (λ line some. refl) (lines_in trees) kept.few_items in
+      let due : is_due profile behind.front names.guarded ≡ true =
+      named_due (tls_rules profile) (lines_in trees) behind.index place behind.front names.guarded few behind.there names.there behind.due.names in
+      let heard : is_told profile (up_to behind.front) (Secret secret) ≡ true =
+      complete_told profile (up_to behind.front) names.guarded.key secret (due_is_complete profile behind.front names.guarded due) names.named in
+      told_at profile (lines_in trees) (behind.index + 1) (Secret secret) (subst (λ ls. is_told profile ls (Secret secret) ≡ true) up_to_is heard)
 
   -- what is accepted at a cluster that asks by the private name of a place was warm, so that name's endpoints were reported before
-  pub sealed_by_key : first_use (codes "tls/") (lines_in trees) ≡ None → (k : ℕ) (worker : Actor) (number place : ℕ) (secret : List ℕ)
-      → Accepts (run_told format (sealed_script trees) journal) k worker number → AsksFor journal number place → KeyNames (lines_in trees) place secret
-      → WasTold journal k (lines_in trees) secret
+  pub sealed_by_key : first_use profile (codes "tls/") (lines_in trees) ≡ None → (k : ℕ) (worker : Actor) (number place : ℕ) (secret : List ℕ)
+      → Accepts (run_told format (sealed_script trees) journal) k worker number → AsksFor journal number place → KeyNames profile (lines_in trees) place secret
+      → WasTold profile journal k (lines_in trees) secret
   sealed_by_key unused k worker number place secret accepts asks names =
       let told : Told = run_told format (sealed_script trees) journal in
       let warm : WasWarm told number (last_settled (take k journal) worker) k = runs_warmed told run.run.answers k worker number accepts in
@@ -190,9 +195,9 @@ module _ (trees : ScriptTrees) (format : Format) (journal : List Entry) (kept : 
       warmed_named told k number (last_settled (take k journal) worker) asks.row name warm asks.made depends in
       let by_line : IsNamedBy name named.entry = named_by k name named in
       let at : ℕ = by_line.said.index in
-      let behind : FollowsDue (lines_in trees) at name by_line.line =
-      text_follows (lines_in trees) at (2 + at) by_line.said.tree by_line.line (decimal (place + 1)) unused by_line.said.there by_line.said.is by_line.names in
+      let behind : FollowsDue profile (lines_in trees) at name by_line.line =
+      text_follows profile (lines_in trees) at (2 + at) by_line.said.tree by_line.line (decimal (place + 1)) unused by_line.said.there by_line.said.is by_line.names in
       told_before k behind.index at secret (due_told at place by_line.line secret behind names) named.place named.entry named.there
       (sym (ap (λ (o : Operation). o.actor) by_line.does) ∙ behind.due.by)
-      (sym (ap (λ (o : Operation). o.at) by_line.does) ∙ line_place (2 + at) by_line.said.tree by_line.line by_line.said.is)
+      (sym (ap (λ (o : Operation). o.at) by_line.does) ∙ line_place profile (2 + at) by_line.said.tree by_line.line by_line.said.is)
       behind.behind named.earlier

@@ -1,5 +1,5 @@
 -- What is accepted is accepted after the report of each secret that the resource names which made it.
-use Rattle.std.proofs.Common.{◌≡◌, ◌∙◌, inl, ℕ, ◌+◌, ◌==◌, Bool, true, false, cond, List, [], length, map, Option, Some, None, is_some, codes, refl, sym, ap, subst, arith, ne_eqb}
+use Rattle.std.proofs.Common.{◌≡◌, ◌∙◌, inl, ℕ, ◌+◌, ◌==◌, Bool, true, false, cond, not, ◌&&◌, ◌||◌, List, [], length, map, Option, Some, None, is_some, codes, refl, sym, ap, subst, arith, ne_eqb}
 use Rattle.std.specs.Prelude.{Contains, slice_get, option_map}
 use Rattle.std.proofs.lemmas.Bool.{both_ways}
 use Rattle.std.proofs.lemmas.Option.{slice_get-map}
@@ -18,6 +18,9 @@ use Rattle.ev_types.specs.declared.events.Entry.{Entry}
 use Rattle.ev_types.specs.declared.events.Event.{Event}
 use Rattle.ev_types.specs.declared.events.Event.TheVariants.{Response}
 use Rattle.ev_types.specs.declared.events.Line.{Line}
+use Rattle.ev_types.specs.declared.events.Profile.{Profile}
+use Rattle.ev_types.specs.declared.events.Profile.TheVariants.{Own, Envoy}
+use Rattle.ev_types.specs.Profiles.{is_envoy}
 use Rattle.ev_types.specs.declared.journals.Format.{Format}
 use Rattle.ev_model.specs.Entries.{MadeRow, made_of}
 use Rattle.ev_model.specs.Operations.{IsRunOf, Operation, operation_of}
@@ -26,21 +29,24 @@ use Rattle.ev_stream_laws.proofs.HoldLemmas.{side_holds}
 use Rattle.ev_script.specs.Lines.{line_of}
 use Rattle.ev_script.specs.declared.trees.ScriptTrees.{ScriptTrees}
 use Rattle.ev_wire.specs.Responses.{item_of}
+use Rattle.ev_cluster_json.specs.Clusters.{has_custom_type, is_eds, is_static}
 use Rattle.ev_expand.specs.declared.keys.Key.{Key}
+use Rattle.ev_expand.specs.Keys.{key_with}
 use Rattle.ev_expand.specs.Expanding.{guarded_at}
 use Rattle.ev_expand.specs.Fronts.{Front, event_of, fronts, message_of}
-use Rattle.ev_expand.specs.Guarding.{Guarded, body_in, clusters_in, kind_of, listed_as, place_at, place_in, private_name, waiting_entry}
+use Rattle.ev_expand.specs.Guarding.{Guarded, body_in, clusters_by, clusters_in, items_as, kind_of, listed_as, place_at, place_in, private_name, waiting_entry}
 use Rattle.ev_expand.proofs.EventLemmas.{cluster_items_read}
 use Rattle.ev_expand_laws.specs.Said.{given_lines, lines_in}
-use Rattle.ev_expand_laws.specs.Waiting.{GuardsClusters, WaitsAsSaid, has_guarded, stream_line, waiting_cluster, waiting_item, waiting_response}
+use Rattle.ev_expand_laws.specs.Waiting.{GuardsClusters, WaitsAsSaid, body_read, has_guarded, stream_line, waiting_cluster, waiting_item, waiting_response}
 use Rattle.ev_expand_laws.proofs.FrontLemmas.{front_at, front_there, given_at, given_before}
 use Rattle.ev_expand_laws.proofs.GuardLemmas.{IsGuardedAt, guarded_at_place}
-use Rattle.ev_expand_laws.proofs.ItemLemmas.{item_cluster, item_good}
+use Rattle.ev_expand_laws.proofs.ItemLemmas.{good_reads, item_cluster, item_good}
 use Rattle.ev_expand_laws.proofs.ListLemmas.{in_get, some_same}
 use Rattle.ev_expand_laws.proofs.OrderLemmas.{IsOfLine, entry_in, is_behind, of_line}
 use Rattle.ev_expand_laws.proofs.ReadLemmas.{guarded_item, other_item, waiting_reads, waiting_stays}
 use Rattle.ev_expand_laws.proofs.SaidPlaceLemmas.{IsSaid, line_event, line_place, said_is}
-use Rattle.ev_secrets.specs.References.{body_key, by_secrets, references_of}
+use Rattle.ev_expand_laws.proofs.WaitLemmas.{own_types}
+use Rattle.ev_secrets.specs.References.{body_key, by_secrets, content_key, has_own_hosts, references_of}
 use Rattle.ev_secrets.specs.Sealing.{tls_rules}
 use Rattle.ev_tls.specs.Sealed.{IsByLine, IsMadeOf, NamesSecret, Sealed, sealed_script}
 use Rattle.ev_tls.proofs.KeyLemmas.{AsksFor, KeyNames, sealed_by_key}
@@ -49,17 +55,22 @@ use Rattle.ev_tls.proofs.TextLemmas.{own_line}
 
 -- ---- guarded resources
 
--- the key of a good cluster is it, and the secrets that it names
+-- the key of a good cluster is it without the text of its body, and the secrets that it names
 record IsKeyOf (body : Body) (names : List (List ℕ)) (key : Key) : Type 0 where
-  good : body ≡ Good (a_cluster key.cluster)
+  text : List ℕ
+  good : body ≡ Good (a_cluster (record key.cluster { body_text = text }))
   named : key.names ≡ names
 
-cluster_keyed : (cluster : Cluster) (names : List (List ℕ)) (key : Key) (b : Bool) → cond b None (Some (record { cluster = cluster; names = names })) ≡ Some key
+cluster_keyed : (cluster : Cluster) (names : List (List ℕ)) (key : Key) (b : Bool) → cond b None (Some (key_with cluster names)) ≡ Some key
     → IsKeyOf (Good (a_cluster cluster)) names key
 cluster_keyed cluster names key true h = absurd (cc)
 cluster_keyed cluster names key false h =
-    let same : record { cluster = cluster; names = names } ≡ key = some_same h in
-    record { good = ap (λ (k : Key). Good (a_cluster k.cluster)) same; named = sym (ap (λ (k : Key). k.names) same) }
+    let same : key_with cluster names ≡ key = some_same h in
+    record {
+      text = cluster.body_text;
+      good = ap (λ (k : Key). Good (a_cluster (record k.cluster { body_text = cluster.body_text }))) same;
+      named = sym (ap (λ (k : Key). k.names) same);
+    }
 
 key_is : (body : Body) (names : List (List ℕ)) (key : Key) → body_key body names ≡ Some key → IsKeyOf body names key
 key_is (Good (a_cluster cluster)) names key h = cluster_keyed cluster names key (length names == 0) h
@@ -69,22 +80,55 @@ key_is (Good (routes table)) names key h = absurd (cc)
 key_is (Bad rule) names key h = absurd (cc)
 key_is Beat names key h = absurd (cc)
 
-guards_clusters : GuardsClusters by_secrets
-guards_clusters entry key h =
-    inl (item_good entry (a_cluster key.cluster) (key_is (item_of Cds entry).body (references_of (body_in entry)) key h).good)
+-- what is guarded has hosts of its own
+guarded_by_own : (own : Bool) (found : Option Key) (key : Key) → cond own found None ≡ Some key → (own ≡ true) × (found ≡ Some key)
+guarded_by_own true found key h = (refl, h)
+guarded_by_own false found key h = absurd (cc)
+
+not_true : (custom other : Bool) → (not custom && other) ≡ true → custom ≡ false
+not_true true other h = sym h
+not_true false other h = refl
+
+guarded_key : (profile : Profile) (entry : Data) (key : Key) → (by_secrets profile).key_of entry ≡ Some key
+    → (has_own_hosts (body_in entry) ≡ true) × (body_key (item_of profile Cds entry).body (references_of (body_in entry)) ≡ Some key)
+guarded_key profile entry key h =
+    guarded_by_own (has_own_hosts (body_in entry)) (body_key (item_of profile Cds entry).body (references_of (body_in entry))) key h
+
+guards_clusters : (profile : Profile) → GuardsClusters (by_secrets profile)
+guards_clusters profile entry key h =
+    let guarded = guarded_key profile entry key h in
+    let is : IsKeyOf (item_of profile Cds entry).body (references_of (body_in entry)) key =
+    key_is (item_of profile Cds entry).body (references_of (body_in entry)) key guarded.1 in
+    record {
+      typed = not_true (has_custom_type (body_in entry)) (is_static (body_in entry) || is_eds (body_in entry)) guarded.0;
+      reads = inl (is.text, item_good profile entry (a_cluster (record key.cluster { body_text = is.text })) is.good);
+    }
 
 no_key : (key : Key) → None ≡ Some key → ⊥
 no_key key e = cc
 
+-- a good resource has hosts of its own by this project's own rules
+own_hosts : (profile : Profile) (entry : Data) (content : Content) → (item_of profile Cds entry).body ≡ Good content
+    → (is_envoy profile ≡ true → has_own_hosts (body_in entry) ≡ true) → has_own_hosts (body_in entry) ≡ true
+own_hosts Envoy entry content good guarded = guarded refl
+own_hosts Own entry content good guarded =
+    let cluster = item_cluster Own entry content good in
+    let read : body_read Own entry (body_in entry) ≡ Good (a_cluster cluster.0) = item_good Own entry content good ∙ ap (λ (c : Content). Good c) cluster.1 in
+    let types = own_types (body_in entry) cluster.0 (good_reads Own entry cluster.0 read) in
+    λ i. not (types.1 i) && types.0 i
+
 -- a good resource that names a secret is guarded
-good_is_guarded : (entry : Data) (content : Content) (secret : List ℕ) → (item_of Cds entry).body ≡ Good content → Contains (references_of (body_in entry)) secret
-    → (key : Key) × (by_secrets.key_of entry ≡ Some key)
-good_is_guarded entry content secret good named =
+good_is_guarded : (profile : Profile) (entry : Data) (content : Content) (secret : List ℕ) → (item_of profile Cds entry).body ≡ Good content
+    → Contains (references_of (body_in entry)) secret → (is_envoy profile ≡ true → has_own_hosts (body_in entry) ≡ true)
+    → (key : Key) × ((by_secrets profile).key_of entry ≡ Some key)
+good_is_guarded profile entry content secret good named guarded =
     let names : List (List ℕ) = references_of (body_in entry) in
-    let cluster = item_cluster entry content good in
-    let key : Key = record { cluster = cluster.0; names = names } in
+    let cluster = item_cluster profile entry content good in
+    let key : Key = key_with cluster.0 names in
     let some : (length names == 0) ≡ false = ne_eqb (length names) 0 (λ e. omega (arith, named.1, e)) in
-    (key, ap (λ (body : Body). body_key body names) (good ∙ ap (λ (c : Content). Good c) cluster.1) ∙ ap (λ (b : Bool). cond b None (Some key)) some)
+    let hosts : has_own_hosts (body_in entry) ≡ true = own_hosts profile entry content good guarded in
+    (key, (λ i. cond (hosts i) (body_key (good i) names) None) ∙ ap (λ (c : Content). content_key c names) cluster.1
+    ∙ ap (λ (b : Bool). cond b None (Some key)) some)
 
 -- ---- what a line with such a resource becomes
 
@@ -103,63 +147,69 @@ abbrev items_of : Event → List ItemParts
 items_of (Response response) = response.items
 items_of event = []
 
-module _ (front : Front) (at : ℕ) (line : Line) (makes : ResponseParts) (item : ℕ) (entry : Data) (parts : ItemParts)
-    (is : line_of at (own_line front) ≡ Some line) (says : line.event ≡ Response makes) (there : slice_get makes.items item ≡ Some parts)
-    (stands : slice_get (clusters_in front.line) item ≡ Some entry) where
+module _ (profile : Profile) (front : Front) (at : ℕ) (line : Line) (makes : ResponseParts) (item : ℕ) (entry : Data) (parts : ItemParts)
+    (is : line_of profile at (own_line profile front) ≡ Some line) (says : line.event ≡ Response makes) (there : slice_get makes.items item ≡ Some parts)
+    (stands : slice_get (clusters_in profile front.line) item ≡ Some entry) where
   abbrev guarded_so_far : List Guarded
-  guarded_so_far = guarded_at tls_rules front
+  guarded_so_far = guarded_at (tls_rules profile) front
 
   abbrev waits : Data → Data
-  waits e = waiting_entry (codes "tls/") (place_at by_secrets guarded_so_far e) e
+  waits e = waiting_entry (codes "tls/") (place_at (by_secrets profile) guarded_so_far e) e
 
-  some_waits : has_guarded by_secrets front.line ≡ true → parts ≡ item_of Cds (waits entry)
+  some_waits : has_guarded (by_secrets profile) front.line ≡ true → parts ≡ item_of profile Cds (waits entry)
   some_waits some =
-      let reads : WaitsAsSaid (codes "tls/") by_secrets guarded_so_far front.line = waiting_reads (codes "tls/") by_secrets guarded_so_far front.line some in
-      let response : ResponseParts = waiting_response (codes "tls/") by_secrets guarded_so_far front.line reads.response in
+      let reads : WaitsAsSaid (codes "tls/") (by_secrets profile) guarded_so_far front.line = waiting_reads (codes "tls/") (by_secrets profile) guarded_so_far front.line some in
+      let response : ResponseParts = waiting_response (codes "tls/") (by_secrets profile) guarded_so_far front.line reads.response in
       let made : stream_line at response ≡ line = some_same (sym (reads.reads at) ∙ is) in
       let event : Response response ≡ Response makes = ap (λ (l : Line). l.event) made ∙ says in
-      let items : map (item_of Cds) (map waits (clusters_in front.line)) ≡ makes.items = ap items_of event in
+      let items : map (item_of profile Cds) (map waits (clusters_in profile front.line)) ≡ makes.items = ap items_of event in
       some_same (sym there ∙ sym (ap (λ (is : List ItemParts). slice_get is item) items)
-      ∙ mapped_at (item_of Cds) (map waits (clusters_in front.line)) item (waits entry) (mapped_at waits (clusters_in front.line) item entry stands))
+      ∙ mapped_at (item_of profile Cds) (map waits (clusters_in profile front.line)) item (waits entry) (mapped_at waits (clusters_in profile front.line) item entry stands))
 
-  none_waits : has_guarded by_secrets front.line ≡ false → parts ≡ item_of Cds (waits entry)
+  none_waits : has_guarded (by_secrets profile) front.line ≡ false → parts ≡ item_of profile Cds (waits entry)
   none_waits none =
-      let stays : own_line front ≡ front.line = waiting_stays (codes "tls/") by_secrets guarded_so_far front.line none in
-      let event : event_of front.line ≡ Some (Response makes) =
-      line_event at front.line line (ap (line_of at) (sym stays) ∙ is) ∙ ap (λ (e : Event). Some e) says in
-      let typed : makes.kind ≡ Some Cds = sym (ap kind_of event) ∙ of_clusters (kind_of (event_of front.line)) (message_of front.line) item entry stands in
-      let items : makes.items ≡ map (item_of Cds) (clusters_in front.line) = cluster_items_read front.line makes event typed in
-      let itself : waits entry ≡ entry = unkeyed (by_secrets.key_of entry) refl in
-      some_same (sym there ∙ ap (λ (is : List ItemParts). slice_get is item) items ∙ mapped_at (item_of Cds) (clusters_in front.line) item entry stands)
-      ∙ sym (ap (item_of Cds) itself)
+      let stays : own_line profile front ≡ front.line = waiting_stays (codes "tls/") (by_secrets profile) guarded_so_far front.line none in
+      let event : event_of profile front.line ≡ Some (Response makes) =
+      line_event profile at front.line line (ap (line_of profile at) (sym stays) ∙ is) ∙ ap (λ (e : Event). Some e) says in
+      let typed : makes.kind ≡ Some Cds = sym (ap kind_of event) ∙ of_clusters (kind_of (event_of profile front.line)) (message_of front.line) item entry stands in
+      let items : makes.items ≡ map (item_of profile Cds) (clusters_in profile front.line) = 
+      sym (ap (λ (kind : Option Kind). items_as kind makes.items) typed)
+      ∙ cluster_items_read profile front.line (Some (Response makes)) (sym event)
+      ∙ ap (λ (e : Option Event). map (item_of profile Cds) (clusters_by e front.line)) (sym event) in
+      let itself : waits entry ≡ entry = unkeyed ((by_secrets profile).key_of entry) refl in
+      some_same (sym there ∙ ap (λ (is : List ItemParts). slice_get is item) items ∙ mapped_at (item_of profile Cds) (clusters_in profile front.line) item entry stands)
+      ∙ sym (ap (item_of profile Cds) itself)
     where
-      unkeyed : (key : Option Key) → by_secrets.key_of entry ≡ key → waits entry ≡ entry
-      unkeyed None keyed = other_item by_secrets (codes "tls/") guarded_so_far entry keyed
+      unkeyed : (key : Option Key) → (by_secrets profile).key_of entry ≡ key → waits entry ≡ entry
+      unkeyed None keyed = other_item (by_secrets profile) (codes "tls/") guarded_so_far entry keyed
       unkeyed (Some key) keyed =
-          absurd (both_ways (has_guarded by_secrets front.line) none
-          (any_at (λ (e : Data). is_some (by_secrets.key_of e)) entry (clusters_in front.line) (in_get (clusters_in front.line) item entry stands) (ap is_some keyed)))
+          absurd (both_ways (has_guarded (by_secrets profile) front.line) none
+          (any_at (λ (e : Data). is_some ((by_secrets profile).key_of e)) entry (clusters_in profile front.line) (in_get (clusters_in profile front.line) item entry stands) (ap is_some keyed)))
 
   -- at the place of a resource of clusters the line's own line has it as it waits
-  pub waits_at : parts ≡ item_of Cds (waits entry)
-  waits_at = by (has_guarded by_secrets front.line) refl
+  pub waits_at : parts ≡ item_of profile Cds (waits entry)
+  waits_at = by (has_guarded (by_secrets profile) front.line) refl
     where
-      by : (b : Bool) → has_guarded by_secrets front.line ≡ b → parts ≡ item_of Cds (waits entry)
+      by : (b : Bool) → has_guarded (by_secrets profile) front.line ≡ b → parts ≡ item_of profile Cds (waits entry)
       by true some = some_waits some
       by false none = none_waits none
 
 -- ---- in a run
 
 module _ (trees : ScriptTrees) (format : Format) (journal : List Entry) (kept : IsScript (sealed_script trees)) (run : IsRunOf format (sealed_script trees) journal) where
+  abbrev profile : Profile
+  profile = trees.header.profile
+
   -- an entry by what a line became does the line's own line of the text
   record IsOwnEntry (entry : Entry) (index : ℕ) : Type 0 where
     front : Front
     there : slice_get (fronts (lines_in trees)) index ≡ Some front
     at : ℕ
     line : Line
-    is : line_of at (own_line front) ≡ Some line
+    is : line_of profile at (own_line profile front) ≡ Some line
     event : line.event ≡ entry.event
 
-  own_entry : (place index : ℕ) (tree : Data) (by : IsByLine journal place (lines_in trees) index) (response : ResponseParts) → by.entry.event ≡ Response response
+  own_entry : (place index : ℕ) (tree : Data) (by : IsByLine profile journal place (lines_in trees) index) (response : ResponseParts) → by.entry.event ≡ Response response
       → slice_get (lines_in trees) index ≡ Some tree → IsOwnEntry by.entry index
   own_entry place index tree by response event there =
       let lines : List Data = lines_in trees in
@@ -168,19 +218,19 @@ module _ (trees : ScriptTrees) (format : Format) (journal : List Entry) (kept : 
       of_line (sealed_script trees) (operation_of entry)
       (entry_in (sealed_script trees) journal Stream place entry (side_holds format (sealed_script trees) journal Stream kept tt run) by.there by.by)
       (ap is_behind event) in
-      let said : IsSaid 2 (given_lines tls_rules lines) own.line = said_is 2 (given_lines tls_rules lines) own.line own.among in
+      let said : IsSaid profile 2 (given_lines (tls_rules profile) lines) own.line = said_is profile 2 (given_lines (tls_rules profile) lines) own.line own.among in
       let front = front_there lines index tree there in
-      let numbered : own.line.at ≡ 2 + said.index = line_place (2 + said.index) said.tree own.line said.is in
+      let numbered : own.line.at ≡ 2 + said.index = line_place profile (2 + said.index) said.tree own.line said.is in
       let same_at : own.line.at ≡ entry.at = ap (λ (o : Operation). o.at) own.is in
-      let index_is : said.index ≡ given_before tls_rules lines index + 0 = omega (arith, numbered, same_at, by.at) in
-      let tree_is : said.tree ≡ own_line front.0 =
-      some_same (sym said.there ∙ ap (slice_get (given_lines tls_rules lines)) index_is ∙ given_at tls_rules lines index 0 front.0 (own_line front.0) front.1 refl) in
+      let index_is : said.index ≡ given_before (tls_rules profile) lines index + 0 = omega (arith, numbered, same_at, by.at) in
+      let tree_is : said.tree ≡ own_line profile front.0 =
+      some_same (sym said.there ∙ ap (slice_get (given_lines (tls_rules profile) lines)) index_is ∙ given_at (tls_rules profile) lines index 0 front.0 (own_line profile front.0) front.1 refl) in
       record {
         front = front.0;
         there = front.1;
         at = 2 + said.index;
         line = own.line;
-        is = ap (line_of (2 + said.index)) (sym tree_is) ∙ said.is;
+        is = ap (line_of profile (2 + said.index)) (sym tree_is) ∙ said.is;
         event = ap (λ (o : Operation). o.event) own.is;
       }
 
@@ -188,30 +238,31 @@ module _ (trees : ScriptTrees) (format : Format) (journal : List Entry) (kept : 
   record AsksByKey (number : ℕ) (secret : List ℕ) : Type 0 where
     place : ℕ
     asks : AsksFor journal number place
-    names : KeyNames (lines_in trees) place secret
+    names : KeyNames profile (lines_in trees) place secret
 
   keyed_asks : (number index : ℕ) (secret : List ℕ) (front : Front) (entry : Data) (row : MadeRow) (key : Key) → slice_get (fronts (lines_in trees)) index ≡ Some front
-      → (item : ℕ) → slice_get (clusters_in front.line) item ≡ Some entry → made_of journal number ≡ Some row
-      → (item_of Cds (waiting_entry (codes "tls/") (place_at by_secrets (guarded_at tls_rules front) entry) entry)).body ≡ Good row.content
-      → Contains (references_of (body_in entry)) secret → by_secrets.key_of entry ≡ Some key → AsksByKey number secret
+      → (item : ℕ) → slice_get (clusters_in profile front.line) item ≡ Some entry → made_of journal number ≡ Some row
+      → (item_of profile Cds (waiting_entry (codes "tls/") (place_at (by_secrets profile) (guarded_at (tls_rules profile) front) entry) entry)).body ≡ Good row.content
+      → Contains (references_of (body_in entry)) secret → (by_secrets profile).key_of entry ≡ Some key → AsksByKey number secret
   keyed_asks number index secret front entry row key there item stands made good named keyed =
-      let gs : List Guarded = guarded_at tls_rules front in
+      let gs : List Guarded = guarded_at (tls_rules profile) front in
       let place : ℕ = place_in gs key in
-      let reads : item_of Cds (waiting_entry (codes "tls/") (place_at by_secrets gs entry) entry) ≡ waiting_item (codes "tls/") place key.cluster entry =
-      guarded_item by_secrets (codes "tls/") gs entry key guards_clusters (omega arith) keyed in
-      let body : Good (a_cluster (waiting_cluster (private_name (codes "tls/") place) key.cluster)) ≡ Good row.content =
+      let reads : item_of profile Cds (waiting_entry (codes "tls/") (place_at (by_secrets profile) gs entry) entry) ≡ waiting_item profile (codes "tls/") place key.cluster entry =
+      guarded_item (by_secrets profile) (codes "tls/") gs entry key (guards_clusters profile) (omega arith) keyed in
+      let body : Good (a_cluster (waiting_cluster profile (private_name (codes "tls/") place) (body_in entry) key.cluster)) ≡ Good row.content =
       sym (ap (λ (i : ItemParts). i.body) reads) ∙ good in
-      let guarded : IsGuardedAt by_secrets (lines_in trees) place key =
-      guarded_at_place by_secrets (lines_in trees) index front entry key there (in_get (clusters_in front.line) item entry stands) keyed in
-      let names : key.names ≡ references_of (body_in entry) = (key_is (item_of Cds entry).body (references_of (body_in entry)) key keyed).named in
+      let guarded : IsGuardedAt (by_secrets profile) (lines_in trees) place key =
+      guarded_at_place (by_secrets profile) (lines_in trees) index front entry key there (in_get (clusters_in profile front.line) item entry stands) keyed in
+      let names : key.names ≡ references_of (body_in entry) = (key_is (item_of profile Cds entry).body (references_of (body_in entry)) key (guarded_key profile entry key keyed).1).named in
       record {
         place = place;
         asks = record {
           row = row;
           made = made;
-          cluster = waiting_cluster (private_name (codes "tls/") place) key.cluster;
+          cluster = waiting_cluster profile (private_name (codes "tls/") place) (body_in entry) key.cluster;
           content = sym (good_same body);
           limited = false;
+          fresh = is_envoy profile;
           asks = refl;
         };
         names = record {
@@ -224,28 +275,28 @@ module _ (trees : ScriptTrees) (format : Format) (journal : List Entry) (kept : 
       good_same : {a b : Content} → Good a ≡ Good b → a ≡ b
       good_same e = cc
 
-  resource_asks : (number index item : ℕ) (secret : List ℕ) → IsMadeOf journal number (lines_in trees) index item → NamesSecret (lines_in trees) index item secret
+  resource_asks : (number index item : ℕ) (secret : List ℕ) → IsMadeOf profile journal number (lines_in trees) index item → NamesSecret profile (lines_in trees) index item secret
       → AsksByKey number secret
   resource_asks number index item secret made names =
       let makes : MakesAt made.by.entry.event made.by.entry.answer item made.row = makes_at made.by.entry.event made.by.entry.answer item made.row made.made in
       let own : IsOwnEntry made.by.entry index = own_entry made.place index names.line made.by makes.response makes.is names.there in
       let line_is : names.line ≡ own.front.line = some_same (sym names.there ∙ (front_at (lines_in trees) index own.front own.there).here) in
-      let stands : slice_get (clusters_in own.front.line) item ≡ Some names.resource = ap (λ (l : Data). slice_get (clusters_in l) item) (sym line_is) ∙ names.stands in
-      let parts : makes.parts ≡ item_of Cds (waiting_entry (codes "tls/") (place_at by_secrets (guarded_at tls_rules own.front) names.resource) names.resource) =
-      waits_at own.front own.at own.line makes.response item names.resource makes.parts own.is (own.event ∙ makes.is) makes.stands stands in
-      let good : (item_of Cds (waiting_entry (codes "tls/") (place_at by_secrets (guarded_at tls_rules own.front) names.resource) names.resource)).body ≡ Good made.row.content =
+      let stands : slice_get (clusters_in profile own.front.line) item ≡ Some names.resource = ap (λ (l : Data). slice_get (clusters_in profile l) item) (sym line_is) ∙ names.stands in
+      let parts : makes.parts ≡ item_of profile Cds (waiting_entry (codes "tls/") (place_at (by_secrets profile) (guarded_at (tls_rules profile) own.front) names.resource) names.resource) =
+      waits_at profile own.front own.at own.line makes.response item names.resource makes.parts own.is (own.event ∙ makes.is) makes.stands stands in
+      let good : (item_of profile Cds (waiting_entry (codes "tls/") (place_at (by_secrets profile) (guarded_at (tls_rules profile) own.front) names.resource) names.resource)).body ≡ Good made.row.content =
       sym (ap (λ (i : ItemParts). i.body) parts) ∙ makes.good in
       let numbered : made_of journal number ≡ Some made.row =
       made_there journal number made.place made.by.entry item made.row made.by.there makes.there made.numbered in
-      by own.front own.there stands good numbered (by_secrets.key_of names.resource) refl
+      by own.front own.there stands good numbered ((by_secrets profile).key_of names.resource) refl
     where
-      by : (front : Front) → slice_get (fronts (lines_in trees)) index ≡ Some front → slice_get (clusters_in front.line) item ≡ Some names.resource
-          → (item_of Cds (waiting_entry (codes "tls/") (place_at by_secrets (guarded_at tls_rules front) names.resource) names.resource)).body ≡ Good made.row.content
-          → made_of journal number ≡ Some made.row → (key : Option Key) → by_secrets.key_of names.resource ≡ key → AsksByKey number secret
+      by : (front : Front) → slice_get (fronts (lines_in trees)) index ≡ Some front → slice_get (clusters_in profile front.line) item ≡ Some names.resource
+          → (item_of profile Cds (waiting_entry (codes "tls/") (place_at (by_secrets profile) (guarded_at (tls_rules profile) front) names.resource) names.resource)).body ≡ Good made.row.content
+          → made_of journal number ≡ Some made.row → (key : Option Key) → (by_secrets profile).key_of names.resource ≡ key → AsksByKey number secret
       by front there stands good numbered None keyed =
-          let itself : waiting_entry (codes "tls/") (place_at by_secrets (guarded_at tls_rules front) names.resource) names.resource ≡ names.resource =
-          other_item by_secrets (codes "tls/") (guarded_at tls_rules front) names.resource keyed in
-          let other = good_is_guarded names.resource made.row.content secret (sym (ap (λ (e : Data). (item_of Cds e).body) itself) ∙ good) names.named in
+          let itself : waiting_entry (codes "tls/") (place_at (by_secrets profile) (guarded_at (tls_rules profile) front) names.resource) names.resource ≡ names.resource =
+          other_item (by_secrets profile) (codes "tls/") (guarded_at (tls_rules profile) front) names.resource keyed in
+          let other = good_is_guarded profile names.resource made.row.content secret (sym (ap (λ (e : Data). (item_of profile Cds e).body) itself) ∙ good) names.named names.guarded in
           absurd (no_key other.0 (sym keyed ∙ other.1))
       by front there stands good numbered (Some key) keyed =
           keyed_asks number index secret front names.resource made.row key there item stands numbered good names.named keyed

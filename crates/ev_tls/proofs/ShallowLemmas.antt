@@ -7,11 +7,12 @@ use Rattle.std.proofs.lemmas.List.Elements.{All-nil, All-cons, All-head, All-tai
 use Rattle.serde_json.specs.Data.{Data, array, no_items, depth}
 use Rattle.ev_types.specs.Items.{ResponseParts}
 use Rattle.ev_types.specs.declared.clusters.Discovery.{Discovery}
-use Rattle.ev_types.specs.declared.clusters.Discovery.TheVariants.{Static, Eds as by_name}
+use Rattle.ev_types.specs.declared.clusters.Discovery.TheVariants.{Static, Eds as by_name, Elsewhere}
 use Rattle.ev_types.specs.declared.contents.Kind.{Kind}
 use Rattle.ev_types.specs.declared.contents.Kind.TheVariants.{Cds, Eds, Lds, Rds}
 use Rattle.ev_types.specs.declared.events.Event.{Event}
 use Rattle.ev_types.specs.declared.events.Event.TheVariants.{Response}
+use Rattle.ev_types.specs.declared.events.Profile.{Profile}
 use Rattle.ev_tree.specs.declared.outcome.Found.{Found}
 use Rattle.ev_tree.specs.declared.outcome.Found.TheVariants.{Absent, Wrong, Given}
 use Rattle.ev_tree.specs.Forms.{given_or, field_of}
@@ -43,8 +44,8 @@ unfolding load_assignment_of
 assignment_within body n h = object_within (codes "load_assignment") body n h
 
 -- those of the first resource of a key
-own_shallow : (entry : Data) → depth entry ≤ 124 → IsShallow (by_secrets.own_of entry)
-own_shallow entry h =
+own_shallow : (profile : Profile) (entry : Data) → depth entry ≤ 124 → IsShallow ((by_secrets profile).own_of entry)
+own_shallow profile entry h =
     omega (arith, endpoints_within (load_assignment_of (body_in entry)) 121 (omega arith) (assignment_within (body_in entry) 122 (body_within entry 123 h)))
 
 -- those of a resource of endpoints
@@ -69,20 +70,20 @@ guarded_own : (key : Option Key) (own : Data) → IsShallow own → IfSome (opti
 guarded_own None own h = tt
 guarded_own (Some key) own h = h
 
-line_own : (line : Data) → IsReadable line → All OwnIsShallow (guarded_in by_secrets line)
-line_own line readable =
-    all_found (λ (entry : Data). depth entry ≤ 124) OwnIsShallow _ (clusters_in line)
-    (λ entry h. guarded_own (by_secrets.key_of entry) (by_secrets.own_of entry) (own_shallow entry h)) (clusters_within line 124 readable)
+line_own : (profile : Profile) (line : Data) → IsReadable line → All OwnIsShallow (guarded_in (by_secrets profile) line)
+line_own profile line readable =
+    all_found (λ (entry : Data). depth entry ≤ 124) OwnIsShallow _ (clusters_in profile line)
+    (λ entry h. guarded_own ((by_secrets profile).key_of entry) ((by_secrets profile).own_of entry) (own_shallow profile entry h)) (clusters_within profile line 124 readable)
 
 all_once : (P : Guarded → Type 0) (gs : List Guarded) → All P gs → All P (each_once gs)
 all_once P [] all = All-nil P
 all_once P (g ∷ gs) all =
     All-cons P g _ (All-head P g gs all) (All-filter (λ (other : Guarded). not (guarded_same other g)) P (each_once gs) (all_once P gs (All-tail P g gs all)))
 
-lines_own : (lines : List Data) → All IsReadable lines → All OwnIsShallow (guarded_by by_secrets lines)
-lines_own lines readable =
-    all_once OwnIsShallow (flat_map (guarded_in by_secrets) lines)
-    (all_given OwnIsShallow (guarded_in by_secrets) lines (All-weaker IsReadable (λ (line : Data). All OwnIsShallow (guarded_in by_secrets line)) line_own lines readable))
+lines_own : (profile : Profile) (lines : List Data) → All IsReadable lines → All OwnIsShallow (guarded_by (by_secrets profile) lines)
+lines_own profile lines readable =
+    all_once OwnIsShallow (flat_map (guarded_in (by_secrets profile)) lines)
+    (all_given OwnIsShallow (guarded_in (by_secrets profile)) lines (All-weaker IsReadable (λ (line : Data). All OwnIsShallow (guarded_in (by_secrets profile) line)) (line_own profile) lines readable))
 
 -- ---- values
 
@@ -94,50 +95,51 @@ value_by : (b : Bool) (name : List ℕ) (value : Data) → IsShallow value → I
 value_by true name value h = h
 value_by false name value h = tt
 
-listed_values : (kind : Option Kind) (response : ResponseParts) (message : Data) → depth message ≤ 126 → All ValueIsShallow (given_as kind response message)
-listed_values None response message h = All-nil ValueIsShallow
-listed_values (Some Cds) response message h = All-nil ValueIsShallow
-listed_values (Some Eds) response message h =
-    all_found (λ (entry : Data). depth entry ≤ 124) ValueIsShallow (value_given response) (entries_of message)
-    (λ entry k. value_by (gives_value response (item_of Eds entry)) (item_of Eds entry).name (endpoints_in (body_in entry)) (value_shallow entry k))
+listed_values : (profile : Profile) (kind : Option Kind) (response : ResponseParts) (message : Data) → depth message ≤ 126 → All ValueIsShallow (given_as profile kind response message)
+listed_values profile None response message h = All-nil ValueIsShallow
+listed_values profile (Some Cds) response message h = All-nil ValueIsShallow
+listed_values profile (Some Eds) response message h =
+    all_found (λ (entry : Data). depth entry ≤ 124) ValueIsShallow (value_given profile response) (entries_of message)
+    (λ entry k. value_by (gives_value response (item_of profile Eds entry)) (item_of profile Eds entry).name (endpoints_in (body_in entry)) (value_shallow entry k))
     (entries_within message 124 h)
-listed_values (Some Lds) response message h = All-nil ValueIsShallow
-listed_values (Some Rds) response message h = All-nil ValueIsShallow
+listed_values profile (Some Lds) response message h = All-nil ValueIsShallow
+listed_values profile (Some Rds) response message h = All-nil ValueIsShallow
 
-event_values : (event : Option Event) (message : Data) → depth message ≤ 126 → All ValueIsShallow (given_with event message)
-event_values None message h = All-nil ValueIsShallow
-event_values (Some (Response response)) message h = listed_values response.kind response message h
-event_values (Some event) message h = All-nil ValueIsShallow
+event_values : (profile : Profile) (event : Option Event) (message : Data) → depth message ≤ 126 → All ValueIsShallow (given_with profile event message)
+event_values profile None message h = All-nil ValueIsShallow
+event_values profile (Some (Response response)) message h = listed_values profile response.kind response message h
+event_values profile (Some event) message h = All-nil ValueIsShallow
 
-line_values : (line : Data) → IsReadable line → All ValueIsShallow (values_in line)
-line_values line readable = event_values (event_of line) (message_of line) (message_within line 126 readable)
+line_values : (profile : Profile) (line : Data) → IsReadable line → All ValueIsShallow (values_in profile line)
+line_values profile line readable = event_values profile (event_of profile line) (message_of line) (message_within line 126 readable)
 
 last_so : (P : Data → Type 0) (found : Option Data) (values : List Data) → IfSome found P → All P values → IfSome (last_or found values) P
 last_so P found [] h all = h
 last_so P found (value ∷ values) h all = last_so P (Some value) values (All-head P value values all) (All-tail P value values all)
 
-value_of_shallow : (lines : List Data) (name : List ℕ) → All IsReadable lines → IfSome (value_of lines name) IsShallow
-value_of_shallow lines name readable =
-    let values : List (List ℕ × Data) = flat_map values_in (heard lines) in
+value_of_shallow : (profile : Profile) (lines : List Data) (name : List ℕ) → All IsReadable lines → IfSome (value_of profile lines name) IsShallow
+value_of_shallow profile lines name readable =
+    let values : List (List ℕ × Data) = flat_map (values_in profile) (heard profile lines) in
     let named : List (List ℕ × Data) = filter (λ (v : List ℕ × Data). bytes_eq v.0 name) values in
-    let told : All IsReadable (heard lines) =
-    All-map IsReadable (λ (front : Front). front.line) (filter (λ (front : Front). stream_at (up_to front)) (fronts lines))
-    (All-filter (λ (front : Front). stream_at (up_to front)) (λ (front : Front). IsReadable front.line) (fronts lines) (all_fronts IsReadable lines readable)) in
+    let told : All IsReadable (heard profile lines) =
+    All-map IsReadable (λ (front : Front). front.line) (filter (λ (front : Front). stream_at profile (up_to front)) (fronts lines))
+    (All-filter (λ (front : Front). stream_at profile (up_to front)) (λ (front : Front). IsReadable front.line) (fronts lines) (all_fronts IsReadable lines readable)) in
     let each : All ValueIsShallow values =
-    all_given ValueIsShallow values_in (heard lines) (All-weaker IsReadable (λ (line : Data). All ValueIsShallow (values_in line)) line_values (heard lines) told) in
+    all_given ValueIsShallow (values_in profile) (heard profile lines) (All-weaker IsReadable (λ (line : Data). All ValueIsShallow (values_in profile line)) (line_values profile) (heard profile lines) told) in
     last_so IsShallow None (map (λ (v : List ℕ × Data). v.1) named) tt
     (All-map IsShallow (λ (v : List ℕ × Data). v.1) named (All-filter (λ (v : List ℕ × Data). bytes_eq v.0 name) ValueIsShallow values each))
 
 -- ---- each line
 
-endpoints_shallow : (discovery : Discovery) (lines : List Data) (g : Guarded) → All IsReadable lines → OwnIsShallow g → IfSome (endpoints_by discovery lines g) IsShallow
-endpoints_shallow (Static rows) lines g readable own = own
-endpoints_shallow (by_name service limited) lines g readable own = value_of_shallow lines service readable
+endpoints_shallow : (profile : Profile) (discovery : Discovery) (lines : List Data) (g : Guarded) → All IsReadable lines → OwnIsShallow g → IfSome (endpoints_by profile discovery lines g) IsShallow
+endpoints_shallow profile (Static rows) lines g readable own = own
+endpoints_shallow profile (by_name service limited fresh) lines g readable own = value_of_shallow profile lines service readable
+endpoints_shallow profile Elsewhere lines g readable own = tt
 
-front_shallow : (front : Front) → All IsReadable (up_to front) → AreShallowAt tls_rules front
-front_shallow front readable =
-    All-weaker OwnIsShallow (λ (g : Guarded). IfSome (tls_rules.endpoints_of (up_to front) g) IsShallow)
-    (λ g own. endpoints_shallow g.key.cluster.discovery (up_to front) g readable own) (guarded_by by_secrets (up_to front)) (lines_own (up_to front) readable)
+front_shallow : (profile : Profile) (front : Front) → All IsReadable (up_to front) → AreShallowAt (tls_rules profile) front
+front_shallow profile front readable =
+    All-weaker OwnIsShallow (λ (g : Guarded). IfSome ((tls_rules profile).endpoints_of (up_to front) g) IsShallow)
+    (λ g own. endpoints_shallow profile g.key.cluster.discovery (up_to front) g readable own) (guarded_by (by_secrets profile) (up_to front)) (lines_own profile (up_to front) readable)
 
 all_up_to : (P : Data → Type 0) (lines : List Data) → All P lines → All (λ (front : Front). All P (up_to front)) (fronts lines)
 all_up_to P [] all = All-nil (λ (front : Front). All P (up_to front))
@@ -149,6 +151,6 @@ all_up_to P (first ∷ lines) all =
     (All-weaker Q (λ (front : Front). Q (behind first front)) (λ front h. All-cons P first (up_to front) here h) (fronts lines) (all_up_to P lines (All-tail P first lines all))))
 
 -- the endpoints of all that is guarded in lines that were read are shallow
-pub lines_shallow : (lines : List Data) → All IsReadable lines → All (AreShallowAt tls_rules) (fronts lines)
-lines_shallow lines readable =
-    All-weaker (λ (front : Front). All IsReadable (up_to front)) (AreShallowAt tls_rules) front_shallow (fronts lines) (all_up_to IsReadable lines readable)
+pub lines_shallow : (profile : Profile) (lines : List Data) → All IsReadable lines → All (AreShallowAt (tls_rules profile)) (fronts lines)
+lines_shallow profile lines readable =
+    All-weaker (λ (front : Front). All IsReadable (up_to front)) (AreShallowAt (tls_rules profile)) (front_shallow profile) (fronts lines) (all_up_to IsReadable lines readable)

@@ -13,6 +13,7 @@ use Rattle.ev_types.specs.declared.events.Actor.TheVariants.{Stream}
 use Rattle.ev_types.specs.declared.events.Event.{Event}
 use Rattle.ev_types.specs.declared.events.Event.TheVariants.{Response}
 use Rattle.ev_types.specs.declared.events.Line.{Line}
+use Rattle.ev_types.specs.declared.events.Profile.{Profile}
 use Rattle.ev_model_laws.proofs.OperationLists.{IsIn, at_in}
 use Rattle.ev_script.specs.declared.trees.ScriptTrees.{ScriptTrees}
 use Rattle.ev_expand.specs.Expanding.{guarded_at}
@@ -32,9 +33,9 @@ use Rattle.ev_expand_laws.proofs.SaidPlaceLemmas.{IsLineOf, event_line, line_pla
 use Rattle.ev_tls.proofs.TextLemmas.{own_line}
 
 -- it is a response of a type that isn't read
-record IsUnread (line : Data) : Type 0 where
+record IsUnread (profile : Profile) (line : Data) : Type 0 where
   response : ResponseParts
-  event : event_of line ≡ Some (Response response)
+  event : event_of profile line ≡ Some (Response response)
   typed : response.kind ≡ None
 
 no_secret : (secret : List ℕ) (names : List (List ℕ)) → IsIn (Secret secret) (map Endpoints names) → ⊥
@@ -50,34 +51,35 @@ secret_kind secret (Some Cds) response message is = absurd is
 secret_kind secret (Some Lds) response message is = absurd is
 secret_kind secret (Some Rds) response message is = absurd is
 
-unread_by : (secret : List ℕ) (line message : Data) (event : Option Event) → event_of line ≡ event → IsIn (Secret secret) (told_with event message) → IsUnread line
-unread_by secret line message (Some (Response response)) reads is =
+unread_by : (profile : Profile) (secret : List ℕ) (line message : Data) (event : Option Event) → event_of profile line ≡ event → IsIn (Secret secret) (told_with event message) → IsUnread profile line
+unread_by profile secret line message (Some (Response response)) reads is =
     record { response = response; event = reads; typed = secret_kind secret response.kind response message is }
-unread_by secret line message event reads is = absurd is
+unread_by profile secret line message event reads is = absurd is
 
-stays_itself : (front : Front) → IsUnread front.line → own_line front ≡ front.line
-stays_itself front unread =
-    let none : clusters_in front.line ≡ [] =
+stays_itself : (profile : Profile) (front : Front) → IsUnread profile front.line → own_line profile front ≡ front.line
+stays_itself profile front unread =
+    let none : clusters_in profile front.line ≡ [] =
     ap (λ event. listed_as (kind_of event) (message_of front.line)) unread.event ∙ ap (λ kind. listed_as kind (message_of front.line)) unread.typed in
-    waiting_stays (codes "tls/") by_secrets (guarded_at tls_rules front) front.line (ap (list_any (λ (entry : Data). is_some (by_secrets.key_of entry))) none)
+    waiting_stays (codes "tls/") (by_secrets profile) (guarded_at (tls_rules profile) front) front.line (ap (list_any (λ (entry : Data). is_some ((by_secrets profile).key_of entry))) none)
 
 -- the line that a line of the input is in the script
 pub record IsOwnLine (trees : ScriptTrees) (index : ℕ) (tree : Data) : Type 0 where
   pub line : Line
   pub among : IsIn line (sealed_script trees).lines
   pub by : line.actor ≡ Stream
-  pub at : line.at ≡ place_given tls_rules (lines_in trees) index
-  pub says : event_of tree ≡ Some line.event
+  pub at : line.at ≡ place_given (tls_rules trees.header.profile) (lines_in trees) index
+  pub says : event_of trees.header.profile tree ≡ Some line.event
 
 pub telling_line : (trees : ScriptTrees) (index : ℕ) (front : Front) (secret : List ℕ) → IsScript (sealed_script trees)
-    → slice_get (fronts (lines_in trees)) index ≡ Some front → IsIn (Secret secret) (told_by front.line) → IsOwnLine trees index front.line
+    → slice_get (fronts (lines_in trees)) index ≡ Some front → IsIn (Secret secret) (told_by trees.header.profile front.line) → IsOwnLine trees index front.line
 telling_line trees index front secret kept there tells =
-    let unread : IsUnread front.line = unread_by secret front.line (message_of front.line) (event_of front.line) refl tells in
-    let before : ℕ = given_before tls_rules (lines_in trees) index + 0 in
-    let place : slice_get (given_lines tls_rules (lines_in trees)) before ≡ Some front.line =
-    given_at tls_rules (lines_in trees) index 0 front front.line there (ap Some (stays_itself front unread)) in
-    let own : IsLineOf (2 + before) front.line (Response unread.response) = event_line (2 + before) front.line (Response unread.response) unread.event in
-    let among : IsIn own.line (sealed_script trees).lines = said_in 2 (given_lines tls_rules (lines_in trees)) before front.line own.line place own.is in
+    let profile : Profile = trees.header.profile in
+    let unread : IsUnread profile front.line = unread_by profile secret front.line (message_of front.line) (event_of profile front.line) refl tells in
+    let before : ℕ = given_before (tls_rules profile) (lines_in trees) index + 0 in
+    let place : slice_get (given_lines (tls_rules profile) (lines_in trees)) before ≡ Some front.line =
+    given_at (tls_rules profile) (lines_in trees) index 0 front front.line there (ap Some (stays_itself profile front unread)) in
+    let own : IsLineOf profile (2 + before) front.line (Response unread.response) = event_line profile (2 + before) front.line (Response unread.response) unread.event in
+    let among : IsIn own.line (sealed_script trees).lines = said_in profile 2 (given_lines (tls_rules profile) (lines_in trees)) before front.line own.line place own.is in
     let may : MayMake (sealed_script trees).workers own.line.actor own.line.event =
     at_in (λ (line : Line). MayMake (sealed_script trees).workers line.actor line.event) own.line (sealed_script trees).lines
     (recursion_from_All (λ (line : Line). MayMake (sealed_script trees).workers line.actor line.event) (sealed_script trees).lines kept.allowed) among in
@@ -85,6 +87,6 @@ telling_line trees index front secret kept there tells =
       line = own.line;
       among = among;
       by = stream_is own.line.actor (subst (MayMake (sealed_script trees).workers own.line.actor) own.event_is may);
-      at = omega (arith, line_place (2 + before) front.line own.line own.is);
+      at = omega (arith, line_place profile (2 + before) front.line own.line own.is);
       says = unread.event ∙ ap Some (sym own.event_is);
     }

@@ -1,5 +1,5 @@
 //! What is accepted is sealed: in a run of a script in which clusters wait for their secrets, no connection goes to such a cluster
-//! before each of its secrets has come. No code that runs.
+//! before each of its secrets has come, in either profile. No code that runs.
 //!
 //! - It is said of every run of the script that the command writes, in both formats, by one thread or by several, and of any trees.
 //! - It is said by the resources of the input, and by no key or number: an accepted generation was made by a resource of a line,
