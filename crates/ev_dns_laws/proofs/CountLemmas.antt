@@ -2,6 +2,7 @@
 use Rattle.std.proofs.Common.{◌≡◌, ◌∙◌, Bool, true, false, [], Some, None, refl, sym}
 use Rattle.ev_types.specs.declared.events.Event.{Event}
 use Rattle.ev_types.specs.declared.events.Event.TheVariants.{Response}
+use Rattle.ev_types.specs.declared.events.Profile.{Profile}
 use Rattle.serde_json.specs.Data.{Data}
 use Rattle.ev_expand_laws.specs.Waiting.{WaitsAsSaid, has_guarded}
 use Rattle.ev_expand_laws.proofs.ReadLemmas.{waiting_reads}
@@ -10,8 +11,8 @@ use Rattle.ev_dns.specs.Templates.{by_names}
 use Rattle.ev_dns_laws.proofs.StreamLemmas.{unwritten_none}
 
 -- a line with something guarded is written
-pub guarded_written : (line : Data) → has_guarded by_names line ≡ true → is_written line ≡ true
-guarded_written line some = by (is_written line) refl
+pub guarded_written : (profile : Profile) (line : Data) → has_guarded (by_names profile) line ≡ true → is_written line ≡ true
+guarded_written profile line some = by (is_written line) refl
   where
     differ : {P : Type 0} (event : Event) → None ≡ Some event → P
     differ event e = absurd (cc)
@@ -19,5 +20,5 @@ guarded_written line some = by (is_written line) refl
     by : (b : Bool) → is_written line ≡ b → b ≡ true
     by true h = refl
     by false h =
-        let waits : WaitsAsSaid [] by_names [] line = waiting_reads [] by_names [] line some in
-        differ (Response waits.response) (sym (unwritten_none line h) ∙ waits.event)
+        let waits : WaitsAsSaid [] (by_names profile) [] line = waiting_reads [] (by_names profile) [] line some in
+        differ (Response waits.response) (sym (unwritten_none profile line h) ∙ waits.event)

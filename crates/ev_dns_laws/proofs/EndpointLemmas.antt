@@ -1,5 +1,5 @@
 -- Good hosts that are written as endpoints are read again.
-use Rattle.std.proofs.Common.{◌≡◌, ◌∙◌, ℕ, ◌+◌, ◌<◌, ◌≤◌, ◌^◌, ◌==◌, Bool, true, false, cond, not, ◌||◌, nat_lt, nat_le, List, [], ◌∷◌, ◌++◌, length, map, flat_map, decimal, Some, None, codes, refl, ap, ap₂, arith, ne_eqb, length-append}
+use Rattle.std.proofs.Common.{◌≡◌, ◌∙◌, ℕ, ◌+◌, ◌<◌, ◌≤◌, ◌^◌, ◌==◌, Bool, true, false, cond, not, ◌&&◌, ◌||◌, nat_lt, nat_le, List, [], ◌∷◌, ◌++◌, length, map, flat_map, decimal, Some, None, codes, refl, ap, ap₂, arith, ne_eqb, length-append}
 use Rattle.std.specs.Prelude.{Ok}
 use Rattle.std.specs.List.{AllByRecursion as ByRecursion, list_all, sum_by}
 use Rattle.std.proofs.lemmas.Bool.{and_from}
@@ -13,14 +13,17 @@ use Rattle.ev_types.specs.declared.limits.TheConstants.{ITEM_LIMIT, MAX_WEIGHT_S
 use Rattle.ev_types.specs.declared.contents.Kind.TheVariants.{Eds}
 use Rattle.ev_types.specs.declared.contents.Body.TheVariants.{Bad, Good}
 use Rattle.ev_types.specs.declared.contents.Content.TheVariants.{Assignment as an_assignment}
+use Rattle.ev_types.specs.declared.events.Profile.{Profile}
+use Rattle.ev_types.specs.declared.events.Profile.TheVariants.{Own, Envoy}
 use Rattle.ev_tree.specs.declared.broken.BrokenRules.{BrokenRules}
 use Rattle.ev_tree.specs.declared.limits.TheConstants.{MAX_NAME_BYTES, MAX_PORT}
 use Rattle.ev_tree.specs.declared.outcome.Found.{Found}
 use Rattle.ev_tree.specs.declared.outcome.Found.TheVariants.{Absent, Given}
 use Rattle.ev_tree.specs.declared.tables.EnumTable.TheVariants.{Health}
-use Rattle.ev_tree.specs.Addresses.{address_broken, address_text_of, is_port, port_of, port_or_none, socket_of}
+use Rattle.ev_tree.specs.Addresses.{address_broken, address_broken_in, address_text_of, addresses_given, any_address_broken, any_port_of, any_text_of, has_internal, has_pipe, internal_id_in, internal_in, internal_name_in, is_port, is_wrong_internal, is_wrong_pipe, outer_of, path_in, pipe_in, port_in_profile, port_of, port_or_none, port_unless, socket_of, text_among, text_in_profile}
 use Rattle.ev_tree.specs.Broken.{any_broken, either_broken, least_of, none_broken}
-use Rattle.ev_tree.specs.Forms.{duration_of, enumeration_of, field_of, given_or, in_form, inside, is_object, is_wrong, listed, number_of, object_of, objects_of, text_of, value_or_wrong}
+use Rattle.ev_tree.specs.Counts.{exactly_one}
+use Rattle.ev_tree.specs.Forms.{duration_of, enumeration_of, field_of, given_or, in_form, inside, is_given, is_object, is_wrong, listed, number_of, object_of, objects_of, text_of, value_or_wrong}
 use Rattle.ev_tree.specs.Rules.{is_name, judged}
 use Rattle.ev_tree.specs.Scalars.{enum_in, list_in, named_in, u32_in}
 use Rattle.ev_tree.specs.Spelling.{camel_of}
@@ -101,6 +104,76 @@ address_good row good =
     let port = ap (λ f. not (is_port f)) (port_found row good) ∙ ap not (within row.host.port MAX_PORT good.port) in
     λ i. record none_broken { v6 = six i; v12 = text i || port i }
 
+-- the same as Envoy reads it
+
+outer_is : (row : HostRowParts) → outer_of (endpoint_tree row) ≡ address_tree row
+unfolding outer_of object_of field_of camel_of
+outer_is row = refl
+
+socket_given : (row : HostRowParts) → is_given (object_of (codes "socket_address") (address_tree row)) ≡ true
+unfolding object_of field_of camel_of
+socket_given row = refl
+
+no_pipe : (row : HostRowParts) → has_pipe (address_tree row) ≡ false
+unfolding object_of field_of camel_of
+no_pipe row = refl
+
+no_internal : (row : HostRowParts) → has_internal (address_tree row) ≡ false
+unfolding object_of field_of camel_of
+no_internal row = refl
+
+pipe_right : (row : HostRowParts) → is_wrong_pipe (address_tree row) ≡ false
+unfolding is_wrong_pipe pipe_in object_of text_of field_of camel_of
+pipe_right row = refl
+
+internal_right : (row : HostRowParts) → is_wrong_internal (address_tree row) ≡ false
+unfolding is_wrong_internal internal_in object_of text_of field_of camel_of
+internal_right row = refl
+
+any_text_is : (row : HostRowParts) → any_text_of (endpoint_tree row) ≡ row.host.address
+unfolding any_text_of
+any_text_is row =
+    let socket : List ℕ = address_text_of (endpoint_tree row) in
+    (λ i. text_among (has_pipe (outer_is row i)) (has_internal (outer_is row i)) (path_in (outer_is row i)) (internal_name_in (outer_is row i)) (internal_id_in (outer_is row i)) socket)
+    ∙ (λ i. text_among (no_pipe row i) (no_internal row i) (path_in (address_tree row)) (internal_name_in (address_tree row)) (internal_id_in (address_tree row)) socket)
+    ∙ text_is row
+
+any_port_is : (row : HostRowParts) → IsGoodHost row → any_port_of (endpoint_tree row) ≡ row.host.port
+unfolding any_port_of
+any_port_is row good =
+    (λ i. port_unless (has_pipe (outer_is row i) || has_internal (outer_is row i)) (port_of (endpoint_tree row)))
+    ∙ (λ i. port_unless (no_pipe row i || no_internal row i) (port_is row good i))
+
+one_kind : exactly_one (true ∷ false ∷ false ∷ []) ≡ true
+one_kind = refl
+
+any_address_good : (row : HostRowParts) → IsGoodHost row → any_address_broken (endpoint_tree row) ≡ none_broken
+unfolding any_address_broken
+any_address_good row good =
+    let tree : Data = endpoint_tree row in
+    let six : ((address_broken tree).v6 || is_wrong_pipe (outer_of tree) || is_wrong_internal (outer_of tree)) ≡ false =
+    (λ i. (address_good row good i).v6 || is_wrong_pipe (outer_is row i) || is_wrong_internal (outer_is row i))
+    ∙ (λ i. pipe_right row i || internal_right row i) in
+    let port : is_port (number_of (codes "port_value") (socket_of tree)) ≡ true = ap is_port (port_found row good) ∙ within row.host.port MAX_PORT good.port in
+    let twelve : (not (exactly_one (addresses_given (outer_of tree))) || not (is_name (any_text_of tree))
+    || (is_given (object_of (codes "socket_address") (outer_of tree)) && not (is_port (number_of (codes "port_value") (socket_of tree))))) ≡ false =
+    (λ i. not (exactly_one (addresses_given (outer_is row i))) || not (is_name (any_text_is row i)) || (is_given (object_of (codes "socket_address") (outer_is row i)) && not (port i)))
+    ∙ (λ i. not (exactly_one (socket_given row i ∷ no_pipe row i ∷ no_internal row i ∷ [])) || not (good.named i) || (socket_given row i && not true))
+    ∙ (λ i. not (one_kind i) || not true || (true && not true)) in
+    λ i. record none_broken { v6 = six i; v12 = twelve i }
+
+text_in : (profile : Profile) (row : HostRowParts) → text_in_profile profile (endpoint_tree row) ≡ row.host.address
+text_in Own row = text_is row
+text_in Envoy row = any_text_is row
+
+port_in : (profile : Profile) (row : HostRowParts) → IsGoodHost row → port_in_profile profile (endpoint_tree row) ≡ row.host.port
+port_in Own row good = port_is row good
+port_in Envoy row good = any_port_is row good
+
+address_right : (profile : Profile) (row : HostRowParts) → IsGoodHost row → address_broken_in profile (endpoint_tree row) ≡ none_broken
+address_right Own row good = address_good row good
+address_right Envoy row good = any_address_good row good
+
 weight_found : (row : HostRowParts) → IsGoodHost row → number_of (codes "load_balancing_weight") (host_tree row) ≡ Given row.weight
 unfolding number_of field_of camel_of
 weight_found row good = number_given row.weight (omega (arith, good.light))
@@ -131,20 +204,20 @@ endpoint_form : (row : HostRowParts) → is_wrong (object_of (codes "endpoint") 
 unfolding object_of field_of camel_of
 endpoint_form row = refl
 
-host_good : (row : HostRowParts) → IsGoodHost row → host_broken (host_tree row) ≡ none_broken
+host_good : (profile : Profile) (row : HostRowParts) → IsGoodHost row → host_broken profile (host_tree row) ≡ none_broken
 unfolding host_broken
-host_good row good =
-    let address = ap address_broken (endpoint_is row) ∙ address_good row good in
+host_good profile row good =
+    let address = ap (address_broken_in profile) (endpoint_is row) ∙ address_right profile row good in
     let status = ap (λ (f : Found ℕ). is_wrong f) (status_found row) ∙ status_right row.usable in
     let weight = ap (λ (f : Found ℕ). is_wrong f) (weight_found row good) in
     let heavy = ap (λ n. n == 0) (weight_is row good) ∙ ne_eqb row.weight 0 (λ e. omega (arith, e, good.some)) in
     λ i. either_broken (address i) (record none_broken { v6 = endpoint_form row i || status i || weight i; v13 = heavy i })
 
-row_is : (row : HostRowParts) → IsGoodHost row → row_of row.priority (host_tree row) ≡ row
+row_is : (profile : Profile) (row : HostRowParts) → IsGoodHost row → row_of profile row.priority (host_tree row) ≡ row
 unfolding row_of
-row_is row good =
-    let text = ap address_text_of (endpoint_is row) ∙ text_is row in
-    let port = ap port_of (endpoint_is row) ∙ port_is row good in
+row_is profile row good =
+    let text = ap (text_in_profile profile) (endpoint_is row) ∙ text_in profile row in
+    let port = ap (port_in_profile profile) (endpoint_is row) ∙ port_in profile row good in
     λ i. record {
       host = record { address = text i; port = port i };
       weight = weight_is row good i;
@@ -170,10 +243,10 @@ priority_is : (row : HostRowParts) → IsGoodHost row → priority_of (group_tre
 unfolding priority_of
 priority_is row good = ap (given_or 0) (priority_found row good)
 
-group_good : (row : HostRowParts) → IsGoodHost row → group_broken (group_tree row) ≡ none_broken
+group_good : (profile : Profile) (row : HostRowParts) → IsGoodHost row → group_broken profile (group_tree row) ≡ none_broken
 unfolding group_broken
-group_good row good =
-    let hosts = ap (any_broken host_broken) (hosts_are row) ∙ all_none host_broken (host_tree row ∷ []) (host_good row good, tt) in
+group_good profile row good =
+    let hosts = ap (any_broken (host_broken profile)) (hosts_are row) ∙ all_none (host_broken profile) (host_tree row ∷ []) (host_good profile row good, tt) in
     let forms : (is_wrong (number_of (codes "priority") (group_tree row)) || is_wrong (objects_of (codes "lb_endpoints") (group_tree row))) ≡ false =
     λ i. is_wrong (priority_found row good i) || hosts_form row i in
     let near = ap (nat_lt MAX_PRIORITY) (priority_is row good) ∙ not_below MAX_PRIORITY row.priority good.near in
@@ -182,14 +255,14 @@ group_good row good =
     ∙ not_below MAX_WEIGHT_SUM (sum_by weight_of (host_tree row ∷ [])) (omega (arith, sum, weight_is row good, good.light)) in
     λ i. either_broken (hosts i) (record none_broken { v6 = forms i; v13 = near i || light i })
 
-group_is : (row : HostRowParts) → IsGoodHost row → group_rows (group_tree row) ≡ row ∷ []
+group_is : (profile : Profile) (row : HostRowParts) → IsGoodHost row → group_rows profile (group_tree row) ≡ row ∷ []
 unfolding group_rows
-group_is row good =
-    (λ i. map (row_of (priority_is row good i)) (hosts_are row i)) ∙ ap (λ r. r ∷ []) (row_is row good)
+group_is profile row good =
+    (λ i. map (row_of profile (priority_is row good i)) (hosts_are row i)) ∙ ap (λ r. r ∷ []) (row_is profile row good)
 
 -- ---- an assignment
 
-module _ (name : List ℕ) (rows : List HostRowParts) where
+module _ (profile : Profile) (name : List ℕ) (rows : List HostRowParts) where
   abbrev body : Data
   body = endpoints_body name (endpoints_tree rows)
 
@@ -209,29 +282,29 @@ module _ (name : List ℕ) (rows : List HostRowParts) where
   unfolding text_of field_of camel_of
   name_found = refl
 
-  all_good : (rs : List HostRowParts) → ByRecursion IsGoodHost rs → ByRecursion (λ group. group_broken group ≡ none_broken) (map group_tree rs)
+  all_good : (rs : List HostRowParts) → ByRecursion IsGoodHost rs → ByRecursion (λ group. group_broken profile group ≡ none_broken) (map group_tree rs)
   all_good [] good = tt
-  all_good (r ∷ rs) good = (group_good r good.0, all_good rs good.1)
+  all_good (r ∷ rs) good = (group_good profile r good.0, all_good rs good.1)
 
-  all_rows : (rs : List HostRowParts) → ByRecursion IsGoodHost rs → flat_map group_rows (map group_tree rs) ≡ rs
+  all_rows : (rs : List HostRowParts) → ByRecursion IsGoodHost rs → flat_map (group_rows profile) (map group_tree rs) ≡ rs
   all_rows [] good = refl
-  all_rows (r ∷ rs) good = ap₂ (λ (xs ys : List HostRowParts). xs ++ ys) (group_is r good.0) (all_rows rs good.1)
+  all_rows (r ∷ rs) good = ap₂ (λ (xs ys : List HostRowParts). xs ++ ys) (group_is profile r good.0) (all_rows rs good.1)
 
-  assignment_good : ByRecursion IsGoodHost rows → assignment_broken body ≡ none_broken
+  assignment_good : ByRecursion IsGoodHost rows → assignment_broken profile body ≡ none_broken
   unfolding assignment_broken
   assignment_good good =
-      let groups = ap (any_broken group_broken) groups_are ∙ all_none group_broken (map group_tree rows) (all_good rows good) in
+      let groups = ap (any_broken (group_broken profile)) groups_are ∙ all_none (group_broken profile) (map group_tree rows) (all_good rows good) in
       let forms : (is_wrong (text_of (codes "cluster_name") body) || is_wrong (objects_of (codes "endpoints") body)) ≡ false =
       λ i. is_wrong (name_found i) || is_wrong (groups_found i) in
       λ i. either_broken (record none_broken { v6 = forms i }) (groups i)
 
-  rows_are : ByRecursion IsGoodHost rows → rows_of body ≡ rows
+  rows_are : ByRecursion IsGoodHost rows → rows_of profile body ≡ rows
   unfolding rows_of
-  rows_are good = ap (flat_map group_rows) groups_are ∙ all_rows rows good
+  rows_are good = ap (flat_map (group_rows profile)) groups_are ∙ all_rows rows good
 
   -- the endpoints are read as these hosts
-  reads : ByRecursion IsGoodHost rows → assignment_reading body ≡ Ok rows
-  reads good = ap (λ broken. judged (least_of broken) (rows_of body)) (assignment_good good) ∙ ap (λ rs. Ok rs) (rows_are good)
+  reads : ByRecursion IsGoodHost rows → assignment_reading profile body ≡ Ok rows
+  reads good = ap (λ broken. judged (least_of broken) (rows_of profile body)) (assignment_good good) ∙ ap (λ rs. Ok rs) (rows_are good)
 
 -- ---- the resource
 
@@ -272,14 +345,14 @@ module _ (version name : List ℕ) (endpoints : Data) where
   own_good named = λ i. record none_broken { v1 = not (typed i); v2 = not (named i); v3 = inner_name i }
 
 -- the written endpoints of a place are read as their hosts
-pub item_reads : (version : List ℕ) (place : ℕ) (rows : List HostRowParts) → place < ITEM_LIMIT → ByRecursion IsGoodHost rows
-    → (item_of Eds (endpoints_entry version (name_of_place place) (endpoints_tree rows))).body ≡ Good (an_assignment rows)
+pub item_reads : (profile : Profile) (version : List ℕ) (place : ℕ) (rows : List HostRowParts) → place < ITEM_LIMIT → ByRecursion IsGoodHost rows
+    → (item_of profile Eds (endpoints_entry version (name_of_place place) (endpoints_tree rows))).body ≡ Good (an_assignment rows)
 unfolding item_of body_of resource_of content_of
-item_reads version place rows small good =
+item_reads profile version place rows small good =
     let name : List ℕ = name_of_place place in
     let tree : Data = endpoints_body name (endpoints_tree rows) in
     let own = ap least_of (own_good version name (endpoints_tree rows) (short_name place small)) in
-    (λ i. body_of Eds (entry_named version name (endpoints_tree rows) i) (no_ttl version name (endpoints_tree rows) i) (body_found version name (endpoints_tree rows) i))
-    ∙ ap (λ b. cond (not b) (Bad 1) (body_with (least_of (own_broken Eds name Absent tree)) (content_with an_assignment (assignment_reading tree)))) (typed version name (endpoints_tree rows))
-    ∙ ap (λ rule. body_with rule (content_with an_assignment (assignment_reading tree))) own
-    ∙ ap (λ read. body_with None (content_with an_assignment read)) (reads name rows good)
+    (λ i. body_of profile Eds (entry_named version name (endpoints_tree rows) i) (no_ttl version name (endpoints_tree rows) i) (body_found version name (endpoints_tree rows) i))
+    ∙ ap (λ b. cond (not b) (Bad 1) (body_with (least_of (own_broken Eds name Absent tree)) (content_with an_assignment (assignment_reading profile tree)))) (typed version name (endpoints_tree rows))
+    ∙ ap (λ rule. body_with rule (content_with an_assignment (assignment_reading profile tree))) own
+    ∙ ap (λ read. body_with None (content_with an_assignment read)) (reads profile name rows good)

@@ -11,6 +11,7 @@ use Rattle.ev_types.specs.Scripts.{IsScript}
 use Rattle.ev_types.specs.declared.events.Entry.{Entry}
 use Rattle.ev_types.specs.declared.events.Line.{Line}
 use Rattle.ev_types.specs.declared.journals.Format.{Format}
+use Rattle.ev_types.specs.declared.events.Profile.{Profile}
 use Rattle.ev_model.specs.Operations.{IsRunOf, Operation, entries_of, operation_of, operations_of}
 use Rattle.ev_model_laws.proofs.PlaceLemmas.{take_one}
 use Rattle.ev_stream_laws.proofs.HoldLemmas.{side_holds}
@@ -53,50 +54,50 @@ given_grows rules lines n m less =
 -- ---- entries
 
 -- the entry is by a line of the text that a line of the input gave
-pub record IsBy (lines : List Data) (entry : Entry) : Type 0 where
+pub record IsBy (profile : Profile) (lines : List Data) (entry : Entry) : Type 0 where
   pub index : ℕ
   pub front : Front
   pub there : slice_get (fronts lines) index ≡ Some front
   pub inner : ℕ
   pub tree : Data
-  pub among : slice_get (gives dns_rules front) inner ≡ Some tree
+  pub among : slice_get (gives (dns_rules profile) front) inner ≡ Some tree
   pub line : Line
-  pub is : line_of entry.at tree ≡ Some line
-  pub at : entry.at ≡ 2 + (given_before dns_rules lines index + inner)
+  pub is : line_of profile entry.at tree ≡ Some line
+  pub at : entry.at ≡ 2 + (given_before (dns_rules profile) lines index + inner)
   pub says : line.event ≡ entry.event
   pub own : entry.step ≡ 0
 
 -- it comes after the lines of those before, and not after its own
-pub record IsWithin (lines : List Data) (index at : ℕ) : Type 0 where
-  pub from : given_before dns_rules lines index + 2 ≤ at
-  pub to : at ≤ given_before dns_rules lines (index + 1) + 1
+pub record IsWithin (profile : Profile) (lines : List Data) (index at : ℕ) : Type 0 where
+  pub from : given_before (dns_rules profile) lines index + 2 ≤ at
+  pub to : at ≤ given_before (dns_rules profile) lines (index + 1) + 1
 
-pub within_own : (lines : List Data) (entry : Entry) (by : IsBy lines entry) → IsWithin lines by.index entry.at
-within_own lines entry by = record {
+pub within_own : (profile : Profile) (lines : List Data) (entry : Entry) (by : IsBy profile lines entry) → IsWithin profile lines by.index entry.at
+within_own profile lines entry by = record {
   from = omega (arith, by.at);
-  to = omega (arith, by.at, given_next dns_rules lines by.index by.front by.there, slice_get_within (gives dns_rules by.front) by.inner by.tree by.among);
+  to = omega (arith, by.at, given_next (dns_rules profile) lines by.index by.front by.there, slice_get_within (gives (dns_rules profile) by.front) by.inner by.tree by.among);
 }
 
 -- of two the one with the lesser number is of no later line
-pub index_rises : (lines : List Data) (i j m n : ℕ) → IsWithin lines i m → IsWithin lines j n → m ≤ n → i ≤ j
-index_rises lines i j m n first second less = by (cases_lt j i)
+pub index_rises : (profile : Profile) (lines : List Data) (i j m n : ℕ) → IsWithin profile lines i m → IsWithin profile lines j n → m ≤ n → i ≤ j
+index_rises profile lines i j m n first second less = by (cases_lt j i)
   where
     by : (j < i) ⊎ (i ≤ j) → i ≤ j
-    by (inl back) = absurd (omega (arith, first.from, second.to, less, given_grows dns_rules lines (j + 1) i (omega (arith, back))))
+    by (inl back) = absurd (omega (arith, first.from, second.to, less, given_grows (dns_rules profile) lines (j + 1) i (omega (arith, back))))
     by (inr ahead) = ahead
 
 -- an entry of the main side is by a line, where it is none of those that come after lines
 pub entry_by : (trees : ScriptTrees) (format : Format) (journal : List Entry) → IsScript (answered_script trees) → IsRunOf format (answered_script trees) journal
-    → (q : ℕ) (entry : Entry) → slice_get journal q ≡ Some entry → IsMainSide entry.actor → is_behind entry.event ≡ false → IsBy (lines_in trees) entry
+    → (q : ℕ) (entry : Entry) → slice_get journal q ≡ Some entry → IsMainSide entry.actor → is_behind entry.event ≡ false → IsBy trees.header.profile (lines_in trees) entry
 entry_by trees format journal kept run q entry there main event =
     let holds : entries_of journal entry.actor ≡ operations_of (answered_script trees) entry.actor =
     side_holds format (answered_script trees) journal entry.actor kept main run in
     let own : IsOfLine (answered_script trees) (operation_of entry) =
     of_line (answered_script trees) (operation_of entry) (entry_in (answered_script trees) journal entry.actor q entry holds there refl) event in
-    let said : IsSaid 2 (given_lines dns_rules (lines_in trees)) own.line = said_is 2 (given_lines dns_rules (lines_in trees)) own.line own.among in
-    let given : IsGivenAt dns_rules (lines_in trees) said.index said.tree = given_from dns_rules (lines_in trees) said.index said.tree said.there in
+    let said : IsSaid trees.header.profile 2 (given_lines (dns_rules trees.header.profile) (lines_in trees)) own.line = said_is trees.header.profile 2 (given_lines (dns_rules trees.header.profile) (lines_in trees)) own.line own.among in
+    let given : IsGivenAt (dns_rules trees.header.profile) (lines_in trees) said.index said.tree = given_from (dns_rules trees.header.profile) (lines_in trees) said.index said.tree said.there in
     let number : entry.at ≡ 2 + said.index =
-    sym (ap (λ (o : Operation). o.at) own.is) ∙ line_place (2 + said.index) said.tree own.line said.is in
+    sym (ap (λ (o : Operation). o.at) own.is) ∙ line_place trees.header.profile (2 + said.index) said.tree own.line said.is in
     record {
       index = given.index;
       front = given.front;
@@ -105,7 +106,7 @@ entry_by trees format journal kept run q entry there main event =
       tree = said.tree;
       among = given.among;
       line = own.line;
-      is = ap (λ n. line_of n said.tree) number ∙ said.is;
+      is = ap (λ n. line_of trees.header.profile n said.tree) number ∙ said.is;
       at = number ∙ ap (λ n. 2 + n) given.at;
       says = ap (λ (o : Operation). o.event) own.is;
       own = sym (ap (λ (o : Operation). o.step) own.is);

@@ -1,5 +1,5 @@
 -- The hosts of a template are good: its rows are those of a good cluster, and its addresses are names.
-use Rattle.std.proofs.Common.{◌≡◌, inl, inr, ℕ, ◌≤◌, ◌<◌, ◌^◌, ◌==◌, Bool, true, false, cond, not, ◌&&◌, nat_lt, nat_le, List, [], ◌∷◌, map, filter, filter_map, flat_map, length, Option, Some, None, IfSome, codes, refl, sym, ap, subst, arith}
+use Rattle.std.proofs.Common.{◌≡◌, inl, inr, ℕ, ◌≤◌, ◌<◌, ◌^◌, ◌==◌, Bool, true, false, cond, not, ◌&&◌, ◌||◌, nat_lt, nat_le, List, [], ◌∷◌, map, filter, filter_map, flat_map, length, Option, Some, None, IfSome, codes, refl, sym, ap, subst, arith}
 use Rattle.std.specs.Prelude.{Result, Ok, Err, option_and_then, option_map, slice_get, unwrap_or}
 use Rattle.std.specs.List.{AllByRecursion as ByRecursion, last_or, list_any}
 use Rattle.std.specs.Str.{bytes_eq}
@@ -11,27 +11,31 @@ use Rattle.serde_json.specs.Find.{as_str, get}
 use Rattle.ev_types.specs.Hosts.{HostRowParts}
 use Rattle.ev_types.specs.declared.clusters.Cluster.{Cluster}
 use Rattle.ev_types.specs.declared.clusters.Discovery.{Discovery}
-use Rattle.ev_types.specs.declared.clusters.Discovery.TheVariants.{Static}
+use Rattle.ev_types.specs.declared.clusters.Discovery.TheVariants.{Static, Eds as by_name, Elsewhere}
 use Rattle.ev_types.specs.declared.contents.Kind.{Kind}
 use Rattle.ev_types.specs.declared.contents.Kind.TheVariants.{Cds}
 use Rattle.ev_types.specs.declared.contents.Body.TheVariants.{Bad, Good}
 use Rattle.ev_types.specs.declared.contents.Content.{Content}
 use Rattle.ev_types.specs.declared.contents.Content.TheVariants.{Cluster as a_cluster}
 use Rattle.ev_types.specs.declared.limits.TheConstants.{ITEM_LIMIT, MAX_NAME_LENGTH, MAX_WEIGHT_SUM}
+use Rattle.ev_types.specs.declared.events.Profile.{Profile}
+use Rattle.ev_types.specs.declared.events.Profile.TheVariants.{Own, Envoy}
+use Rattle.ev_types.specs.Profiles.{is_envoy}
 use Rattle.ev_tree.specs.declared.broken.BrokenRules.{BrokenRules}
 use Rattle.ev_tree.specs.declared.limits.TheConstants.{MAX_PORT, MAX_U32_DIGITS}
 use Rattle.ev_tree.specs.declared.outcome.Found.{Found}
 use Rattle.ev_tree.specs.declared.outcome.Found.TheVariants.{Absent, Given, Wrong}
 use Rattle.ev_tree.specs.declared.span.Span.{Span}
-use Rattle.ev_tree.specs.Addresses.{port_of, port_or_none, socket_of}
+use Rattle.ev_tree.specs.Addresses.{any_port_of, has_internal, has_pipe, outer_of, port_in_profile, port_of, port_or_none, port_unless, socket_of}
 use Rattle.ev_tree.specs.Broken.{broken_where, least_of, none_broken}
 use Rattle.ev_tree.specs.Forms.{field_of, given_or, in_form, number_of, value_or_wrong}
 use Rattle.ev_tree.specs.Rules.{is_name, judged}
+use Rattle.ev_tree.specs.Sources.{source_is_limited}
 use Rattle.ev_tree.specs.Scalars.{is_numeral, list_in, u32_in, u32_text}
 use Rattle.ev_tree.proofs.Unions.{least_none}
 use Rattle.ev_cluster_json.specs.declared.groups.TheConstants.{MAX_PRIORITY}
 use Rattle.ev_cluster_json.specs.Assignments.{assignment_broken, endpoint_of, group_broken, group_rows, groups_of, host_broken, hosts_of, priority_of, row_of, rows_of, weight_of}
-use Rattle.ev_cluster_json.specs.Clusters.{cluster_broken, cluster_of, cluster_reading, discovery_of, is_static, load_assignment_broken, load_assignment_of}
+use Rattle.ev_cluster_json.specs.Clusters.{cluster_broken, cluster_of, cluster_reading, discovery_of, asks_hosts, eds_source_of, holds_hosts, load_assignment_broken, load_assignment_of, service_of}
 use Rattle.ev_cluster_json.proofs.RowsMade.{left_false, right_false}
 use Rattle.ev_wire.specs.Bodies.{body_with, breaks_v1, content_of, content_with, own_broken, resource_of}
 use Rattle.ev_wire.specs.Responses.{entry_name, ttl_of}
@@ -68,6 +72,18 @@ port_small (Given n) = by (nat_le n MAX_PORT) refl
     by : (b : Bool) → nat_le n MAX_PORT ≡ b → cond b n 0 ≤ MAX_PORT
     by true h = leb-true n MAX_PORT h
     by false h = omega arith
+
+unless_small : (no_port : Bool) (port : ℕ) → port ≤ MAX_PORT → port_unless no_port port ≤ MAX_PORT
+unless_small true port h = omega arith
+unless_small false port h = h
+
+-- a port that is read fits
+any_port_small : (profile : Profile) (tree : Data) → port_in_profile profile tree ≤ MAX_PORT
+unfolding port_of any_port_of
+any_port_small Own tree = port_small (number_of (codes "port_value") (socket_of tree))
+any_port_small Envoy tree =
+    unless_small (has_pipe (outer_of tree) || has_internal (outer_of tree)) (port_or_none (number_of (codes "port_value") (socket_of tree)))
+    (port_small (number_of (codes "port_value") (socket_of tree)))
 
 abbrev Fits32 : ℕ → Type 0
 Fits32 n = n ≤ MAX_WEIGHT_SUM
@@ -112,45 +128,45 @@ weight_small host = found_small (field_of (codes "load_balancing_weight") host)
 not_zero : (n : ℕ) → (n == 0) ≡ false → 1 ≤ n
 not_zero n h = grind (arith, nat_tests)
 
-heavy : (host : Data) → (host_broken host).v13 ≡ false → 1 ≤ weight_of host
+heavy : (profile : Profile) (host : Data) → (host_broken profile host).v13 ≡ false → 1 ≤ weight_of host
 unfolding host_broken
-heavy host h = not_zero (weight_of host) (right_false _ _ h)
+heavy profile host h = not_zero (weight_of host) (right_false _ _ h)
 
-row_good : (priority : ℕ) (host : Data) → priority ≤ MAX_PRIORITY → (host_broken host).v13 ≡ false → IsGoodRow (row_of priority host)
-unfolding row_of port_of
-row_good priority host near h = record {
-  port = port_small (number_of (codes "port_value") (socket_of (endpoint_of host)));
-  some = heavy host h;
+row_good : (profile : Profile) (priority : ℕ) (host : Data) → priority ≤ MAX_PRIORITY → (host_broken profile host).v13 ≡ false → IsGoodRow (row_of profile priority host)
+unfolding row_of
+row_good profile priority host near h = record {
+  port = any_port_small profile (endpoint_of host);
+  some = heavy profile host h;
   light = weight_small host;
   near = near;
 }
 
-hosts_good : (priority : ℕ) (hosts : List Data) → priority ≤ MAX_PRIORITY → list_any (λ h. (host_broken h).v13) hosts ≡ false
-    → ByRecursion IsGoodRow (map (row_of priority) hosts)
-hosts_good priority [] near h = tt
-hosts_good priority (host ∷ hosts) near h = (row_good priority host near (left_false _ _ h), hosts_good priority hosts near (right_false _ _ h))
+hosts_good : (profile : Profile) (priority : ℕ) (hosts : List Data) → priority ≤ MAX_PRIORITY → list_any (λ h. (host_broken profile h).v13) hosts ≡ false
+    → ByRecursion IsGoodRow (map (row_of profile priority) hosts)
+hosts_good profile priority [] near h = tt
+hosts_good profile priority (host ∷ hosts) near h = (row_good profile priority host near (left_false _ _ h), hosts_good profile priority hosts near (right_false _ _ h))
 
-group_good : (group : Data) → (group_broken group).v13 ≡ false → ByRecursion IsGoodRow (group_rows group)
+group_good : (profile : Profile) (group : Data) → (group_broken profile group).v13 ≡ false → ByRecursion IsGoodRow (group_rows profile group)
 unfolding group_broken group_rows
-group_good group h =
-    hosts_good (priority_of group) (hosts_of group) (ltb-false MAX_PRIORITY (priority_of group) (left_false _ _ (right_false _ _ h))) (left_false _ _ h)
+group_good profile group h =
+    hosts_good profile (priority_of group) (hosts_of group) (ltb-false MAX_PRIORITY (priority_of group) (left_false _ _ (right_false _ _ h))) (left_false _ _ h)
 
-groups_good : (groups : List Data) → list_any (λ g. (group_broken g).v13) groups ≡ false → ByRecursion IsGoodRow (flat_map group_rows groups)
-groups_good groups h = each_flat IsGoodRow group_rows groups (by groups h)
+groups_good : (profile : Profile) (groups : List Data) → list_any (λ g. (group_broken profile g).v13) groups ≡ false → ByRecursion IsGoodRow (flat_map (group_rows profile) groups)
+groups_good profile groups h = each_flat IsGoodRow (group_rows profile) groups (by groups h)
   where
-    by : (gs : List Data) → list_any (λ g. (group_broken g).v13) gs ≡ false → ByRecursion (λ g. ByRecursion IsGoodRow (group_rows g)) gs
+    by : (gs : List Data) → list_any (λ g. (group_broken profile g).v13) gs ≡ false → ByRecursion (λ g. ByRecursion IsGoodRow (group_rows profile g)) gs
     by [] h = tt
-    by (g ∷ gs) h = (group_good g (left_false _ _ h), by gs (right_false _ _ h))
+    by (g ∷ gs) h = (group_good profile g (left_false _ _ h), by gs (right_false _ _ h))
 
-assignment_good : (tree : Data) → (assignment_broken tree).v13 ≡ false → ByRecursion IsGoodRow (rows_of tree)
+assignment_good : (profile : Profile) (tree : Data) → (assignment_broken profile tree).v13 ≡ false → ByRecursion IsGoodRow (rows_of profile tree)
 unfolding assignment_broken rows_of
-assignment_good tree h = groups_good (groups_of tree) h
+assignment_good profile tree h = groups_good profile (groups_of tree) h
 
 -- ---- clusters that are read
 
-good_content : (kind : Kind) (name : List ℕ) (ttl : Found Span) (body : Data) (content : Content) → resource_of kind name ttl body ≡ Good content → content_of kind body ≡ Ok content
+good_content : (profile : Profile) (kind : Kind) (name : List ℕ) (ttl : Found Span) (body : Data) (content : Content) → resource_of profile kind name ttl body ≡ Good content → content_of profile kind body ≡ Ok content
 unfolding resource_of
-good_content kind name ttl body content h = by (breaks_v1 kind body) (least_of (own_broken kind name ttl body)) (content_of kind body) h
+good_content profile kind name ttl body content h = by (breaks_v1 kind body) (least_of (own_broken kind name ttl body)) (content_of profile kind body) h
   where
     by : (b : Bool) (rule : Option ℕ) (read : Result Content ℕ) → cond b (Bad 1) (body_with rule read) ≡ Good content → read ≡ Ok content
     by true rule read e = absurd (cc)
@@ -170,29 +186,37 @@ judged_good : (rule : Option ℕ) (made cluster : Cluster) → judged rule made 
 judged_good None made cluster h = (refl, cc)
 judged_good (Some rule) made cluster h = absurd (cc)
 
-static_good : (b : Bool) (tree : Data) (other : Discovery) → rows_in other ≡ [] → (broken_where b (load_assignment_broken tree)).v13 ≡ false
-    → ByRecursion IsGoodRow (rows_in (cond b (Static (rows_of (load_assignment_of tree))) other))
+static_good : (profile : Profile) (b : Bool) (tree : Data) (other : Discovery) → rows_in other ≡ [] → (broken_where b (load_assignment_broken profile tree)).v13 ≡ false
+    → ByRecursion IsGoodRow (rows_in (cond b (Static (rows_of profile (load_assignment_of tree))) other))
 unfolding load_assignment_broken
-static_good true tree other none h = assignment_good (load_assignment_of tree) (left_false _ _ h)
-static_good false tree other none h = subst (ByRecursion IsGoodRow) (sym none) tt
+static_good profile true tree other none h = assignment_good profile (load_assignment_of tree) (left_false _ _ h)
+static_good profile false tree other none h = subst (ByRecursion IsGoodRow) (sym none) tt
 
-discovered_good : (tree : Data) → cluster_broken tree ≡ none_broken → ByRecursion IsGoodRow (rows_in (discovery_of tree))
+-- what isn't in the cluster has no rows there
+no_rows : (b : Bool) (service : List ℕ) (limited fresh : Bool) → rows_in (cond b (by_name service limited fresh) Elsewhere) ≡ []
+no_rows true service limited fresh = refl
+no_rows false service limited fresh = refl
+
+discovered_good : (profile : Profile) (tree : Data) → cluster_broken profile tree ≡ none_broken → ByRecursion IsGoodRow (rows_in (discovery_of profile tree))
 unfolding cluster_broken discovery_of
-discovered_good tree none =
+discovered_good profile tree none =
     let light = ap (λ (b : BrokenRules). b.v13) none in
-    static_good (is_static tree) tree _ refl (right_false _ _ (right_false _ _ light))
+    static_good profile (holds_hosts profile tree) tree _
+    (no_rows (asks_hosts profile tree) (service_of tree) (source_is_limited (eds_source_of tree)) (is_envoy profile)) (right_false _ _ (right_false _ _ light))
 
-read_good : (tree : Data) (cluster : Cluster) → content_of Cds tree ≡ Ok (a_cluster cluster) → ByRecursion IsGoodRow (rows_in cluster.discovery)
+read_good : (profile : Profile) (tree : Data) (cluster : Cluster) → content_of profile Cds tree ≡ Ok (a_cluster cluster) → ByRecursion IsGoodRow (rows_in cluster.discovery)
 unfolding content_of
-read_good tree cluster h =
-    let both = judged_good (least_of (cluster_broken tree)) (cluster_of tree) cluster (read_cluster (cluster_reading tree) cluster h) in
-    subst (λ (c : Cluster). ByRecursion IsGoodRow (rows_in c.discovery)) both.1 (discovered_good tree (least_none (cluster_broken tree) both.0))
+read_good profile tree cluster h =
+    let both = judged_good (least_of (cluster_broken profile tree)) (cluster_of profile tree) cluster (read_cluster (cluster_reading profile tree) cluster h) in
+    subst (λ (c : Cluster). ByRecursion IsGoodRow (rows_in c.discovery)) both.1 (discovered_good profile tree (least_none (cluster_broken profile tree) both.0))
 
 -- the rows of a template
-template_good : (entry : Data) (key : Key) → by_names.key_of entry ≡ Some key → ByRecursion IsGoodRow (template_rows key)
-template_good entry key is =
-    read_good (static_body (body_in entry)) key.cluster
-    (good_content Cds (entry_name entry) (ttl_of entry) (static_body (body_in entry)) (a_cluster key.cluster) (template_reads entry key is))
+template_good : (profile : Profile) (entry : Data) (key : Key) → (by_names profile).key_of entry ≡ Some key → ByRecursion IsGoodRow (template_rows key)
+template_good profile entry key is =
+    let read = template_reads profile entry key is in
+    let cluster : Cluster = record key.cluster { body_text = read.0 } in
+    read_good profile (static_body (body_in entry)) cluster
+    (good_content profile Cds (entry_name entry) (ttl_of entry) (static_body (body_in entry)) (a_cluster cluster) read.1)
 
 -- ---- addresses
 
@@ -324,21 +348,21 @@ in_once g [] is = absurd is
 in_once g (first ∷ gs) (inl e) = inl e
 in_once g (first ∷ gs) (inr is) = inr (in_once g gs (in_filter (λ (other : Guarded). not (guarded_same other first)) g (each_once gs) is).0)
 
-guarded_good : (lines : List Data) (place : ℕ) (g : Guarded) → slice_get (guarded_by by_names lines) place ≡ Some g → ByRecursion IsGoodRow (template_rows g.key)
-guarded_good lines place g there =
-    let among : IsIn g (flat_map (guarded_in by_names) lines) = in_once g (flat_map (guarded_in by_names) lines) (in_get (guarded_by by_names lines) place g there) in
-    let line = in_flat (guarded_in by_names) lines g among in
-    let entry = in_found (guarded_of by_names) (clusters_in line.0) g line.2 in
-    by entry.0 (by_names.key_of entry.0) refl entry.2
+guarded_good : (profile : Profile) (lines : List Data) (place : ℕ) (g : Guarded) → slice_get (guarded_by (by_names profile) lines) place ≡ Some g → ByRecursion IsGoodRow (template_rows g.key)
+guarded_good profile lines place g there =
+    let among : IsIn g (flat_map (guarded_in (by_names profile)) lines) = in_once g (flat_map (guarded_in (by_names profile)) lines) (in_get (guarded_by (by_names profile) lines) place g there) in
+    let line = in_flat (guarded_in (by_names profile)) lines g among in
+    let entry = in_found (guarded_of (by_names profile)) (clusters_in profile line.0) g line.2 in
+    by entry.0 ((by_names profile).key_of entry.0) refl entry.2
   where
-    by : (entry : Data) (key : Option Key) → by_names.key_of entry ≡ key → option_map (λ (k : Key). record { key = k; own = by_names.own_of entry }) key ≡ Some g
+    by : (entry : Data) (key : Option Key) → (by_names profile).key_of entry ≡ key → option_map (λ (k : Key). record { key = k; own = (by_names profile).own_of entry }) key ≡ Some g
         → ByRecursion IsGoodRow (template_rows g.key)
     by entry None is h = absurd (cc)
     by entry (Some key) is h =
-        let same : record { key = key; own = by_names.own_of entry } ≡ g = cc in
-        subst (λ (x : Guarded). ByRecursion IsGoodRow (template_rows x.key)) same (template_good entry key is)
+        let same : record { key = key; own = (by_names profile).own_of entry } ≡ g = cc in
+        subst (λ (x : Guarded). ByRecursion IsGoodRow (template_rows x.key)) same (template_good profile entry key is)
 
 -- so the endpoints that are written of a place are read as its hosts
-pub hosts_read : (lines : List Data) (place : ℕ) (g : Guarded) → place < ITEM_LIMIT → ReadsHosts lines place g
-hosts_read lines place g small index front version at there =
-    item_reads version place (hosts_by (up_to front) g.key) small (all_hosts (up_to front) g.key (guarded_good (up_to front) place g there))
+pub hosts_read : (profile : Profile) (lines : List Data) (place : ℕ) (g : Guarded) → place < ITEM_LIMIT → ReadsHosts profile lines place g
+hosts_read profile lines place g small index front version at there =
+    item_reads profile version place (hosts_by (up_to front) g.key) small (all_hosts (up_to front) g.key (guarded_good profile (up_to front) place g there))

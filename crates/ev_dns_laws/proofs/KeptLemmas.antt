@@ -17,6 +17,7 @@ use Rattle.ev_types.specs.declared.events.Verdict.TheVariants.{New, Same, Kept, 
 use Rattle.ev_types.specs.declared.limits.TheConstants.{ITEM_LIMIT}
 use Rattle.ev_types.specs.declared.rows.KeptVersion.{KeptVersion}
 use Rattle.ev_types.specs.declared.rows.Live.{Live}
+use Rattle.ev_types.specs.declared.events.Profile.{Profile}
 use Rattle.ev_model.specs.Verdicts.{body_verdict, form_rule, is_among, is_removed, items_named, lesser, lives_after, lives_left, removed_rule, rule_of, stale_rule, twice_rule, verdict_by, verdict_of, verdicts_from, verdicts_of}
 use Rattle.ev_model.specs.Watching.{is_watched}
 use Rattle.ev_model_laws.proofs.OperationLists.{IsIn, filter_all, map_filter}
@@ -84,73 +85,73 @@ pub record Keeps (response : ResponseParts) (lives : List Live) (versions : List
   pub named : item.name ≡ name
   pub good : item.body ≡ Good content
 
-module _ (front : Front) where
-  nothing_removed : (due_response front).removed ≡ []
-  nothing_removed = by (filter (λ (p : ℕ × Guarded). is_due front p.1) (enumerate_from 0 (guarded_at dns_rules front)))
+module _ (profile : Profile) (front : Front) where
+  nothing_removed : (due_response profile front).removed ≡ []
+  nothing_removed = by (filter (λ (p : ℕ × Guarded). is_due profile front p.1) (enumerate_from 0 (guarded_at (dns_rules profile) front)))
     where
       by : (ps : List (ℕ × Guarded)) → filter_map (name_left (codes "dns/")) (map (parts_of front) ps) ≡ []
       by [] = refl
       by (p ∷ ps) = by ps
 
-  names_due : map (λ (item : ItemParts). item.name) (due_response front).items ≡ map (λ (d : DueParts). name_of_place d.place) (due_at dns_rules front)
+  names_due : map (λ (item : ItemParts). item.name) (due_response profile front).items ≡ map (λ (d : DueParts). name_of_place d.place) (due_at (dns_rules profile) front)
   names_due =
-      following_names (codes "dns/") (codes "dns-") (decimal (place_of front)) (due_at dns_rules front)
-      ∙ by (filter (λ (p : ℕ × Guarded). is_due front p.1) (enumerate_from 0 (guarded_at dns_rules front)))
+      following_names profile (codes "dns/") (codes "dns-") (decimal (place_of front)) (due_at (dns_rules profile) front)
+      ∙ by (filter (λ (p : ℕ × Guarded). is_due profile front p.1) (enumerate_from 0 (guarded_at (dns_rules profile) front)))
     where
       by : (ps : List (ℕ × Guarded)) → filter_map (name_with (codes "dns/")) (map (parts_of front) ps) ≡ map (λ (d : DueParts). name_of_place d.place) (map (parts_of front) ps)
       by [] = refl
       by (p ∷ ps) = ap (λ ns. name_of_place p.0 ∷ ns) (by ps)
 
-  stands_once : (place : ℕ) → place < ITEM_LIMIT → length (guarded_at dns_rules front) ≤ ITEM_LIMIT
-      → nat_le 2 (length (items_named (name_of_place place) (due_response front).items)) ≡ false
+  stands_once : (place : ℕ) → place < ITEM_LIMIT → length (guarded_at (dns_rules profile) front) ≤ ITEM_LIMIT
+      → nat_le 2 (length (items_named (name_of_place place) (due_response profile front).items)) ≡ false
   stands_once place below few =
-      let items : List ItemParts = (due_response front).items in
+      let items : List ItemParts = (due_response profile front).items in
       let named : List ℕ → Bool = λ n. bytes_eq n (name_of_place place) in
-      let count : length (items_named (name_of_place place) items) ≡ length (filter named (map (λ (d : DueParts). name_of_place d.place) (due_at dns_rules front))) =
+      let count : length (items_named (name_of_place place) items) ≡ length (filter named (map (λ (d : DueParts). name_of_place d.place) (due_at (dns_rules profile) front))) =
       sym (length-map (items_named (name_of_place place) items) (λ (item : ItemParts). item.name))
       ∙ ap length (map_filter (λ (item : ItemParts). item.name) named items) ∙ ap (λ ns. length (filter named ns)) names_due in
-      lt-leb 2 (length (items_named (name_of_place place) items)) (omega (arith, count, due_once front place below few))
+      lt-leb 2 (length (items_named (name_of_place place) items)) (omega (arith, count, due_once profile front place below few))
 
-  all_left : (lives : List Live) → lives_left Eds (due_response front) lives ≡ lives
+  all_left : (lives : List Live) → lives_left Eds (due_response profile front) lives ≡ lives
   all_left lives =
-      filter_all (λ (live : Live). not (kind_same live.kind Eds && is_removed (due_response front) live.name)) lives
+      filter_all (λ (live : Live). not (kind_same live.kind Eds && is_removed (due_response profile front) live.name)) lives
       (λ live is.
-      ap not (and_right (kind_same live.kind Eds) (is_removed (due_response front) live.name)
-      (ap (λ names. is_among live.name names && not (nat_le 1 (length (items_named live.name (due_response front).items)))) nothing_removed)))
+      ap not (and_right (kind_same live.kind Eds) (is_removed (due_response profile front) live.name)
+      (ap (λ names. is_among live.name names && not (nat_le 1 (length (items_named live.name (due_response profile front).items)))) nothing_removed)))
 
   entry_at : ℕ → Guarded → Data
   entry_at place g = endpoints_entry (decimal (place_of front)) (name_of_place place) (endpoints_tree (hosts_of (up_to front) g.key))
 
-  one_name : (place : ℕ) (g : Guarded) → (item_of Eds (entry_at place g)).name ≡ name_of_place place
+  one_name : (place : ℕ) (g : Guarded) → (item_of profile Eds (entry_at place g)).name ≡ name_of_place place
   unfolding entry_at
-  one_name place g = first (names_given (codes "dns/") (decimal (place_of front)) (parts_of front (place, g) ∷ []))
+  one_name place g = first (names_given profile (codes "dns/") (decimal (place_of front)) (parts_of front (place, g) ∷ []))
     where
       first : {x y : List ℕ} → (x ∷ []) ≡ (y ∷ []) → x ≡ y
       first e = cc
 
   -- what is due of a watched place is kept
-  pub due_kept : (place : ℕ) (g : Guarded) (lives : List Live) (versions : List KeptVersion) (content : Content) → slice_get (guarded_at dns_rules front) place ≡ Some g
-      → is_due front g ≡ true → place < ITEM_LIMIT → length (guarded_at dns_rules front) ≤ ITEM_LIMIT
-      → (item_of Eds (endpoints_entry (decimal (place_of front)) (name_of_place place) (endpoints_tree (hosts_of (up_to front) g.key)))).body ≡ Good content
-      → is_watched lives Eds (name_of_place place) ≡ true → Keeps (due_response front) lives versions (name_of_place place) content
+  pub due_kept : (place : ℕ) (g : Guarded) (lives : List Live) (versions : List KeptVersion) (content : Content) → slice_get (guarded_at (dns_rules profile) front) place ≡ Some g
+      → is_due profile front g ≡ true → place < ITEM_LIMIT → length (guarded_at (dns_rules profile) front) ≤ ITEM_LIMIT
+      → (item_of profile Eds (endpoints_entry (decimal (place_of front)) (name_of_place place) (endpoints_tree (hosts_of (up_to front) g.key)))).body ≡ Good content
+      → is_watched lives Eds (name_of_place place) ≡ true → Keeps (due_response profile front) lives versions (name_of_place place) content
   unfolding entry_at
   due_kept place g lives versions content there due below few good watched =
       let entry : Data = entry_at place g in
-      let response : ResponseParts = due_response front in
-      let among : IsIn (item_of Eds entry) response.items =
-      map_in (item_of Eds) (filter_map (entry_due (codes "dns/") (decimal (place_of front))) (due_at dns_rules front)) entry
-      (found_in (entry_due (codes "dns/") (decimal (place_of front))) (due_at dns_rules front) (parts_of front (place, g)) entry (among_due front place g there due) refl) in
-      let at = get_in response.items (item_of Eds entry) among in
-      let named : (item_of Eds entry).name ≡ name_of_place place = one_name place g in
-      let kept : verdict_of Eds response lives versions (item_of Eds entry) ≡ Kept =
-      kept_verdict response lives versions (item_of Eds entry) content nothing_removed good
+      let response : ResponseParts = due_response profile front in
+      let among : IsIn (item_of profile Eds entry) response.items =
+      map_in (item_of profile Eds) (filter_map (entry_due (codes "dns/") (decimal (place_of front))) (due_at (dns_rules profile) front)) entry
+      (found_in (entry_due (codes "dns/") (decimal (place_of front))) (due_at (dns_rules profile) front) (parts_of front (place, g)) entry (among_due profile front place g there due) refl) in
+      let at = get_in response.items (item_of profile Eds entry) among in
+      let named : (item_of profile Eds entry).name ≡ name_of_place place = one_name place g in
+      let kept : verdict_of Eds response lives versions (item_of profile Eds entry) ≡ Kept =
+      kept_verdict response lives versions (item_of profile Eds entry) content nothing_removed good
       (ap (λ n. nat_le 2 (length (items_named n response.items))) named ∙ stands_once place below few)
       (ap (is_watched lives Eds) named ∙ watched) in
       record {
         place = at.0;
         judged = ap (λ ls. slice_get (verdicts_from Eds response versions ls response.items) at.0) (all_left lives)
-            ∙ judged_at response versions lives response.items at.0 (item_of Eds entry) at.1 ∙ ap (λ v. Some v) kept;
-        item = item_of Eds entry;
+            ∙ judged_at response versions lives response.items at.0 (item_of profile Eds entry) at.1 ∙ ap (λ v. Some v) kept;
+        item = item_of profile Eds entry;
         there = at.1;
         named = named;
         good = good;

@@ -22,3 +22,13 @@ get_taken [] n i x less h = absurd (cc)
 get_taken (y ∷ xs) zero i x less h = absurd (omega (arith, less))
 get_taken (y ∷ xs) (suc n) zero x less h = h
 get_taken (y ∷ xs) (suc n) (suc i) x less h = get_taken xs n i x (omega (arith, less)) h
+
+-- the first n of more of them
+pub taken_twice : {X : Type 0} (n m : ℕ) (xs : List X) → n ≤ m → take n (take m xs) ≡ take n xs
+taken_twice zero zero [] h = refl
+taken_twice zero zero (x ∷ xs) h = refl
+taken_twice zero (suc m) [] h = refl
+taken_twice zero (suc m) (x ∷ xs) h = refl
+taken_twice (suc n) zero xs h = absurd (omega arith)
+taken_twice (suc n) (suc m) [] h = refl
+taken_twice (suc n) (suc m) (x ∷ xs) h = ap (λ ys. x ∷ ys) (taken_twice n m xs (omega arith))

@@ -1,5 +1,5 @@
 -- What makes a generation that depends on endpoints is a response of clusters, by a cluster that asks for them.
-use Rattle.std.proofs.Common.{◌≡◌, ◌∙◌, inl, inr, ℕ, Bool, true, false, cond, List, [], ◌∷◌, flat_map, Option, Some, None, codes, refl, ap, subst}
+use Rattle.std.proofs.Common.{◌≡◌, ◌∙◌, inl, inr, ℕ, Bool, true, false, cond, not, List, [], ◌∷◌, flat_map, Option, Some, None, codes, refl, ap, subst}
 use Rattle.std.specs.Prelude.{Result, Ok, Err}
 use Rattle.std.specs.List.{list_any, zip}
 use Rattle.std.proofs.lemmas.Bool.{false≢true}
@@ -8,7 +8,7 @@ use Rattle.ev_types.specs.Items.{ItemParts, ResponseParts}
 use Rattle.ev_types.specs.Same.{bytes_decide}
 use Rattle.ev_types.specs.declared.clusters.Cluster.{Cluster}
 use Rattle.ev_types.specs.declared.clusters.Discovery.{Discovery}
-use Rattle.ev_types.specs.declared.clusters.Discovery.TheVariants.{Static, Eds as by_name}
+use Rattle.ev_types.specs.declared.clusters.Discovery.TheVariants.{Static, Eds as by_name, Elsewhere}
 use Rattle.ev_types.specs.declared.contents.Kind.{Kind}
 use Rattle.ev_types.specs.declared.contents.Kind.TheVariants.{Cds, Eds, Lds, Rds}
 use Rattle.ev_types.specs.declared.contents.Content.{Content}
@@ -22,11 +22,13 @@ use Rattle.ev_types.specs.declared.events.Event.TheVariants.{Response}
 use Rattle.ev_types.specs.declared.events.Verdict.{Verdict}
 use Rattle.ev_types.specs.declared.events.Verdict.TheVariants.{New, Same, Kept, Unasked, Renewed, Refused}
 use Rattle.ev_types.specs.declared.listeners.Serve.{Serve}
-use Rattle.ev_types.specs.declared.listeners.Serve.TheVariants.{Rds as by_rds, Inline, Tcp}
+use Rattle.ev_types.specs.declared.listeners.Serve.TheVariants.{Rds as by_rds, Inline, Tcp, Other}
+use Rattle.ev_types.specs.declared.events.Profile.{Profile}
+use Rattle.ev_types.specs.declared.listeners.Listener.{Listener}
 use Rattle.ev_model.specs.Entries.{MadeRow, made_by, made_in, made_in_response}
-use Rattle.ev_model.specs.Watching.{Dependency, discovery_dependencies, has_dependency, is_dependency, serve_dependencies}
+use Rattle.ev_model.specs.Watching.{Dependency, dependency_same, discovery_dependencies, each_once, has_dependency, is_dependency, serve_dependencies, serves_of}
 use Rattle.ev_model_laws.proofs.AnyLemmas.{any_only}
-use Rattle.ev_model_laws.proofs.OperationLists.{IsIn}
+use Rattle.ev_model_laws.proofs.OperationLists.{IsIn, any_at, in_filter}
 use Rattle.ev_stream_laws.specs.Watches.{waits_for}
 use Rattle.ev_wire.specs.Bodies.{body_of, body_with, breaks_v1, content_of, content_with, is_heartbeat, own_broken, resource_of}
 use Rattle.ev_tree.specs.Broken.{least_of}
@@ -40,29 +42,49 @@ pub record IsAsking (name : List ℕ) (content : Content) : Type 0 where
   pub cluster : Cluster
   pub is : content ≡ a_cluster cluster
   pub limited : Bool
-  pub asks : cluster.discovery ≡ by_name name limited
+  pub fresh : Bool
+  pub asks : cluster.discovery ≡ by_name name limited fresh
 
 discovery_asks : (name : List ℕ) (cluster : Cluster) (discovery : Discovery) → cluster.discovery ≡ discovery
     → list_any (is_dependency Eds name) (discovery_dependencies discovery) ≡ true → IsAsking name (a_cluster cluster)
 discovery_asks name cluster (Static rows) is h = absurd (false≢true h)
-discovery_asks name cluster (by_name service limited) is h =
-    let d : Dependency = record { kind = Eds; name = service; limited = limited } in
+discovery_asks name cluster Elsewhere is h = absurd (false≢true h)
+discovery_asks name cluster (by_name service limited fresh) is h =
+    let d : Dependency = record { kind = Eds; name = service; limited = limited; fresh = fresh } in
     record {
       cluster = cluster;
       is = refl;
       limited = limited;
-      asks = is ∙ ap (λ n. by_name n limited) ((bytes_decide service name).0 (any_only (is_dependency Eds name) d h));
+      fresh = fresh;
+      asks = is ∙ ap (λ n. by_name n limited fresh) ((bytes_decide service name).0 (any_only (is_dependency Eds name) d h));
     }
 
 serve_asks : (name : List ℕ) (serve : Serve) → list_any (is_dependency Eds name) (serve_dependencies serve) ≡ true → ⊥
 serve_asks name (by_rds other limited) h = false≢true h
 serve_asks name (Inline table) h = false≢true h
 serve_asks name (Tcp target) h = false≢true h
+serve_asks name Other h = false≢true h
+
+-- none of these serves does
+serves_ask : (name : List ℕ) (serves : List Serve) (d : Dependency) → IsIn d (flat_map serve_dependencies serves) → is_dependency Eds name d ≡ true → ⊥
+serves_ask name serves d is depends =
+    let serve = in_flat serve_dependencies serves d is in
+    serve_asks name serve.0 (any_at (is_dependency Eds name) d (serve_dependencies serve.0) serve.2 depends)
+
+in_once : (d : Dependency) (ds : List Dependency) → IsIn d (each_once ds) → IsIn d ds
+in_once d [] is = absurd is
+in_once d (first ∷ ds) (inl e) = inl e
+in_once d (first ∷ ds) (inr is) = inr (in_once d ds (in_filter (λ (other : Dependency). not (dependency_same first other)) d (each_once ds) is).0)
+
+listener_asks : (name : List ℕ) (listener : Listener) → list_any (is_dependency Eds name) (each_once (flat_map serve_dependencies (serves_of listener))) ≡ true → ⊥
+listener_asks name listener h =
+    let one = in_any (is_dependency Eds name) (each_once (flat_map serve_dependencies (serves_of listener))) h in
+    serves_ask name (serves_of listener) one.0 (in_once one.0 (flat_map serve_dependencies (serves_of listener)) one.1) one.2
 
 pub content_asks : (name : List ℕ) (content : Content) → has_dependency Eds name content ≡ true → IsAsking name content
 content_asks name (a_cluster cluster) h = discovery_asks name cluster cluster.discovery refl h
 content_asks name (an_assignment rows) h = absurd (false≢true h)
-content_asks name (a_listener listener) h = absurd (serve_asks name listener.serve h)
+content_asks name (a_listener listener) h = absurd (listener_asks name listener h)
 content_asks name (routes table) h = absurd (false≢true h)
 
 -- ---- what an event makes
@@ -143,12 +165,12 @@ with_content : {A : Type 0} (kind : Kind) (make : A → Content) (read : Result 
 with_content kind make (Ok value) content each h = let same : make value ≡ content = cc in subst (IsOfKind kind) same (each value)
 with_content kind make (Err rule) content each h = absurd (cc)
 
-content_kind : (kind : Kind) (body : Data) (content : Content) → content_of kind body ≡ Ok content → IsOfKind kind content
+content_kind : (profile : Profile) (kind : Kind) (body : Data) (content : Content) → content_of profile kind body ≡ Ok content → IsOfKind kind content
 unfolding content_of
-content_kind Cds body content is = of_clusters content
-content_kind Eds body content is = with_content Eds an_assignment _ content (λ value. tt) is
-content_kind Lds body content is = with_content Lds a_listener _ content (λ value. tt) is
-content_kind Rds body content is = with_content Rds routes _ content (λ value. tt) is
+content_kind profile Cds body content is = of_clusters content
+content_kind profile Eds body content is = with_content Eds an_assignment _ content (λ value. tt) is
+content_kind profile Lds body content is = with_content Lds a_listener _ content (λ value. tt) is
+content_kind profile Rds body content is = with_content Rds routes _ content (λ value. tt) is
 
 good_with : (kind : Kind) (rule : Option ℕ) (read : Result Content ℕ) (content : Content) → ((c : Content) → read ≡ Ok c → IsOfKind kind c)
     → body_with rule read ≡ Good content → IsOfKind kind content
@@ -164,16 +186,16 @@ either_body false true kind read content each h = absurd (cc)
 either_body false false kind read content each h = each h
 
 -- what a good resource is read as is of its kind
-good_kind : (kind : Kind) (entry : Data) (content : Content) → (item_of kind entry).body ≡ Good content → IsOfKind kind content
+good_kind : (profile : Profile) (kind : Kind) (entry : Data) (content : Content) → (item_of profile kind entry).body ≡ Good content → IsOfKind kind content
 unfolding item_of body_of resource_of
-good_kind kind entry content h =
+good_kind profile kind entry content h =
     let name : List ℕ = entry_name entry in
     let resource : Found Data = field_of (codes "resource") entry in
     let tree : Data = inside resource in
     let rule : Option ℕ = least_of (own_broken kind name (ttl_of entry) tree) in
-    either_body (is_heartbeat name (ttl_of entry) resource) (breaks_v1 kind tree) kind (body_with rule (content_of kind tree)) content
-    (λ read. good_with kind rule (content_of kind tree) content (λ c is. content_kind kind tree c is) read) h
+    either_body (is_heartbeat name (ttl_of entry) resource) (breaks_v1 kind tree) kind (body_with rule (content_of profile kind tree)) content
+    (λ read. good_with kind rule (content_of profile kind tree) content (λ c is. content_kind profile kind tree c is) read) h
 
 -- a resource that asks for endpoints is one of clusters
-pub asking_kind : (name : List ℕ) (kind : Kind) (entry : Data) (content : Content) → (item_of kind entry).body ≡ Good content → IsAsking name content → kind ≡ Cds
-asking_kind name kind entry content good asks = subst (IsOfKind kind) asks.is (good_kind kind entry content good)
+pub asking_kind : (profile : Profile) (name : List ℕ) (kind : Kind) (entry : Data) (content : Content) → (item_of profile kind entry).body ≡ Good content → IsAsking name content → kind ≡ Cds
+asking_kind profile name kind entry content good asks = subst (IsOfKind kind) asks.is (good_kind profile kind entry content good)

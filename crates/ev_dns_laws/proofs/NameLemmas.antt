@@ -13,6 +13,7 @@ use Rattle.ev_types.specs.declared.events.Entry.{Entry}
 use Rattle.ev_types.specs.declared.events.Event.{Event}
 use Rattle.ev_types.specs.declared.events.Event.TheVariants.{Response, TtlExpired}
 use Rattle.ev_types.specs.declared.events.Line.{Line}
+use Rattle.ev_types.specs.declared.events.Profile.{Profile}
 use Rattle.ev_script.specs.Lines.{line_of}
 use Rattle.ev_stream_laws.specs.Told.{ends_name}
 use Rattle.ev_expand.specs.Expanding.{due_at, guarded_at, place_of}
@@ -55,37 +56,37 @@ speaks_used prefix rest event (inl names) = named_used prefix rest event names
 speaks_used prefix rest event (inr ends) = ended_used prefix rest event ends
 
 -- what a line itself becomes says nothing of private names, where no line of the input uses one
-own_silent : (lines : List Data) (index : ℕ) (front : Front) (at : ℕ) (line : Line) (rest : List ℕ) → first_use (codes "dns/") lines ≡ None
-    → slice_get (fronts lines) index ≡ Some front → line_of at (own_line front) ≡ Some line → SpeaksOf (codes "dns/" ++ rest) line.event → ⊥
-own_silent lines index front at line rest unused there is speaks = by (own_says front at line is)
+own_silent : (profile : Profile) (lines : List Data) (index : ℕ) (front : Front) (at : ℕ) (line : Line) (rest : List ℕ) → first_use profile (codes "dns/") lines ≡ None
+    → slice_get (fronts lines) index ≡ Some front → line_of profile at (own_line profile front) ≡ Some line → SpeaksOf (codes "dns/" ++ rest) line.event → ⊥
+own_silent profile lines index front at line rest unused there is speaks = by (own_says profile front at line is)
   where
-    by : (event_of front.line ≡ Some line.event) ⊎ IsWaiting front line.event → ⊥
+    by : (event_of profile front.line ≡ Some line.event) ⊎ IsWaiting profile front line.event → ⊥
     by (inl same) =
-        event_unused (codes "dns/") lines index front.line line.event unused (front_at lines index front there).here same
+        event_unused profile (codes "dns/") lines index front.line line.event unused (front_at lines index front there).here same
         (speaks_used (codes "dns/") rest line.event speaks)
     by (inr waiting) =
-        waiting_silent (codes "dns/" ++ rest) (waiting_response (codes "dns/") by_names (guarded_at dns_rules front) front.line waiting.said.response)
+        waiting_silent (codes "dns/" ++ rest) (waiting_response (codes "dns/") (by_names profile) (guarded_at (dns_rules profile) front) front.line waiting.said.response)
         waiting.said.kind (subst (SpeaksOf (codes "dns/" ++ rest)) waiting.is speaks)
 
 -- the entry is by a line that follows one at which the name is due
-pub record SpeaksDue (lines : List Data) (entry : Entry) (by : IsBy lines entry) (name : List ℕ) : Type 0 where
-  pub follows : IsFollower by.front by.inner by.tree
-  pub names : IsDueName (codes "dns/") (due_at dns_rules by.front) name
+pub record SpeaksDue (profile : Profile) (lines : List Data) (entry : Entry) (by : IsBy profile lines entry) (name : List ℕ) : Type 0 where
+  pub follows : IsFollower profile by.front by.inner by.tree
+  pub names : IsDueName (codes "dns/") (due_at (dns_rules profile) by.front) name
 
-due_speaks : (name : List ℕ) (front : Front) → SpeaksOf name (Response (due_response front)) → IsDueName (codes "dns/") (due_at dns_rules front) name
-due_speaks name front (inl names) = due_named (codes "dns/") (codes "dns-") (decimal (place_of front)) name (due_at dns_rules front) names.1
-due_speaks name front (inr ends) = absurd (false≢true ends)
+due_speaks : (profile : Profile) (name : List ℕ) (front : Front) → SpeaksOf name (Response (due_response profile front)) → IsDueName (codes "dns/") (due_at (dns_rules profile) front) name
+due_speaks profile name front (inl names) = due_named profile (codes "dns/") (codes "dns-") (decimal (place_of front)) name (due_at (dns_rules profile) front) names.1
+due_speaks profile name front (inr ends) = absurd (false≢true ends)
 
 -- this holds where an entry says something of the endpoints of a place
-pub speaks_due : (lines : List Data) (entry : Entry) (by : IsBy lines entry) (place : ℕ) → first_use (codes "dns/") lines ≡ None
-    → SpeaksOf (name_of_place place) entry.event → SpeaksDue lines entry by (name_of_place place)
-speaks_due lines entry by place unused speaks = at (given_is by.front by.inner by.tree by.among)
+pub speaks_due : (profile : Profile) (lines : List Data) (entry : Entry) (by : IsBy profile lines entry) (place : ℕ) → first_use profile (codes "dns/") lines ≡ None
+    → SpeaksOf (name_of_place place) entry.event → SpeaksDue profile lines entry by (name_of_place place)
+speaks_due profile lines entry by place unused speaks = at (given_is profile by.front by.inner by.tree by.among)
   where
-    at : IsOwn by.front by.inner by.tree ⊎ IsFollower by.front by.inner by.tree → SpeaksDue lines entry by (name_of_place place)
+    at : IsOwn profile by.front by.inner by.tree ⊎ IsFollower profile by.front by.inner by.tree → SpeaksDue profile lines entry by (name_of_place place)
     at (inl own) =
-        absurd (own_silent lines by.index by.front entry.at by.line (decimal (place + 1)) unused by.there (sym (ap (line_of entry.at) own.is) ∙ by.is)
+        absurd (own_silent profile lines by.index by.front entry.at by.line (decimal (place + 1)) unused by.there (sym (ap (line_of profile entry.at) own.is) ∙ by.is)
         (subst (SpeaksOf (name_of_place place)) (sym by.says) speaks))
     at (inr follows) =
-        let said : by.line ≡ stream_line entry.at (due_response by.front) = follower_says by.front by.inner entry.at by.tree by.line follows by.is in
-        let event : entry.event ≡ Response (due_response by.front) = sym by.says ∙ ap (λ (l : Line). l.event) said in
-        record { follows = follows; names = due_speaks (name_of_place place) by.front (subst (SpeaksOf (name_of_place place)) event speaks) }
+        let said : by.line ≡ stream_line entry.at (due_response profile by.front) = follower_says profile by.front by.inner entry.at by.tree by.line follows by.is in
+        let event : entry.event ≡ Response (due_response profile by.front) = sym by.says ∙ ap (λ (l : Line). l.event) said in
+        record { follows = follows; names = due_speaks profile (name_of_place place) by.front (subst (SpeaksOf (name_of_place place)) event speaks) }

@@ -8,6 +8,7 @@ use Rattle.std.proofs.lemmas.List.{take-append-drop}
 use Rattle.serde_json.specs.Data.{Data}
 use Rattle.ev_types.specs.Same.{bytes_decide}
 use Rattle.ev_types.specs.declared.limits.TheConstants.{ITEM_LIMIT}
+use Rattle.ev_types.specs.declared.events.Profile.{Profile}
 use Rattle.ev_model_laws.proofs.AnyLemmas.{any_flat}
 use Rattle.ev_model_laws.proofs.OperationLists.{IsIn}
 use Rattle.ev_expand.specs.Expanding.{due_at, gives, guarded_at, lines_due, place_of, written_line}
@@ -30,32 +31,32 @@ use Rattle.ev_dns_laws.proofs.TextLemmas.{IsFollower}
 -- ---- places so far
 
 -- a key that was guarded has its place already
-pub guarded_early : (lines : List Data) (n place : ℕ) (g : Guarded) → slice_get (guarded_by by_names lines) place ≡ Some g → was_guarded (take n lines) g.key ≡ true
-    → slice_get (guarded_by by_names (take n lines)) place ≡ Some g
-guarded_early lines n place g there seen =
-    let first : List Guarded = guarded_by by_names (take n lines) in
-    let all : List Guarded = guarded_by by_names lines in
+pub guarded_early : (profile : Profile) (lines : List Data) (n place : ℕ) (g : Guarded) → slice_get (guarded_by (by_names profile) lines) place ≡ Some g → was_guarded profile (take n lines) g.key ≡ true
+    → slice_get (guarded_by (by_names profile) (take n lines)) place ≡ Some g
+guarded_early profile lines n place g there seen =
+    let first : List Guarded = guarded_by (by_names profile) (take n lines) in
+    let all : List Guarded = guarded_by (by_names profile) lines in
     let any : list_any (λ (x : Guarded). key_same g.key x.key) first ≡ true =
-    once_has g.key (flat_map (guarded_in by_names) (take n lines))
-    (any_flat (λ (x : Guarded). key_same g.key x.key) (guarded_in by_names) (take n lines) ∙ seen) in
+    once_has g.key (flat_map (guarded_in (by_names profile)) (take n lines))
+    (any_flat (λ (x : Guarded). key_same g.key x.key) (guarded_in (by_names profile)) (take n lines) ∙ seen) in
     let found = got first (place_in first g.key) (place_within g.key first any) in
     let same : g.key ≡ found.0.key = (key_decides g.key found.0.key).0 (place_has first g.key (place_in first g.key) found.0 refl found.1) in
-    let later : slice_get all (place_in first g.key) ≡ Some found.0 = guarded_stays by_names lines n (place_in first g.key) found.0 found.1 in
-    let own : place_in all g.key ≡ place = own_place all place g (once_distinct (flat_map (guarded_in by_names) lines)) there in
+    let later : slice_get all (place_in first g.key) ≡ Some found.0 = guarded_stays (by_names profile) lines n (place_in first g.key) found.0 found.1 in
+    let own : place_in all g.key ≡ place = own_place all place g (once_distinct (flat_map (guarded_in (by_names profile)) lines)) there in
     let other : place_in all found.0.key ≡ place_in first g.key =
-    own_place all (place_in first g.key) found.0 (once_distinct (flat_map (guarded_in by_names) lines)) later in
+    own_place all (place_in first g.key) found.0 (once_distinct (flat_map (guarded_in (by_names profile)) lines)) later in
     let at : place_in first g.key ≡ place = sym other ∙ ap (place_in all) (sym same) ∙ own in
     let one : found.0 ≡ g = some_same (sym later ∙ ap (slice_get all) at ∙ there) in
     ap (slice_get first) (sym at) ∙ found.1 ∙ ap (λ (x : Guarded). Some x) one
 
 -- no more was guarded so far than in all lines
-pub guarded_fewer : (lines : List Data) (n : ℕ) → length (guarded_by by_names (take n lines)) ≤ length (guarded_by by_names lines)
-guarded_fewer lines n =
-    let first : List Guarded = flat_map (guarded_in by_names) (take n lines) in
-    let rest : List Guarded = flat_map (guarded_in by_names) (drop n lines) in
+pub guarded_fewer : (profile : Profile) (lines : List Data) (n : ℕ) → length (guarded_by (by_names profile) (take n lines)) ≤ length (guarded_by (by_names profile) lines)
+guarded_fewer profile lines n =
+    let first : List Guarded = flat_map (guarded_in (by_names profile)) (take n lines) in
+    let rest : List Guarded = flat_map (guarded_in (by_names profile)) (drop n lines) in
     let extended : IsExtended (each_once first) (each_once (first ++ rest)) rest = once_extends first rest in
-    let joined : first ++ rest ≡ flat_map (guarded_in by_names) lines =
-    sym (flat_map-append (guarded_in by_names) (take n lines) (drop n lines)) ∙ ap (flat_map (guarded_in by_names)) (take-append-drop n lines) in
+    let joined : first ++ rest ≡ flat_map (guarded_in (by_names profile)) lines =
+    sym (flat_map-append (guarded_in (by_names profile)) (take n lines) (drop n lines)) ∙ ap (flat_map (guarded_in (by_names profile))) (take-append-drop n lines) in
     omega (arith, ap (λ gs. length (each_once gs)) joined, ap length extended.grown, length-append (each_once first) extended.more)
 
 -- ---- what is due
@@ -75,42 +76,42 @@ in_enum m (y ∷ xs) (suc i) x h =
     inr (subst (λ n. IsIn (n, x) (enumerate_from (m + 1) xs)) place (in_enum (m + 1) xs i x h))
 
 -- a place that is due is among these
-pub among_due : (front : Front) (place : ℕ) (g : Guarded) → slice_get (guarded_at dns_rules front) place ≡ Some g → is_due front g ≡ true
-    → IsIn (parts_of front (place, g)) (due_at dns_rules front)
-among_due front place g there due =
-    let gs : List Guarded = guarded_at dns_rules front in
+pub among_due : (profile : Profile) (front : Front) (place : ℕ) (g : Guarded) → slice_get (guarded_at (dns_rules profile) front) place ≡ Some g → is_due profile front g ≡ true
+    → IsIn (parts_of front (place, g)) (due_at (dns_rules profile) front)
+among_due profile front place g there due =
+    let gs : List Guarded = guarded_at (dns_rules profile) front in
     let none : 0 + place ≡ place = omega arith in
-    map_in (parts_of front) (filter (λ (p : ℕ × Guarded). is_due front p.1) (enumerate_from 0 gs)) (place, g)
-    (in_kept (λ (p : ℕ × Guarded). is_due front p.1) (enumerate_from 0 gs) (place, g) (subst (λ n. IsIn (n, g) (enumerate_from 0 gs)) none (in_enum 0 gs place g there)) due)
+    map_in (parts_of front) (filter (λ (p : ℕ × Guarded). is_due profile front p.1) (enumerate_from 0 gs)) (place, g)
+    (in_kept (λ (p : ℕ × Guarded). is_due profile front p.1) (enumerate_from 0 gs) (place, g) (subst (λ n. IsIn (n, g) (enumerate_from 0 gs)) none (in_enum 0 gs place g there)) due)
 
 -- ---- the line that follows
 
 -- the line that follows is given at this place
-pub record HasFollower (front : Front) : Type 0 where
+pub record HasFollower (profile : Profile) (front : Front) : Type 0 where
   pub inner : ℕ
   pub tree : Data
-  pub among : slice_get (gives dns_rules front) inner ≡ Some tree
-  pub follows : IsFollower front inner tree
+  pub among : slice_get (gives (dns_rules profile) front) inner ≡ Some tree
+  pub follows : IsFollower profile front inner tree
 
-pub follower_there : (front : Front) (due : DueParts) → IsIn due (due_at dns_rules front) → HasFollower front
-follower_there front due is = by (due_at dns_rules front) refl is
+pub follower_there : (profile : Profile) (front : Front) (due : DueParts) → IsIn due (due_at (dns_rules profile) front) → HasFollower profile front
+follower_there profile front due is = by (due_at (dns_rules profile) front) refl is
   where
     own : List Data
-    own = written_line dns_rules (guarded_at dns_rules front) front.line
+    own = written_line (dns_rules profile) (guarded_at (dns_rules profile) front) front.line
 
-    by : (parts : List DueParts) → due_at dns_rules front ≡ parts → IsIn due parts → HasFollower front
+    by : (parts : List DueParts) → due_at (dns_rules profile) front ≡ parts → IsIn due parts → HasFollower profile front
     by [] at none = absurd none
     by (first ∷ others) at among =
         let tree : Data = following_line (codes "dns/") (codes "dns-") (decimal (place_of front)) (first ∷ others) in
-        let rest : lines_due (codes "dns/") (codes "dns-") (place_of front) (due_at dns_rules front) ≡ tree ∷ [] =
+        let rest : lines_due (codes "dns/") (codes "dns-") (place_of front) (due_at (dns_rules profile) front) ≡ tree ∷ [] =
         ap (lines_due (codes "dns/") (codes "dns-") (place_of front)) at in
-        let joined : length (gives dns_rules front) ≡ length own + 1 =
-        length-append own (lines_due (codes "dns/") (codes "dns-") (place_of front) (due_at dns_rules front)) ∙ ap (λ ls. length own + length ls) rest in
+        let joined : length (gives (dns_rules profile) front) ≡ length own + 1 =
+        length-append own (lines_due (codes "dns/") (codes "dns-") (place_of front) (due_at (dns_rules profile) front)) ∙ ap (λ ls. length own + length ls) rest in
         let none : length own + 0 ≡ length own = omega arith in
         record {
           inner = length own;
           tree = tree;
-          among = ap (slice_get (gives dns_rules front)) (sym none) ∙ back_get own (lines_due (codes "dns/") (codes "dns-") (place_of front) (due_at dns_rules front)) 0
+          among = ap (slice_get (gives (dns_rules profile) front)) (sym none) ∙ back_get own (lines_due (codes "dns/") (codes "dns-") (place_of front) (due_at (dns_rules profile) front)) 0
               ∙ ap (λ ls. slice_get ls 0) rest;
           follows = record {
             is = sym (ap (following_line (codes "dns/") (codes "dns-") (decimal (place_of front))) at);
@@ -161,13 +162,13 @@ module _ (test : ℕ × Guarded → Bool) (place : ℕ) (below : place < ITEM_LI
       by true false is rest = omega (arith, rest, one_more false (name_of_place n) (names_from test (n + 1) gs) is)
 
 -- no name of a place is due twice
-pub due_once : (front : Front) (place : ℕ) → place < ITEM_LIMIT → length (guarded_at dns_rules front) ≤ ITEM_LIMIT
-    → length (filter (λ n. bytes_eq n (name_of_place place)) (map (λ (d : DueParts). name_of_place d.place) (due_at dns_rules front))) ≤ 1
-due_once front place below few =
-    let test : ℕ × Guarded → Bool = λ p. is_due front p.1 in
-    let same : map (λ (d : DueParts). name_of_place d.place) (due_at dns_rules front) ≡ names_from test 0 (guarded_at dns_rules front) =
-    mapped (filter test (enumerate_from 0 (guarded_at dns_rules front))) in
-    omega (arith, ap (λ ns. length (filter (λ n. bytes_eq n (name_of_place place)) ns)) same, once_named test place below 0 (guarded_at dns_rules front) (omega (arith, few)))
+pub due_once : (profile : Profile) (front : Front) (place : ℕ) → place < ITEM_LIMIT → length (guarded_at (dns_rules profile) front) ≤ ITEM_LIMIT
+    → length (filter (λ n. bytes_eq n (name_of_place place)) (map (λ (d : DueParts). name_of_place d.place) (due_at (dns_rules profile) front))) ≤ 1
+due_once profile front place below few =
+    let test : ℕ × Guarded → Bool = λ p. is_due profile front p.1 in
+    let same : map (λ (d : DueParts). name_of_place d.place) (due_at (dns_rules profile) front) ≡ names_from test 0 (guarded_at (dns_rules profile) front) =
+    mapped (filter test (enumerate_from 0 (guarded_at (dns_rules profile) front))) in
+    omega (arith, ap (λ ns. length (filter (λ n. bytes_eq n (name_of_place place)) ns)) same, once_named test place below 0 (guarded_at (dns_rules profile) front) (omega (arith, few)))
   where
     mapped : (ps : List (ℕ × Guarded)) → map (λ (d : DueParts). name_of_place d.place) (map (parts_of front) ps) ≡ map (λ (p : ℕ × Guarded). name_of_place p.0) ps
     mapped [] = refl

@@ -1,6 +1,7 @@
 -- In a run the endpoints of a watched place are reported by the line that follows the last one at which it was due.
-use Rattle.std.proofs.Common.{◌≡◌, ◌∙◌, inl, inr, ℕ, ◌+◌, ◌<◌, ◌≤◌, ◌==◌, Bool, true, false, cond, ◌&&◌, ◌||◌, nat_lt, List, length, filter, take, Some, None, codes, refl, sym, ap, subst, arith}
+use Rattle.std.proofs.Common.{◌≡◌, ◌∙◌, inl, inr, ℕ, zero, suc, ◌+◌, ◌<◌, ◌≤◌, ◌==◌, Bool, true, false, cond, ◌&&◌, ◌||◌, nat_lt, List, length, filter, take, Some, None, codes, refl, sym, ap, subst, arith}
 use Rattle.std.specs.Prelude.{slice_get}
+use Rattle.std.specs.List.{list_any}
 use Rattle.std.specs.Str.{bytes_eq}
 use Rattle.std.specs.Cmp.{first_so, second_so}
 use Rattle.std.proofs.lemmas.Bool.{false≢true, or_left}
@@ -23,19 +24,21 @@ use Rattle.ev_types.specs.declared.events.Event.TheVariants.{Response, TtlExpire
 use Rattle.ev_types.specs.declared.events.Line.{Line}
 use Rattle.ev_types.specs.declared.journals.Format.{Format}
 use Rattle.ev_types.specs.declared.limits.TheConstants.{ITEM_LIMIT}
+use Rattle.ev_types.specs.declared.events.Profile.{Profile}
 use Rattle.ev_model.specs.World.{Arrived, World}
-use Rattle.ev_model.specs.Entries.{tells_of_name}
+use Rattle.ev_model.specs.Entries.{entries_since, made_in, tells_of_name}
 use Rattle.ev_model.specs.Laws.{Told, world_told}
 use Rattle.ev_model.specs.Live.{lives_of}
 use Rattle.ev_model.specs.Operations.{IsRunOf, Operation, entries_of, is_earlier, operation_of, operations_of}
 use Rattle.ev_model.specs.Step.{step}
-use Rattle.ev_model.specs.Warming.{came_for, is_told, is_word, value_of}
+use Rattle.ev_model.specs.Warming.{came_for, is_timeout, is_told, is_word, last_told, value_of}
 use Rattle.ev_model.specs.Watching.{is_watched}
-use Rattle.ev_model_laws.specs.Kept.{ComesByEntries, has_come_by, was_timed, was_told}
-use Rattle.ev_model_laws.proofs.OperationLists.{at_in, in_filter}
+use Rattle.ev_model_laws.specs.Kept.{ComesByEntries, entries_after, has_come_by, was_timed, was_told}
+use Rattle.ev_model_laws.proofs.OperationLists.{any_at, at_in, in_filter}
 use Rattle.ev_model_laws.proofs.PlaceLemmas.{IsAnswered, entry_answered, over_places, world_next}
 use Rattle.ev_model_laws.proofs.RunParts.{parts_kept}
 use Rattle.ev_stream_laws.specs.Told.{HasSameValue, ends_name}
+use Rattle.ev_stream_laws.specs.Watches.{waits_for}
 use Rattle.ev_stream_laws.proofs.HoldLemmas.{side_holds}
 use Rattle.ev_stream_laws.proofs.LiveLemmas.{watches_begin}
 use Rattle.ev_stream_laws.proofs.ToldLemmas.{told_stay}
@@ -46,7 +49,7 @@ use Rattle.ev_expand_laws.specs.Said.{lines_in}
 use Rattle.ev_expand_laws.specs.Runs.{run_told}
 use Rattle.ev_expand_laws.proofs.DueLemmas.{named_due}
 use Rattle.ev_expand_laws.proofs.ListLemmas.{get_in, in_any, in_map, taken_get}
-use Rattle.ev_expand_laws.proofs.NamedLemmas.{NamesEndpoints, wait_named}
+use Rattle.ev_expand_laws.proofs.NamedLemmas.{NamesEndpoints, since_in, wait_named}
 use Rattle.ev_expand_laws.proofs.OrderLemmas.{is_behind}
 use Rattle.ev_expand_laws.proofs.SaidPlaceLemmas.{stream_is, timer_main}
 use Rattle.ev_dns.specs.Resolving.{dns_rules, has_guarded, is_due}
@@ -84,9 +87,20 @@ earlier_at a b less none = by a.at b.at a.step b.step less none
     by : (m n k l : ℕ) → (nat_lt m n || ((m == n) && nat_lt k l)) ≡ true → l ≡ 0 → m < n
     by m n k l h e = grind (arith, nat_tests)
 
+-- what was told since a generation was made was told
+after_told : (made : ℕ) (entries : List Entry) (kind : Kind) (name : List ℕ) → was_told (entries_after made entries) kind name ≡ true → was_told entries kind name ≡ true
+after_told zero entries kind name h = h
+after_told (suc place) entries kind name h =
+    let tells : Entry → Bool = λ entry. tells_of_name kind name entry.event entry.answer in
+    let one = in_any tells (entries_since (suc place) entries) h in
+    any_at tells one.0 entries (since_in (suc place) entries one.0 one.1) one.2
+
 module _ (trees : ScriptTrees) (format : Format) (journal : List Entry) (kept : IsScript (answered_script trees)) (run : IsRunOf format (answered_script trees) journal)
-    (unused : first_use (codes "dns/") (lines_in trees) ≡ None) (few : length (guarded_by by_names (lines_in trees)) < ITEM_LIMIT)
-    (place : ℕ) (g : Guarded) (there : slice_get (guarded_by by_names (lines_in trees)) place ≡ Some g) where
+    (unused : first_use trees.header.profile (codes "dns/") (lines_in trees) ≡ None) (few : length (guarded_by (by_names trees.header.profile) (lines_in trees)) < ITEM_LIMIT)
+    (place : ℕ) (g : Guarded) (there : slice_get (guarded_by (by_names trees.header.profile) (lines_in trees)) place ≡ Some g) where
+  abbrev profile : Profile
+  profile = trees.header.profile
+
   abbrev pub told : Told
   told = run_told format (answered_script trees) journal
 
@@ -115,18 +129,18 @@ module _ (trees : ScriptTrees) (format : Format) (journal : List Entry) (kept : 
 
   -- the entry is one of the stream, by a line that follows one at which the place is due
   pub record TellsDue (entry : Entry) : Type 0 where
-    pub by : IsBy lines entry
+    pub by : IsBy profile lines entry
     pub own : entry.actor ≡ Stream
-    pub due : is_due by.front g ≡ true
+    pub due : is_due profile by.front g ≡ true
 
   tells_due : (k : ℕ) (entry : Entry) → At k entry → tells_of_name Eds name entry.event entry.answer ≡ true → TellsDue entry
   tells_due k entry at h =
       let response = told_response Eds name entry.event entry.answer h in
       let own : entry.actor ≡ Stream = response_stream (answered_script trees).workers entry.actor entry.event response.0 response.1 (answered k entry at).may in
-      let by : IsBy lines entry = entry_by trees format journal kept run k entry at (stream_main entry.actor own) (ap is_behind response.1) in
-      let names : NamesEndpoints name entry.event = wait_named name false entry (or_left (tells_of_name Eds name entry.event entry.answer) false h) in
-      let speaks : SpeaksDue lines entry by name = speaks_due lines entry by place unused (inl names) in
-      record { by = by; own = own; due = named_due dns_rules lines by.index place by.front g few by.there there speaks.names }
+      let by : IsBy profile lines entry = entry_by trees format journal kept run k entry at (stream_main entry.actor own) (ap is_behind response.1) in
+      let names : NamesEndpoints name entry.event = wait_named name false false entry (or_left (tells_of_name Eds name entry.event entry.answer) false h) in
+      let speaks : SpeaksDue profile lines entry by name = speaks_due profile lines entry by place unused (inl names) in
+      record { by = by; own = own; due = named_due (dns_rules profile) lines by.index place by.front g few by.there there speaks.names }
 
   -- no life of the place's endpoints ends
   never_ends : (k : ℕ) (entry : Entry) → At k entry → ends_name Eds name entry.event ≡ false
@@ -136,30 +150,34 @@ module _ (trees : ScriptTrees) (format : Format) (journal : List Entry) (kept : 
       by false is = refl
       by true is =
           let main = ended_main (answered_script trees).workers Eds name entry.actor entry.event is (answered k entry at).may in
-          let own : IsBy lines entry = entry_by trees format journal kept run k entry at main.0 main.1 in
-          let speaks : SpeaksDue lines entry own name = speaks_due lines entry own place unused (inr is) in
+          let own : IsBy profile lines entry = entry_by trees format journal kept run k entry at main.0 main.1 in
+          let speaks : SpeaksDue profile lines entry own name = speaks_due profile lines entry own place unused (inr is) in
           let said : entry.event ≡ _ =
-          sym own.says ∙ ap (λ (l : Line). l.event) (follower_says own.front own.inner entry.at own.tree own.line speaks.follows own.is) in
+          sym own.says ∙ ap (λ (l : Line). l.event) (follower_says profile own.front own.inner entry.at own.tree own.line speaks.follows own.is) in
           absurd (false≢true (sym (ap (ends_name Eds name) said) ∙ is))
 
   -- ---- entries at which a watch begins
 
   -- the entry is one of the stream, and is what a line with a guarded resource of the place's key becomes
   pub record Begins (entry : Entry) : Type 0 where
-    pub by : IsBy lines entry
+    pub by : IsBy profile lines entry
     pub own : entry.actor ≡ Stream
     pub maker : IsMaker name entry.event
-    pub guarded : has_guarded by.front.line g.key ≡ true
+    pub guarded : has_guarded profile by.front.line g.key ≡ true
+
+  -- what makes a generation that depends on the place's endpoints is such an entry
+  pub makes : (k : ℕ) (entry : Entry) → At k entry → (answer : Answer) → list_any (waits_for Eds name) (made_in entry.event answer) ≡ true → Begins entry
+  makes k entry at answer made =
+      let maker : IsMaker name entry.event = maker_of name entry.event answer made in
+      let own : entry.actor ≡ Stream = response_stream (answered_script trees).workers entry.actor entry.event maker.response maker.is (answered k entry at).may in
+      let by : IsBy profile lines entry = entry_by trees format journal kept run k entry at (stream_main entry.actor own) (ap is_behind maker.is) in
+      record { by = by; own = own; maker = maker; guarded = (makes_guard profile lines unused few place g there entry by answer made).guarded }
 
   pub begins : (k : ℕ) (entry : Entry) → At k entry → watched k ≡ false → watched (k + 1) ≡ true → Begins entry
   begins k entry at before after =
-      let answer : Answer = (step format (world k) entry.actor entry.event).1 in
-      let made = watches_begin format (world k) entry.actor entry.event Eds name before
-      (subst (λ (w : World). is_watched (lives_of w) Eds name ≡ true) (world_next told k entry at) after) in
-      let maker : IsMaker name entry.event = maker_of name entry.event answer made in
-      let own : entry.actor ≡ Stream = response_stream (answered_script trees).workers entry.actor entry.event maker.response maker.is (answered k entry at).may in
-      let by : IsBy lines entry = entry_by trees format journal kept run k entry at (stream_main entry.actor own) (ap is_behind maker.is) in
-      record { by = by; own = own; maker = maker; guarded = (makes_guard lines unused few place g there entry by answer made).guarded }
+      makes k entry at (step format (world k) entry.actor entry.event).1
+      (watches_begin format (world k) entry.actor entry.event Eds name before
+      (subst (λ (w : World). is_watched (lives_of w) Eds name ≡ true) (world_next told k entry at) after))
 
   -- a watch has begun by an entry before place k
   pub record Began (k : ℕ) : Type 0 where
@@ -201,7 +219,10 @@ module _ (trees : ScriptTrees) (format : Format) (journal : List Entry) (kept : 
       let kind : a.kind ≡ Eds = (kind_decides a.kind Eds).0 (first_so (kind_same a.kind Eds) (bytes_eq a.name name) same) in
       let own : a.name ≡ name = (bytes_decide a.name name).0 (second_so (kind_same a.kind Eds) (bytes_eq a.name name) same) in
       (λ i. was_told entries (sym kind i) (sym own i))
-      ∙ sym (ap (λ b. cond b (was_told entries a.kind a.name) (was_timed entries a.kind a.name)) word) ∙ come
+      ∙ after_told a.made entries a.kind a.name
+      (sym (ap (λ b. cond b (was_told (entries_after a.made entries) a.kind a.name)
+      (cond (is_timeout a.arrival) (was_timed (entries_after a.made entries) a.kind a.name) (was_told entries a.kind a.name))) word)
+      ∙ come)
 
   pub was_told_by : (k : ℕ) → k ≤ length journal → is_told (world k) Eds name ≡ true → WasTold k
   was_told_by k within h =
@@ -256,13 +277,14 @@ module _ (trees : ScriptTrees) (format : Format) (journal : List Entry) (kept : 
             same = record {
               value = ap (λ (w : World). value_of w Eds name) next ∙ same.value ∙ rest.same.value;
               told = ap (λ (w : World). is_told w Eds name) next ∙ same.told ∙ rest.same.told;
+              last = ap (λ (w : World). last_told w.arrivals Eds name) next ∙ same.last ∙ rest.same.last;
             };
           }
 
   -- after such an entry the place stays as it is
   pub stays : (q k : ℕ) → IsQuiet q k → q ≤ k → k < length journal → watched (k + 1) ≡ true → Stays (q + 1) (k + 1)
   stays q k quiet order within after =
-      over_places told (StaysTo (q + 1) k) (q + 1) (λ less is. record { watches = is; same = record { value = refl; told = refl } })
+      over_places told (StaysTo (q + 1) k) (q + 1) (λ less is. record { watches = is; same = record { value = refl; told = refl; last = refl } })
       (λ m entry from at before. stays_next q k m entry quiet from at before) (k + 1) (omega (arith, order)) (omega (arith, within)) (omega arith) after
 
   -- ---- the order of the stream's entries

@@ -4,6 +4,7 @@ use Rattle.std.specs.Prelude.{All}
 use Rattle.std.proofs.lemmas.List.Elements.{All-map}
 use Rattle.serde_json.specs.Data.{Data, depth}
 use Rattle.ev_types.specs.Hosts.{HostRowParts}
+use Rattle.ev_types.specs.declared.events.Profile.{Profile}
 use Rattle.ev_expand.specs.Fronts.{up_to, fronts}
 use Rattle.ev_expand.specs.Expanding.{guarded_at}
 use Rattle.ev_expand_laws.specs.Scripts.{IsShallow, AreShallowAt}
@@ -23,6 +24,6 @@ endpoints_shallow rows =
     )
 
 -- at each line those of all templates are shallow
-pub lines_shallow : (lines : List Data) → All (AreShallowAt dns_rules) (fronts lines)
-lines_shallow lines k front h i g less =
-    endpoints_shallow (hosts_of (up_to (get_or (fronts lines) k front)) (get_or (guarded_at dns_rules (get_or (fronts lines) k front)) i g).key)
+pub lines_shallow : (profile : Profile) (lines : List Data) → All (AreShallowAt (dns_rules profile)) (fronts lines)
+lines_shallow profile lines k front h i g less =
+    endpoints_shallow (hosts_of (up_to (get_or (fronts lines) k front)) (get_or (guarded_at (dns_rules profile) (get_or (fronts lines) k front)) i g).key)

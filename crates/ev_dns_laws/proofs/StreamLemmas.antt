@@ -30,6 +30,7 @@ use Rattle.ev_script.specs.declared.trees.ScriptTrees.{ScriptTrees}
 use Rattle.ev_expand_laws.proofs.ListLemmas.{in_get, in_kept}
 use Rattle.ev_types.specs.Items.{ResponseParts}
 use Rattle.ev_types.specs.Same.{bytes_decide}
+use Rattle.ev_types.specs.declared.events.Profile.{Profile}
 use Rattle.serde_json.specs.Find.{as_str}
 use Rattle.ev_script.specs.Lines.{line_by, line_of}
 use Rattle.ev_script.specs.Members.{member_of, is_op, is_word}
@@ -204,151 +205,151 @@ told_said Disconnect = refl
 told_said event = refl
 
 -- what a tree says of the stream
-abbrev pub said_by : Data → Option Bool
-said_by tree = option_and_then stream_said (event_of tree)
+abbrev pub said_by : Profile → Data → Option Bool
+said_by profile tree = option_and_then stream_said (event_of profile tree)
 
 -- what trees from this number on say, up to the last number
-abbrev said_from : ℕ → ℕ → List Data → List Bool
-said_from last at [] = []
-said_from last at (tree ∷ trees) = cond (nat_le at last) (cons_option (said_by tree) []) [] ++ said_from last (at + 1) trees
+abbrev said_from : Profile → ℕ → ℕ → List Data → List Bool
+said_from profile last at [] = []
+said_from profile last at (tree ∷ trees) = cond (nat_le at last) (cons_option (said_by profile tree) []) [] ++ said_from profile last (at + 1) trees
 
-no_line : (at : ℕ) (tree : Data) → line_of at tree ≡ None → said_by tree ≡ None
-no_line at tree none =
-    ap (λ (found : Option Line). option_and_then stream_said (option_map (λ (l : Line). l.event) found)) (line-moves at 0 tree ∙ ap (option_map (moved 0)) none)
+no_line : (profile : Profile) (at : ℕ) (tree : Data) → line_of profile at tree ≡ None → said_by profile tree ≡ None
+no_line profile at tree none =
+    ap (λ (found : Option Line). option_and_then stream_said (option_map (λ (l : Line). l.event) found)) (line-moves profile at 0 tree ∙ ap (option_map (moved 0)) none)
 
 nothing_there : (b : Bool) (rest : List Bool) (told : Option Bool) → told ≡ None → rest ≡ cond b (cons_option told []) [] ++ rest
 nothing_there true rest told none = ap (λ t. cons_option t [] ++ rest) (sym none)
 nothing_there false rest told none = refl
 
-trees_said : (o : Operation) (script : ScriptParts) (at : ℕ) (trees : List Data) → ByRecursion (λ (line : Line). MayMake script.workers line.actor line.event) (lines_said at trees)
-    → said_until o (flat_map (line_operations script) (lines_said at trees)) ≡ said_from o.at at trees
-trees_said o script at [] may = refl
-trees_said o script at (tree ∷ trees) may = by (line_of at tree) refl may (λ rest. trees_said o script (at + 1) trees rest)
+trees_said : (profile : Profile) (o : Operation) (script : ScriptParts) (at : ℕ) (trees : List Data) → ByRecursion (λ (line : Line). MayMake script.workers line.actor line.event) (lines_said profile at trees)
+    → said_until o (flat_map (line_operations script) (lines_said profile at trees)) ≡ said_from profile o.at at trees
+trees_said profile o script at [] may = refl
+trees_said profile o script at (tree ∷ trees) may = by (line_of profile at tree) refl may (λ rest. trees_said profile o script (at + 1) trees rest)
   where
-    by : (found : Option Line) → line_of at tree ≡ found
-        → ByRecursion (λ (line : Line). MayMake script.workers line.actor line.event) (option_to_list found ++ lines_said (at + 1) trees)
-        → (ByRecursion (λ (line : Line). MayMake script.workers line.actor line.event) (lines_said (at + 1) trees)
-        → said_until o (flat_map (line_operations script) (lines_said (at + 1) trees)) ≡ said_from o.at (at + 1) trees)
-        → said_until o (flat_map (line_operations script) (option_to_list found ++ lines_said (at + 1) trees)) ≡ said_from o.at at (tree ∷ trees)
-    by None is all more = more all ∙ nothing_there (nat_le at o.at) (said_from o.at (at + 1) trees) (said_by tree) (no_line at tree is)
+    by : (found : Option Line) → line_of profile at tree ≡ found
+        → ByRecursion (λ (line : Line). MayMake script.workers line.actor line.event) (option_to_list found ++ lines_said profile (at + 1) trees)
+        → (ByRecursion (λ (line : Line). MayMake script.workers line.actor line.event) (lines_said profile (at + 1) trees)
+        → said_until o (flat_map (line_operations script) (lines_said profile (at + 1) trees)) ≡ said_from profile o.at (at + 1) trees)
+        → said_until o (flat_map (line_operations script) (option_to_list found ++ lines_said profile (at + 1) trees)) ≡ said_from profile o.at at (tree ∷ trees)
+    by None is all more = more all ∙ nothing_there (nat_le at o.at) (said_from profile o.at (at + 1) trees) (said_by profile tree) (no_line profile at tree is)
     by (Some line) is all more =
-        let own : said_until o (line_operations script line) ≡ cond (nat_le at o.at) (cons_option (said_by tree) []) [] =
+        let own : said_until o (line_operations script line) ≡ cond (nat_le at o.at) (cons_option (said_by profile tree) []) [] =
         until_append o (line_operation line ∷ []) (followers script line)
         ∙ ap₂ (λ (xs ys : List Bool). xs ++ ys) (line_said o script.workers line all.0) (followers_silent o script line)
         ∙ append-nil (cond (nat_le line.at o.at) (cons_option (stream_told line.event) []) [])
-        ∙ ap (λ n. cond (nat_le n o.at) (cons_option (stream_told line.event) []) []) (line_place at tree line is)
-        ∙ ap (λ told. cond (nat_le at o.at) (cons_option told []) []) (told_said line.event ∙ sym (ap (option_and_then stream_said) (line_event at tree line is))) in
-        until_append o (line_operations script line) (flat_map (line_operations script) (lines_said (at + 1) trees))
+        ∙ ap (λ n. cond (nat_le n o.at) (cons_option (stream_told line.event) []) []) (line_place profile at tree line is)
+        ∙ ap (λ told. cond (nat_le at o.at) (cons_option told []) []) (told_said line.event ∙ sym (ap (option_and_then stream_said) (line_event profile at tree line is))) in
+        until_append o (line_operations script line) (flat_map (line_operations script) (lines_said profile (at + 1) trees))
         ∙ ap₂ (λ (xs ys : List Bool). xs ++ ys) own (more all.1)
 
-from_append : (last at : ℕ) (xs ys : List Data) → said_from last at (xs ++ ys) ≡ said_from last at xs ++ said_from last (at + length xs) ys
-from_append last at [] ys = let none : at ≡ at + 0 = omega arith in ap (λ n. said_from last n ys) none
-from_append last at (x ∷ xs) ys =
+from_append : (profile : Profile) (last at : ℕ) (xs ys : List Data) → said_from profile last at (xs ++ ys) ≡ said_from profile last at xs ++ said_from profile last (at + length xs) ys
+from_append profile last at [] ys = let none : at ≡ at + 0 = omega arith in ap (λ n. said_from profile last n ys) none
+from_append profile last at (x ∷ xs) ys =
     let place : at + 1 + length xs ≡ at + length (x ∷ xs) = omega arith in
-    let here : List Bool = cond (nat_le at last) (cons_option (said_by x) []) [] in
-    ap (λ rest. here ++ rest) (from_append last (at + 1) xs ys ∙ ap (λ n. said_from last (at + 1) xs ++ said_from last n ys) place)
-    ∙ sym (append_assoc here (said_from last (at + 1) xs) (said_from last (at + length (x ∷ xs)) ys))
+    let here : List Bool = cond (nat_le at last) (cons_option (said_by profile x) []) [] in
+    ap (λ rest. here ++ rest) (from_append profile last (at + 1) xs ys ∙ ap (λ n. said_from profile last (at + 1) xs ++ said_from profile last n ys) place)
+    ∙ sym (append_assoc here (said_from profile last (at + 1) xs) (said_from profile last (at + length (x ∷ xs)) ys))
 
 above : (m n : ℕ) → n < m → nat_le m n ≡ false
 above m n h = grind (arith, nat_tests)
 
-from_late : (last at : ℕ) (xs : List Data) → last < at → said_from last at xs ≡ []
-from_late last at [] h = refl
-from_late last at (x ∷ xs) h =
-    ap (λ b. cond b (cons_option (said_by x) []) [] ++ said_from last (at + 1) xs) (above at last h) ∙ from_late last (at + 1) xs (omega (arith, h))
+from_late : (profile : Profile) (last at : ℕ) (xs : List Data) → last < at → said_from profile last at xs ≡ []
+from_late profile last at [] h = refl
+from_late profile last at (x ∷ xs) h =
+    ap (λ b. cond b (cons_option (said_by profile x) []) [] ++ said_from profile last (at + 1) xs) (above at last h) ∙ from_late profile last (at + 1) xs (omega (arith, h))
 
 -- ---- what a line of the input gives says what the line does
 
-resolved_silent : (line : Data) (found : Option (List ℕ)) → is_word (codes "resolved") found ≡ true → option_and_then (λ op. line_by op 0 line) found ≡ None
-resolved_silent line None h = refl
-resolved_silent line (Some op) h = ap (λ word. line_by word 0 line) ((bytes_decide op (codes "resolved")).0 h)
+resolved_silent : (profile : Profile) (line : Data) (found : Option (List ℕ)) → is_word (codes "resolved") found ≡ true → option_and_then (λ op. line_by profile op 0 line) found ≡ None
+resolved_silent profile line None h = refl
+resolved_silent profile line (Some op) h = ap (λ word. line_by profile word 0 line) ((bytes_decide op (codes "resolved")).0 h)
 
 -- a line that isn't written has no event
-pub unwritten_none : (line : Data) → is_written line ≡ false → event_of line ≡ None
-unwritten_none line h =
-    ap (option_map (λ (l : Line). l.event)) (resolved_silent line (member_of as_str (codes "op") line) (not-false (is_op (codes "resolved") line) h))
+pub unwritten_none : (profile : Profile) (line : Data) → is_written line ≡ false → event_of profile line ≡ None
+unwritten_none profile line h =
+    ap (option_map (λ (l : Line). l.event)) (resolved_silent profile line (member_of as_str (codes "op") line) (not-false (is_op (codes "resolved") line) h))
 
-unwritten_silent : (line : Data) → is_written line ≡ false → said_by line ≡ None
-unwritten_silent line h = ap (option_and_then stream_said) (unwritten_none line h)
+unwritten_silent : (profile : Profile) (line : Data) → is_written line ≡ false → said_by profile line ≡ None
+unwritten_silent profile line h = ap (option_and_then stream_said) (unwritten_none profile line h)
 
-response_silent : (tree : Data) (response : ResponseParts) → event_of tree ≡ Some (Response response) → said_by tree ≡ None
-response_silent tree response is = ap (option_and_then stream_said) is
+response_silent : (profile : Profile) (tree : Data) (response : ResponseParts) → event_of profile tree ≡ Some (Response response) → said_by profile tree ≡ None
+response_silent profile tree response is = ap (option_and_then stream_said) is
 
-made_silent : (tree : Data) (response : ResponseParts) → line_of 0 tree ≡ Some (stream_line 0 response) → said_by tree ≡ None
-made_silent tree response is = response_silent tree response (ap (option_map (λ (l : Line). l.event)) is)
+made_silent : (profile : Profile) (tree : Data) (response : ResponseParts) → line_of profile 0 tree ≡ Some (stream_line 0 response) → said_by profile tree ≡ None
+made_silent profile tree response is = response_silent profile tree response (ap (option_map (λ (l : Line). l.event)) is)
 
-own_said : (front : Front) → said_by (own_line front) ≡ said_by front.line
-own_said front = by (has_guarded by_names front.line) refl
+own_said : (profile : Profile) (front : Front) → said_by profile (own_line profile front) ≡ said_by profile front.line
+own_said profile front = by (has_guarded (by_names profile) front.line) refl
   where
-    by : (b : Bool) → has_guarded by_names front.line ≡ b → said_by (own_line front) ≡ said_by front.line
+    by : (b : Bool) → has_guarded (by_names profile) front.line ≡ b → said_by profile (own_line profile front) ≡ said_by profile front.line
     by true some =
-        let reads : WaitsAsSaid (codes "dns/") by_names (guarded_at dns_rules front) front.line =
-        waiting_reads (codes "dns/") by_names (guarded_at dns_rules front) front.line some in
-        made_silent (own_line front) (waiting_response (codes "dns/") by_names (guarded_at dns_rules front) front.line reads.response) (reads.reads 0)
-        ∙ sym (response_silent front.line reads.response reads.event)
-    by false none = ap said_by (waiting_stays (codes "dns/") by_names (guarded_at dns_rules front) front.line none)
+        let reads : WaitsAsSaid (codes "dns/") (by_names profile) (guarded_at (dns_rules profile) front) front.line =
+        waiting_reads (codes "dns/") (by_names profile) (guarded_at (dns_rules profile) front) front.line some in
+        made_silent profile (own_line profile front) (waiting_response (codes "dns/") (by_names profile) (guarded_at (dns_rules profile) front) front.line reads.response) (reads.reads 0)
+        ∙ sym (response_silent profile front.line reads.response reads.event)
+    by false none = ap (said_by profile) (waiting_stays (codes "dns/") (by_names profile) (guarded_at (dns_rules profile) front) front.line none)
 
-due_silent : (last at place : ℕ) (due : List DueParts) → said_from last at (lines_due (codes "dns/") (codes "dns-") place due) ≡ []
-due_silent last at place [] = refl
-due_silent last at place (first ∷ others) =
-    sym (nothing_there (nat_le at last) [] (said_by (following_line (codes "dns/") (codes "dns-") (decimal place) (first ∷ others)))
-    (made_silent (following_line (codes "dns/") (codes "dns-") (decimal place) (first ∷ others)) (following_response (codes "dns/") (codes "dns-") (decimal place) (first ∷ others))
-    (following_reads (codes "dns/") (codes "dns-") (decimal place) (first ∷ others) 0 (omega arith))))
+due_silent : (profile : Profile) (last at place : ℕ) (due : List DueParts) → said_from profile last at (lines_due (codes "dns/") (codes "dns-") place due) ≡ []
+due_silent profile last at place [] = refl
+due_silent profile last at place (first ∷ others) =
+    sym (nothing_there (nat_le at last) [] (said_by profile (following_line (codes "dns/") (codes "dns-") (decimal place) (first ∷ others)))
+    (made_silent profile (following_line (codes "dns/") (codes "dns-") (decimal place) (first ∷ others)) (following_response profile (codes "dns/") (codes "dns-") (decimal place) (first ∷ others))
+    (following_reads profile (codes "dns/") (codes "dns-") (decimal place) (first ∷ others) 0 (omega arith))))
 
-written_said : (last at : ℕ) (front : Front) (b : Bool) → is_written front.line ≡ b
-    → said_from last at (cond b (own_line front ∷ []) []) ≡ cond (nat_le at last) (cons_option (said_by front.line) []) []
-written_said last at front true is =
-    append-nil (cond (nat_le at last) (cons_option (said_by (own_line front)) []) []) ∙ ap (λ told. cond (nat_le at last) (cons_option told []) []) (own_said front)
-written_said last at front false is =
-    nothing_there (nat_le at last) [] (said_by front.line) (unwritten_silent front.line is) ∙ append-nil (cond (nat_le at last) (cons_option (said_by front.line) []) [])
+written_said : (profile : Profile) (last at : ℕ) (front : Front) (b : Bool) → is_written front.line ≡ b
+    → said_from profile last at (cond b (own_line profile front ∷ []) []) ≡ cond (nat_le at last) (cons_option (said_by profile front.line) []) []
+written_said profile last at front true is =
+    append-nil (cond (nat_le at last) (cons_option (said_by profile (own_line profile front)) []) []) ∙ ap (λ told. cond (nat_le at last) (cons_option told []) []) (own_said profile front)
+written_said profile last at front false is =
+    nothing_there (nat_le at last) [] (said_by profile front.line) (unwritten_silent profile front.line is) ∙ append-nil (cond (nat_le at last) (cons_option (said_by profile front.line) []) [])
 
-gives_said : (last at : ℕ) (front : Front) → said_from last at (gives dns_rules front) ≡ cond (nat_le at last) (cons_option (said_by front.line) []) []
-gives_said last at front =
-    let own : List Data = written_line dns_rules (guarded_at dns_rules front) front.line in
-    from_append last at own (lines_due (codes "dns/") (codes "dns-") (place_of front) (due_at dns_rules front))
-    ∙ ap₂ (λ (xs ys : List Bool). xs ++ ys) (written_said last at front (is_written front.line) refl) (due_silent last (at + length own) (place_of front) (due_at dns_rules front))
-    ∙ append-nil (cond (nat_le at last) (cons_option (said_by front.line) []) [])
+gives_said : (profile : Profile) (last at : ℕ) (front : Front) → said_from profile last at (gives (dns_rules profile) front) ≡ cond (nat_le at last) (cons_option (said_by profile front.line) []) []
+gives_said profile last at front =
+    let own : List Data = written_line (dns_rules profile) (guarded_at (dns_rules profile) front) front.line in
+    from_append profile last at own (lines_due (codes "dns/") (codes "dns-") (place_of front) (due_at (dns_rules profile) front))
+    ∙ ap₂ (λ (xs ys : List Bool). xs ++ ys) (written_said profile last at front (is_written front.line) refl) (due_silent profile last (at + length own) (place_of front) (due_at (dns_rules profile) front))
+    ∙ append-nil (cond (nat_le at last) (cons_option (said_by profile front.line) []) [])
 
 not_above : (m n : ℕ) → m ≤ n → nat_le m n ≡ true
 not_above m n h = grind (arith, nat_tests)
 
 -- of the lines that prefixes give, those up to a number that lies within the m-th
-fronts_said : (last at m : ℕ) (fs : List Front) → m ≤ length fs → ((j : ℕ) → j < m → at + length (flat_map (gives dns_rules) (take j fs)) ≤ last)
-    → last < at + length (flat_map (gives dns_rules) (take m fs)) → said_from last at (flat_map (gives dns_rules) fs) ≡ filter_map (λ (f : Front). said_by f.line) (take m fs)
-fronts_said last at zero [] within before past = refl
-fronts_said last at (suc m) [] within before past = absurd (omega (arith, within))
-fronts_said last at zero (f ∷ fs) within before past = from_late last at (flat_map (gives dns_rules) (f ∷ fs)) (omega (arith, past))
-fronts_said last at (suc m) (f ∷ fs) within before past =
+fronts_said : (profile : Profile) (last at m : ℕ) (fs : List Front) → m ≤ length fs → ((j : ℕ) → j < m → at + length (flat_map (gives (dns_rules profile)) (take j fs)) ≤ last)
+    → last < at + length (flat_map (gives (dns_rules profile)) (take m fs)) → said_from profile last at (flat_map (gives (dns_rules profile)) fs) ≡ filter_map (λ (f : Front). said_by profile f.line) (take m fs)
+fronts_said profile last at zero [] within before past = refl
+fronts_said profile last at (suc m) [] within before past = absurd (omega (arith, within))
+fronts_said profile last at zero (f ∷ fs) within before past = from_late profile last at (flat_map (gives (dns_rules profile)) (f ∷ fs)) (omega (arith, past))
+fronts_said profile last at (suc m) (f ∷ fs) within before past =
     let here : at ≤ last = omega (arith, before 0 (omega arith)) in
-    let joined : (j : ℕ) → length (gives dns_rules f ++ flat_map (gives dns_rules) (take j fs)) ≡ length (gives dns_rules f) + length (flat_map (gives dns_rules) (take j fs)) =
-    λ j. length-append (gives dns_rules f) (flat_map (gives dns_rules) (take j fs)) in
-    let rest : said_from last (at + length (gives dns_rules f)) (flat_map (gives dns_rules) fs) ≡ filter_map (λ (g : Front). said_by g.line) (take m fs) =
-    fronts_said last (at + length (gives dns_rules f)) m fs (omega (arith, within))
+    let joined : (j : ℕ) → length (gives (dns_rules profile) f ++ flat_map (gives (dns_rules profile)) (take j fs)) ≡ length (gives (dns_rules profile) f) + length (flat_map (gives (dns_rules profile)) (take j fs)) =
+    λ j. length-append (gives (dns_rules profile) f) (flat_map (gives (dns_rules profile)) (take j fs)) in
+    let rest : said_from profile last (at + length (gives (dns_rules profile) f)) (flat_map (gives (dns_rules profile)) fs) ≡ filter_map (λ (g : Front). said_by profile g.line) (take m fs) =
+    fronts_said profile last (at + length (gives (dns_rules profile) f)) m fs (omega (arith, within))
     (λ j less. omega (arith, before (suc j) (omega (arith, less)), joined j)) (omega (arith, past, joined m)) in
-    from_append last at (gives dns_rules f) (flat_map (gives dns_rules) fs)
+    from_append profile last at (gives (dns_rules profile) f) (flat_map (gives (dns_rules profile)) fs)
     ∙ ap₂ (λ (xs ys : List Bool). xs ++ ys)
-    (gives_said last at f ∙ ap (λ b. cond b (cons_option (said_by f.line) []) []) (not_above at last here)) rest
-    ∙ one_more (said_by f.line) (filter_map (λ (g : Front). said_by g.line) (take m fs))
+    (gives_said profile last at f ∙ ap (λ b. cond b (cons_option (said_by profile f.line) []) []) (not_above at last here)) rest
+    ∙ one_more (said_by profile f.line) (filter_map (λ (g : Front). said_by profile g.line) (take m fs))
   where
     one_more : (told : Option Bool) (rest : List Bool) → cons_option told [] ++ rest ≡ cons_option told rest
     one_more None rest = refl
     one_more (Some b) rest = refl
 
-behind_said : (first : Data) (fs : List Front) → filter_map (λ (f : Front). said_by f.line) (map (behind first) fs) ≡ filter_map (λ (f : Front). said_by f.line) fs
-behind_said first [] = refl
-behind_said first (f ∷ fs) = ap (cons_option (said_by f.line)) (behind_said first fs)
+behind_said : (profile : Profile) (first : Data) (fs : List Front) → filter_map (λ (f : Front). said_by profile f.line) (map (behind first) fs) ≡ filter_map (λ (f : Front). said_by profile f.line) fs
+behind_said profile first [] = refl
+behind_said profile first (f ∷ fs) = ap (cons_option (said_by profile f.line)) (behind_said profile first fs)
 
-lines_said_by : (lines : List Data) → filter_map (λ (f : Front). said_by f.line) (fronts lines) ≡ filter_map said_by lines
-lines_said_by [] = refl
-lines_said_by (line ∷ lines) = ap (cons_option (said_by line)) (behind_said line (fronts lines) ∙ lines_said_by lines)
+lines_said_by : (profile : Profile) (lines : List Data) → filter_map (λ (f : Front). said_by profile f.line) (fronts lines) ≡ filter_map (said_by profile) lines
+lines_said_by profile [] = refl
+lines_said_by profile (line ∷ lines) = ap (cons_option (said_by profile line)) (behind_said profile line (fronts lines) ∙ lines_said_by profile lines)
 
 -- ---- in a run
 
 -- after an entry of the stream a stream is open where it is so after the input's lines up to that by which the entry is
 pub stream_agrees : (trees : ScriptTrees) (format : Format) (journal : List Entry) → IsScript (answered_script trees) → IsRunOf format (answered_script trees) journal
     → (k : ℕ) (entry : Entry) (index : ℕ) (front : Front) → slice_get journal k ≡ Some entry → entry.actor ≡ Stream → slice_get (fronts (lines_in trees)) index ≡ Some front
-    → IsWithin (lines_in trees) index entry.at
-    → (world_at format (answered_script trees).workers (answered_script trees).node journal (k + 1)).stream ≡ stream_at (take (index + 1) (lines_in trees))
+    → IsWithin trees.header.profile (lines_in trees) index entry.at
+    → (world_at format (answered_script trees).workers (answered_script trees).node journal (k + 1)).stream ≡ stream_at trees.header.profile (take (index + 1) (lines_in trees))
 stream_agrees trees format journal kept run k entry index front there own at within =
     let script : ScriptParts = answered_script trees in
     let lines : List Data = lines_in trees in
@@ -362,16 +363,16 @@ stream_agrees trees format journal kept run k entry index front there own at wit
     ∙ ap words (taken_rising is_mine (map operation_of journal) k o (subst IsRising (sym holds) (operations_rise script Stream kept))
     (slice_get-map operation_of journal k ∙ ap (option_map operation_of) there) ((actor_decides entry.actor Stream).1 own))
     ∙ ap (λ os. words (filter (λ p. not (is_earlier o p)) os)) holds in
-    let operations : said_until o (all_operations script) ≡ said_from entry.at 2 (given_lines dns_rules lines) =
+    let operations : said_until o (all_operations script) ≡ said_from trees.header.profile entry.at 2 (given_lines (dns_rules trees.header.profile) lines) =
     until_append o (flat_map (line_operations script) script.lines) (map (last_settle script) (range_with_len 0 script.workers))
     ∙ ap₂ (λ (xs ys : List Bool). xs ++ ys)
-    (trees_said o script 2 (given_lines dns_rules lines) (recursion_from_All (λ (line : Line). MayMake script.workers line.actor line.event) script.lines kept.allowed))
+    (trees_said trees.header.profile o script 2 (given_lines (dns_rules trees.header.profile) lines) (recursion_from_All (λ (line : Line). MayMake script.workers line.actor line.event) script.lines kept.allowed))
     (settles_silent o script (range_with_len 0 script.workers))
-    ∙ append-nil (said_from entry.at 2 (given_lines dns_rules lines)) in
-    let input : said_from entry.at 2 (given_lines dns_rules lines) ≡ filter_map said_by (take (index + 1) lines) =
-    fronts_said entry.at 2 (index + 1) (fronts lines) (omega (arith, slice_get_within (fronts lines) index front at))
-    (λ j less. omega (arith, of_fronts dns_rules lines j, given_grows dns_rules lines j index (omega (arith, less)), within.from))
-    (omega (arith, of_fronts dns_rules lines (index + 1), within.to))
-    ∙ ap (filter_map (λ (f : Front). said_by f.line)) (sym (fronts_taken lines (index + 1))) ∙ lines_said_by (take (index + 1) lines) in
+    ∙ append-nil (said_from trees.header.profile entry.at 2 (given_lines (dns_rules trees.header.profile) lines)) in
+    let input : said_from trees.header.profile entry.at 2 (given_lines (dns_rules trees.header.profile) lines) ≡ filter_map (said_by trees.header.profile) (take (index + 1) lines) =
+    fronts_said trees.header.profile entry.at 2 (index + 1) (fronts lines) (omega (arith, slice_get_within (fronts lines) index front at))
+    (λ j less. omega (arith, of_fronts (dns_rules trees.header.profile) lines j, given_grows (dns_rules trees.header.profile) lines j index (omega (arith, less)), within.from))
+    (omega (arith, of_fronts (dns_rules trees.header.profile) lines (index + 1), within.to))
+    ∙ ap (filter_map (λ (f : Front). said_by trees.header.profile f.line)) (sym (fronts_taken lines (index + 1))) ∙ lines_said_by trees.header.profile (take (index + 1) lines) in
     stream_after format (opening script.workers script.node) (take (k + 1) journal)
     ∙ ap (λ told. unwrap_or (last_or None told) false) (entries ∙ operations ∙ input)

@@ -107,7 +107,7 @@ dependency_named name d entry is h =
 -- ---- entries that count
 
 -- an entry since a generation was made is one of all
-since_in : (number : ℕ) (entries : List Entry) (entry : Entry) → IsIn entry (entries_since number entries) → IsIn entry entries
+pub since_in : (number : ℕ) (entries : List Entry) (entry : Entry) → IsIn entry (entries_since number entries) → IsIn entry entries
 since_in number [] entry is = is
 since_in number (first ∷ entries) entry is =
     let made : ℕ = length (made_in first.event first.answer) in
