@@ -1,6 +1,6 @@
 -- A state that stands for a world stands for it once both have forgotten what nobody needs any more.
 use Rattle.std.proofs.Common.{◌≡◌, ◌∙◌, ℕ, Bool, true, false, cond, not, ◌&&◌, ◌||◌, nat_eq, List, [], ◌∷◌, Option, None, Some, IsSome, is_some, unwrap_or, map, filter, refl, sym, ap, subst, true≢false}
-use Rattle.std.specs.List.{list_any, last_or, filter_map, AllByRecursion, IsDistinct}
+use Rattle.std.specs.List.{list_any, last_or, AllByRecursion, IsDistinct}
 use Rattle.std.specs.Str.{bytes_eq}
 use Rattle.std.proofs.lemmas.Bool.{eqb-true, eq-eqb, and_parts}
 use Rattle.ev_types.specs.Items.{content_kind}
@@ -10,13 +10,12 @@ use Rattle.ev_types.specs.SameHosts.{host_same, host_decides, has_host}
 use Rattle.ev_types.specs.Statuses.{is_live}
 use Rattle.ev_types.specs.declared.contents.Kind.{Kind}
 use Rattle.ev_types.specs.declared.hosts.Host.{Host}
-use Rattle.ev_types.specs.declared.rows.Arrival.{Arrival}
 use Rattle.ev_types.specs.declared.rows.Live.{Live}
 use Rattle.ev_types.specs.declared.rows.GenRow.{GenRow}
 use Rattle.ev_model.specs.World.{World, Arrived, HealthResult}
 use Rattle.ev_model.specs.Live.{live_of, lives_of}
 use Rattle.ev_model.specs.Watching.{has_dependency, is_watched, is_by_name, dependencies_of}
-use Rattle.ev_model.specs.Warming.{content_in, is_word, is_timeout, last_told, last_timed, value_by, has_result, is_healthy, is_result_of, assignment_by, is_for}
+use Rattle.ev_model.specs.Warming.{is_word, is_timeout, last_told, last_timed, value_by, has_result, is_healthy, is_result_of, assignment_by, is_for}
 use Rattle.ev_model.specs.Tidy.{arrivals_watched, without_unwatched, is_result_due, without_old_results}
 use Rattle.ev_endpoints.specs.Results.{ResultsKept, result_in}
 use Rattle.ev_generations.specs.Tables.{row_in, numbers_of}

@@ -1,7 +1,7 @@
 -- What a health result does: the indexes stay searches of the rows, and a state that stands for a world stands for it with the result.
 use Rattle.std.proofs.Common.{◌≡◌, ◌∙◌, ◌<◌, ℕ, Bool, true, false, cond, not, ◌&&◌, ◌||◌, nat_eq, List, [], ◌∷◌, ◌++◌, Option, None, Some, IsSome, is_some, option_to_list, unwrap_or, map, filter, refl, sym, ap, true≢false}
 use Rattle.std.specs.Option.{option_and_then}
-use Rattle.std.specs.List.{list_any, last_or, IsDistinct}
+use Rattle.std.specs.List.{list_any, last_or}
 use Rattle.std.specs.Str.{bytes_eq}
 use Rattle.std.proofs.Math.Bool.{or-true}
 use Rattle.std.proofs.lemmas.Bool.{eqb-true, eq-eqb, and_parts}
@@ -29,11 +29,11 @@ use Rattle.ev_indexes.specs.Due.{is_among, has_number}
 use Rattle.ev_indexes.specs.Standings.{standing_in}
 use Rattle.ev_indexes.specs.Watched.{WatchesKept}
 use Rattle.ev_indexes.specs.Ready.{are_results_in, assignment_in, is_answered_in, is_due_at, is_due_found, takes_result}
-use Rattle.ev_indexes.specs.Indexes.{IsIndexed, serves, warms, numbers_where, passes}
+use Rattle.ev_indexes.specs.Indexes.{IsIndexed, serves, warms, passes}
 use Rattle.ev_warming.specs.Forgetting.{IsTidyBut, keeps_result}
 use Rattle.ev_warming.specs.Health.{takes_at, is_meant_in, numbers_meant, NotesEach}
 use Rattle.ev_indexes.specs.Worlds.{StandsFor, rows_of_kind}
-use Rattle.ev_indexes.proofs.WhereLemmas.{flipped, among-where, found-where, among-row}
+use Rattle.ev_indexes.proofs.WhereLemmas.{flipped, among-row}
 use Rattle.ev_indexes.proofs.RowLemmas.{all_then, both_all, any-some, filter-rows_of_kind, filter_agrees}
 use Rattle.ev_indexes.proofs.SoundLemmas.{contents-of}
 use Rattle.ev_indexes.proofs.WorldLemmas.{hosts}
@@ -56,7 +56,7 @@ is_due_at-results watches old new n rows same = by (row_in n rows) refl
     by None e = refl
     by (Some row) e =
         let own = number-row_in n row rows e in
-        λ i. is_warming row.status && (is_answered_in watches row.content
+        λ i. is_warming row.status && (is_answered_in watches row.number row.content
         && (not (is_checked row.content) || are_results_in-agrees old new row.number (over row own) (assignment_in watches row.content) i))
 
 -- a result was noted for one number, and its row was looked at anew

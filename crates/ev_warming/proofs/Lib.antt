@@ -12,6 +12,7 @@ pub mod DrainLemmas
 pub mod ServingLemmas
 pub mod TidyLemmas
 pub mod ResponseLemmas
+pub mod ItemLemmas
 pub mod RemovalLemmas
 pub mod RetiredLemmas
 pub mod NeedLemmas

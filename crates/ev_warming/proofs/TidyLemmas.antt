@@ -41,7 +41,7 @@ use Rattle.ev_indexes.specs.Needs.{is_needed}
 use Rattle.ev_warming.specs.Forgetting.{needs_in, is_need_of, keeps_result, IsUnheard, IsTidyBut}
 use Rattle.ev_indexes.proofs.WhereLemmas.{any-found, own-rows, among-where}
 use Rattle.ev_indexes.proofs.WaitLemmas.{watchers-index, among-depends}
-use Rattle.ev_warming.proofs.ReadyLemmas.{Agrees, assignment_in-agrees, agrees-other}
+use Rattle.ev_warming.proofs.ReadyLemmas.{Agrees, assignment_in-agrees, agrees-all, agrees-other}
 use Rattle.ev_warming.proofs.DrainLemmas.{status-promoted}
 
 -- a row that passes, found by its number
@@ -154,7 +154,7 @@ module _ (s t : State) (f : GenRow → RowStatus) (stale more : List ℕ) (apart
           by : (a : Bool) → is_live r.status ≡ a → (b : Bool) → is_live (f r) ≡ b → (a && has_host h (assignment_in s.watches r.content)) ≡ false
           by false l b m = refl
           by true l true m =
-              (λ i. has_host h (sym (assignment_in-agrees s.watches t.watches r.content (λ q needs. marks-agree s.watches t.watches marks q)) i))
+              (λ i. has_host h (sym (assignment_in-agrees s.watches t.watches r.content (agrees-all s.watches t.watches (marks-agree s.watches t.watches marks) (dependencies_of r.content))) i))
               ∙ (λ i. sym m i && has_host h (assignment_in t.watches r.content))
               ∙ (λ i. keeps_result t.watches h (same i)) ∙ lost
           by true l false m = absurd (true≢false (sym (told n r e l m) ∙ none-second (is_among stale n) (is_among more n) absent))
@@ -193,7 +193,7 @@ module _ (s t : State) (new : GenRow) (stale : List ℕ)
       gone n row h (Some r) e at absent lost =
           let same : r ≡ row = cc in
           tidy.results n r h e absent
-          ((λ i. is_live r.status && has_host h (sym (assignment_in-agrees s.watches t.watches r.content (λ q needs. marks-agree s.watches t.watches marks q)) i))
+          ((λ i. is_live r.status && has_host h (sym (assignment_in-agrees s.watches t.watches r.content (agrees-all s.watches t.watches (marks-agree s.watches t.watches marks) (dependencies_of r.content))) i))
           ∙ (λ i. keeps_result t.watches h (same i)) ∙ lost)
 
 -- what is live of a name retires

@@ -20,7 +20,8 @@ use Rattle.ev_indexes.specs.Watched.{numbers_without, WatchesKept}
 use Rattle.ev_indexes.specs.Ready.{is_ready_in, is_due_in, is_due_found}
 use Rattle.ev_indexes.specs.Indexes.{IsIndexed, serves, warms, SameMarks, numbers_where, status_in}
 use Rattle.ev_warming.specs.Promotion.{rows_promoted, status_drained}
-use Rattle.ev_warming.proofs.ReadyLemmas.{is_ready_in-agrees}
+use Rattle.ev_model.specs.Watching.{dependencies_of}
+use Rattle.ev_warming.proofs.ReadyLemmas.{is_ready_in-agrees, agrees-all}
 use Rattle.ev_indexes.proofs.WhereLemmas.{own-rows, row_with, among-where, where-left, where-members, found-where, any-found, all-found, flipped, only, emptied, without-one}
 use Rattle.ev_indexes.proofs.RowLemmas.{all_then, both_all, statuses_agree}
 use Rattle.ev_warming.proofs.PromotionLemmas.{with_statuses-twice, statuses_same, status_once, rows_once, rows_promoted-once, rows_promoted-none}
@@ -160,7 +161,7 @@ module _ (s : State) (x : IsIndexed s) (number : ℕ) (row : GenRow) (found : ro
 -- readiness by the same marks is the same
 pub ready-same : (old new : WatchesKept) (results : ResultsKept) → SameMarks old new → is_ready_in new results ≡ is_ready_in old results
 ready-same old new results same =
-    λ i row. is_ready_in-agrees old new results row (λ q needed. record { told = (same q).0; timed = (same q).1; value = (same q).2 }) i
+    λ i row. is_ready_in-agrees old new results row (agrees-all old new (λ q. record { told = (same q).0; timed = (same q).1; value = (same q).2 }) (dependencies_of row.content)) i
 
 pub marks-then : (a b c : WatchesKept) → SameMarks a b → SameMarks b c → SameMarks a c
 marks-then a b c p q = λ name. ((q name).0 ∙ (p name).0, (q name).1 ∙ (p name).1, (q name).2 ∙ (p name).2)

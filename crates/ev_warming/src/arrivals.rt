@@ -20,9 +20,9 @@ use std::sync::ledger::Ledger;
 
 impl Manager {
     /// A response of what the manager's generations depend on, with the verdicts on its resources: a watched name that is removed
-    /// is told of as absent; then, in order, each resource that is kept arrives, and one that is refused is told of where its
+    /// is reported as absent; then, in order, each resource that is kept arrives, and one that is refused is reported where its
     /// name is watched; so many numbers were drawn by then. Look-ups are counted: one for each generation that depends on a name
-    /// that something came for, for each way in which it waits. Without memory nothing is promised.
+    /// that something came for, for each way in which it waits. Out of memory, nothing is promised.
     pub fn arrive_all<L: Ledger>(
         &mut self,
         alloc: Global,

@@ -34,7 +34,7 @@ pub struct Promoted {
 }
 
 /// Something came for a watched name when so many numbers were drawn: it is kept, and the rows that depend on the name are looked
-/// at anew, each once for each way in which it waits. Without memory nothing is promised of the state.
+/// at anew, each once for each way in which it waits. Out of memory, nothing is promised of the state.
 pub(crate) fn arrive<L: Ledger>(
     state: &mut State,
     alloc: Global,

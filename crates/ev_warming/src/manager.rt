@@ -49,7 +49,7 @@ impl Manager {
     }
 
     /// Something came for a name that a live generation depends on, when so many numbers were drawn. Each that depends on it is
-    /// looked at once for each way in which it waits. Without memory nothing is promised.
+    /// looked at once for each way in which it waits. Out of memory, nothing is promised.
     pub fn arrive<L: Ledger>(
         &mut self,
         alloc: Global,

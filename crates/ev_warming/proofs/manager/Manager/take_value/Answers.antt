@@ -1,4 +1,4 @@
-use Rattle.std.proofs.Common.{List, ℕ, sym, subst}
+use Rattle.std.proofs.Common.{List, ℕ, refl, sym, subst}
 use Rattle.std.specs.List.{list_any}
 use Rattle.ev_types.specs.declared.rows.Arrival.TheVariants.{Bad}
 use Rattle.ev_model.specs.Rows.{add_item}
@@ -7,6 +7,7 @@ use Rattle.ev_indexes.specs.Worlds.{needs_of, StandsFor}
 use Rattle.ev_warming.specs.Arrivals.{told_where}
 use Rattle.ev_warming.proofs.IndexLemmas.{on_ok}
 use Rattle.ev_warming.proofs.AbsenceLemmas.{refusal-stands}
+use Rattle.ev_warming.proofs.ItemLemmas.{idle-stands}
 use Rattle.ev_warming.proofs.manager.Manager.take_value.Goals as goal
 
 pub returns-in-Refused-clause-stands : goal.returns-in-Refused-clause-stands
@@ -18,3 +19,15 @@ returns-in-Refused-clause-stands g c =
     subst (StandsFor t) (λ i. add_item (needs_of s.kind) (sym c.in-Refused.is i) item world)
     (refusal-stands s t world item.name c.requires.kept.rows stands
     (subst (λ (name : List ℕ). StandsFor t (told_where (list_any (depends_on name) s.table.rows) (needs_of s.kind) Bad name world)) (λ i. (c.item.view_is i).name) (step world stands drawn))))
+
+pub returns-in_default : goal.returns-in_default
+returns-in_default g c =
+    let s = c.args.self.now.state in
+    record {
+      kept = c.requires.kept;
+      kind = refl;
+      table = refl;
+      stands = λ world stands drawn.
+          idle-stands s world (needs_of s.kind) c.args.verdict (list_any (depends_on c.args.item.now.name) s.table.rows) c.args.item.now c.requires.on_value
+          c.in_default.not-Kept c.in_default.not-Refused stands;
+    }
