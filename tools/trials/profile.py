@@ -1,4 +1,5 @@
 """Scripts of the profile envoy: what the tools' machine answers, and what explain, timeline, why and diff say of them."""
+import html
 import json
 import os
 import tempfile
@@ -172,6 +173,11 @@ def drawn(check, folder):
     check(words in out and "server name 'a.example', over TLS" in out, f'explain of a named chain: {out}')
     page = called(tool('timeline'), path, pages)[1]
     check('undecided: 1' in page and 'has safeRegex' in page, 'timeline says what left a connection undecided')
+    page = html.unescape(called(tool('timeline'), f'{TOP}/examples/sidecar.jsonl', f'{TOP}/examples/sidecar.journal.jsonl')[1])
+    for words in ('undecided: 1', 'gone elsewhere: 1', "since cluster 'InboundPassthroughCluster' is of type ORIGINAL_DST",
+                  "no filter chain takes it, since listener '0.0.0.0_9443' (generation 6) has none for it and no default one",
+                  "filter chain 1 'mtls-http' (port 9080, over TLS, alpn 'istio', 'istio-http/1.1')"):
+        check(words in page, f'timeline says {words!r} of examples/sidecar')
     pair = pair_of('update_waits_for_endpoints')
     check('(these endpoints were known, and have to be sent again)' in called(tool('timeline'), '--text', *pair)[1], 'timeline says why an update waits')
 

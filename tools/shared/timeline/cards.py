@@ -4,7 +4,7 @@ import html
 
 from .. import rules
 from ..shown import shown
-from ..teller import LOST
+from ..teller import LOST, OPEN_ENDS
 from ..urls import WORD
 from ..words import counted
 from .view import number_of
@@ -209,10 +209,11 @@ def holding_words(holding, end):
 def connections(view):
     found, lost = view.connections(), view.lost()
     bad = [connection for connection in found if connection.not_served()]
-    undecided = [connection for connection in found if connection.result == 'undecided']
+    undecided, elsewhere = (sum(connection.result == result for connection in found) for result in OPEN_ENDS)
     chainless = sum(words == LOST['noChain'] for *_, words in lost)
-    summary = (f'Served: {len(found) - len(bad) - len(undecided)}; not served: {len(bad)}; found no listener: {len(lost) - chainless}'
-               + f'; no filter chain: {chainless}' * bool(chainless) + f'; undecided: {len(undecided)}' * bool(undecided) + '.')
+    summary = (f'Served: {len(found) - len(bad) - undecided - elsewhere}; not served: {len(bad)}; found no listener: {len(lost) - chainless}'
+               + f'; no filter chain: {chainless}' * bool(chainless) + f'; undecided: {undecided}' * bool(undecided)
+               + f'; gone elsewhere: {elsewhere}' * bool(elsewhere) + '.')
     items = lost_items(view, lost)
     if len(found) <= 12:
         items += [connection_words(view, connection) for connection in sorted(found, key=lambda c: (not c.not_served(), c.x))]
@@ -228,8 +229,9 @@ def lost_items(view, lost):
 
 
 def lost_words(words, lost):
-    x, worker, members, held, last, _ = lost[0]
-    return (f'✕ <b>{words}</b>: {len(lost)}, first {counted_connection(worker, members["conn"], x)} to {text(members["address"], 40)}:{members["port"]}: '
+    x, worker, members, held, last, why, _ = lost[0]
+    since = f', since {text(why, 300)}' if why else ''
+    return (f'✕ <b>{words}</b>: {len(lost)}, first {counted_connection(worker, members["conn"], x)} to {text(members["address"], 40)}:{members["port"]}{since}: '
             f'w{worker} holds picture {held}; {last} is published')
 
 

@@ -45,8 +45,9 @@ def connection(found):
 
 def lost_ones(view, name):
     """The connections that found no listener, or no filter chain."""
-    return [{'at': x, 'worker': worker, 'connection': members['conn'], 'address': members['address'], 'port': members['port'], 'picture': held}
-            for x, worker, members, held, _, words in view.lost() if words == LOST[name]]
+    return [{'at': x, 'worker': worker, 'connection': members['conn'], 'address': members['address'], 'port': members['port'], 'picture': held,
+             **({'why': why} if why else {})}
+            for x, worker, members, held, _, why, words in view.lost() if words == LOST[name]]
 
 
 def envoy_wait(wait):

@@ -259,11 +259,11 @@ class History:
             self.settles[worker].append((x, row.answer['version']))
 
     def accept(self, x, row, members, worker):
-        if row.answer in ('noListener', 'noChain'):
-            self.lost.append((x, worker, members, self.machine.held[worker], self.machine.published_before(row.at), LOST[row.answer]))
-        if not isinstance(row.answer, dict):
-            return
         answer, choice = row.answer, choice_of(self.machine, members, worker, row.answer)
+        if isinstance(answer, str) and answer in LOST:
+            self.lost.append((x, worker, members, self.machine.held[worker], self.machine.published_before(row.at), choice.why, LOST[answer]))
+        if not isinstance(answer, dict):
+            return
         target = (f'{named(answer["address"])}:{answer["port"]}' if answer['result'] == 'served'
                   else OPEN_ENDS.get(answer['result']) or ENDS.get(answer['result'], 'answered here'))
         found = Connection(worker, members['conn'], x, answer, target, choice)
