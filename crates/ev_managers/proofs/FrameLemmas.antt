@@ -35,13 +35,13 @@ use Rattle.ev_model.specs.Signals.{ended_status, rows_ended, with_end, is_meant,
 use Rattle.ev_generations.specs.Tables.{row_in, numbers_of}
 use Rattle.ev_indexes.specs.declared.state.State.{State}
 use Rattle.ev_indexes.specs.Due.{is_among}
-use Rattle.ev_indexes.specs.Indexes.{depends_on, passes}
+use Rattle.ev_indexes.specs.Indexes.{passes}
 use Rattle.ev_warming.proofs.MadeLemmas.{value-made}
 use Rattle.ev_warming.proofs.SortedLemmas.{last_made-same, value_by-same}
 use Rattle.ev_indexes.proofs.WhereLemmas.{flipped, among-row}
 use Rattle.ev_indexes.specs.Worlds.{StandsFor, IsSound, needs_of, rows_of_kind}
 use Rattle.ev_indexes.proofs.SeenLemmas.{SameSeen, seen-stands}
-use Rattle.ev_warming.specs.Arrivals.{AreOnValues, IsOnValue, with_arrived}
+use Rattle.ev_warming.specs.Arrivals.{AreOnValues, with_arrived}
 use Rattle.ev_warming.specs.Worlds.{Follows, FollowsDrawing, with_response, with_rows_ended, FollowsAt}
 use Rattle.ev_warming.specs.Managers.{IsKept}
 use Rattle.ev_warming.specs.declared.manager.Manager.{Manager}

@@ -1,4 +1,4 @@
-use Rattle.std.proofs.Common.{sym, subst}
+use Rattle.std.proofs.Common.{subst}
 use Rattle.ev_warming.specs.Worlds.{Follows, without_generation}
 use Rattle.ev_warming.specs.declared.manager.Manager.{Manager}
 use Rattle.ev_managers.proofs.RemoveLemmas.{removal-stands}
