@@ -39,7 +39,7 @@ class Probes:
     def lines(self, room):
         """At most `room` lines; the second result says whether more were wanted."""
         asks = {repr(ask): ask for name in self.listeners for ask in self.asks(name, self.listeners[name])
-                if size(ask['host']) <= MAX_NAME and size(ask['path']) <= MAX_PATH}
+                if max(size(ask['host']), size(ask.get('serverName', ''))) <= MAX_NAME and size(ask['path']) <= MAX_PATH}
         kept = list(asks.values())[:max(0, min(room, MAX_LINES) - 2)]
         found = [{'op': 'publish'}, {'op': 'settle', 'worker': 0}]
         found += [{'op': 'accept', 'worker': 0, 'conn': place, **ask} for place, ask in enumerate(kept, self.conn + 1)]

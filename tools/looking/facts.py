@@ -113,7 +113,8 @@ class Facts:
 
     def unreached(self):
         """Filter chains to which no connection of a script comes, where there are some."""
-        lines = [f'{WORD[line["type"]]} {quoted(line["name"])}: {shown(line["before"], 200)}' for line in self.report.lines if line['action'] == 'unreached']
+        found = [line for line in self.report.lines if line['action'] == 'unreached']
+        lines = [f'{WORD[line["type"]]} {quoted(line["name"])}: {shown(line["before"], 200)}' for line in found]
         return [Section('Filter chains that no connection tried', lines, alarms=False)] if lines else []
 
 

@@ -9,16 +9,17 @@ from shared import rules, script
 from shared.pair import Pair
 from shared.profiles import ENVOY
 from shared.replayed import replayed
-from shared.teller import DOUBT
+from shared.teller import DOUBT, OPEN_ENDS
 from shared.words import counted
 from trials import TOP, called, content, tool, written
 from trials.adapt import CAPTURES, adapted
 
 # The products by the captures' names; the others of the folder are in no table.
-PRODUCTS = {'istio_sidecar.json': 'Istio, a sidecar', 'istio_gateway.json': 'Istio, an ingress gateway', 'envoy_gateway.jsonl': 'Envoy Gateway', 'contour.jsonl': 'Contour',
-            'consul.json': 'Consul, a sidecar', 'app_mesh.json': 'App Mesh', 'cilium.jsonl': 'Cilium', 'go_control_plane.json': "go-control-plane's example"}
-WORDS = {'served': 'served', 'elsewhere': 'elsewhere', 'undecided': 'undecided', 'local': 'answered directly', 'redirect': 'redirected', 'noRoute': 'no route',
-         'noEndpoint': 'no host', 'noCluster': 'no cluster'}
+PRODUCTS = {'istio_sidecar.json': 'Istio, a sidecar', 'istio_gateway.json': 'Istio, an ingress gateway', 'envoy_gateway.jsonl': 'Envoy Gateway',
+            'contour.jsonl': 'Contour', 'consul.json': 'Consul, a sidecar', 'app_mesh.json': 'App Mesh', 'cilium.jsonl': 'Cilium',
+            'go_control_plane.json': "go-control-plane's example"}
+WORDS = {'served': 'served', 'elsewhere': 'elsewhere', 'undecided': 'undecided', 'local': 'answered directly', 'redirect': 'redirected',
+         'noRoute': 'no route', 'noEndpoint': 'no host', 'noCluster': 'no cluster'}
 BYTES = range(4000, 42000)
 
 
@@ -73,5 +74,5 @@ def explained(check, name, data, pages, count):
         facts = [json.loads(line) for line in called(tool('explain'), '--json', *paths)[1].splitlines()]
     check(status == 0 and not errors and DOUBT not in out, f'explain of {name}: status {status} {errors}')
     tried = [fact for fact in facts if fact.get('op') == 'accept']
-    mute = [fact for fact in tried if isinstance(fact['answer'], dict) and fact['answer']['result'] in ('undecided', 'elsewhere') and not fact.get('why')]
+    mute = [fact for fact in tried if isinstance(fact['answer'], dict) and fact['answer']['result'] in OPEN_ENDS and not fact.get('why')]
     check(len(tried) == count and not mute, f'explain of {name} says no reason of {mute}')

@@ -101,8 +101,8 @@ def of_responses(check, folder, looked):
         status, out, errors = looked(f'{CAPTURES}/{name}')
         check(status == 0 and b'(profile)' not in out, f'look at {name}: {status} {out} {errors}')
         check(b'Stands in, and for what: ' in out, f'look at {name} says nothing of stand-ins')
-        unreached = b"    listener 'virtualInbound': filter chain 4 '0.0.0.0_9080' asks for port 9080, and connections of a script come at 15006" in out.splitlines()
-        check(unreached == (name == 'istio_sidecar.json'), f'look at {name} says otherwise of filter chains: {out}')
+        unreached = "    listener 'virtualInbound': filter chain 4 '0.0.0.0_9080' asks for port 9080, and connections of a script come at 15006"
+        check((unreached in out.decode().splitlines()) == (name == 'istio_sidecar.json'), f'look at {name} says otherwise of filter chains: {out}')
 
 
 def opened(check, folder, looked):

@@ -231,7 +231,8 @@ def lost_items(view, lost):
 def lost_words(words, lost):
     x, worker, members, held, last, why, _ = lost[0]
     since = f', since {text(why, 300)}' if why else ''
-    return (f'✕ <b>{words}</b>: {len(lost)}, first {counted_connection(worker, members["conn"], x)} to {text(members["address"], 40)}:{members["port"]}{since}: '
+    place = f'{text(members["address"], 40)}:{members["port"]}'
+    return (f'✕ <b>{words}</b>: {len(lost)}, first {counted_connection(worker, members["conn"], x)} to {place}{since}: '
             f'w{worker} holds picture {held}; {last} is published')
 
 

@@ -102,7 +102,8 @@ def picture_row(view):
 def lost_row(view):
     lost = view.lost()
     marks = ''.join(mark('failed', view.percent(x), 8, f'line {number_of(x)}: w{worker}\'s connection {members["conn"]} to '
-                         f'{members["address"]}:{members["port"]}: {words}{why and f", since {why}"}; w{worker} holds picture {held}; {last} is published')
+                         f'{members["address"]}:{members["port"]}: {words}{why and f", since {why}"}; w{worker} holds picture {held}; '
+                         f'{last} is published')
                     for x, worker, members, held, last, why, words in lost)
     return Row('', ', '.join(sorted({words for *_, words in lost})), [counted(len(lost), 'connection')], marks, 18)
 
