@@ -14,8 +14,8 @@ use ev_types::{Profile, RouteTable, Seq, Serve, Shared};
 use serde_json::Value;
 use std::alloc::{AllocError, Global};
 
-/// What a filter chain serves by the own rules, where several chains may stand and each has a match: the match's members
-/// aren't looked at.
+/// What a filter chain serves by the own rules, where several chains may stand and each has a match: the match's
+/// members aren't looked at.
 ///
 /// # Errors
 /// `Rule` with the least rule that it breaks, of V2, V6, V10 and V17 to V24, and `OutOfMemory`.

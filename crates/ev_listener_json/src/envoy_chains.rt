@@ -1,4 +1,4 @@
-//! Filter chains of a listener as Envoy reads them: each with its match, a default chain, and the one of an API listener.
+//! Filter chains of a listener as Envoy reads them: each with its match, a default chain, and an API listener's.
 ghost use Rattle.std.specs.Prelude.{◌≡◌, None, [], ◌∷◌, IfOk, map};
 ghost use Rattle.serde_json.specs.View.{view};
 ghost use Rattle.ev_tree.specs.Broken.{any_broken};

@@ -53,8 +53,10 @@ fn inspect_tcp_proxy(
     profile: Profile,
     config: Option<&Value>,
 ) -> Result<Inspection<Option<Serve>>, AllocError>
-    ensures value { IfOk result (λ found. found.value ≡ config_serve profile FilterKind.TcpProxy (tree_of config.entry)) }
-    ensures broken { IfOk result (λ found. found.broken ≡ config_broken profile FilterKind.TcpProxy (tree_of config.entry)) }
+    ensures value { IfOk result (λ found. found.value
+        ≡ config_serve profile FilterKind.TcpProxy (tree_of config.entry)) }
+    ensures broken { IfOk result (λ found. found.broken
+        ≡ config_broken profile FilterKind.TcpProxy (tree_of config.entry)) }
 {
     let target = inspect_proxy_target(alloc, profile, config)?;
     Ok(Inspection {

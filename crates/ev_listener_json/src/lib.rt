@@ -2,8 +2,8 @@
 //!
 //! # Choices
 //!
-//! - By the own rules the default filter chain is looked for, and not into: it is refused by V16, whatever stands in it,
-//!   so a wrong form inside it isn't V6. As Envoy reads it, it is read but for its match.
+//! - By the own rules the default filter chain is looked for, and not into: it is refused by V16, whatever is in it, so a
+//!   wrong form inside it isn't V6. As Envoy reads it, it is read but for its match.
 //! - Rules below V16 are looked for in all chains and all filters: of two chains of which one asks for routes by an
 //!   empty name the answer is V2.
 //! - A filter serves where it is worth something to serve: so V17 counts the filters that are, and there is no second

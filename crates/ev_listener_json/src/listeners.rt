@@ -136,7 +136,8 @@ fn listening_text(
     given: AddressText<'_>,
 ) -> Result<String, AllocError>
     ensures { IfOk result (λ text. string_bytes text
-        ≡ (if by_name then named_with naming.entry.api naming.entry.internal naming.entry.name.now else text_found given.entry)) }
+        ≡ (if by_name then named_with naming.entry.api naming.entry.internal naming.entry.name.now
+        else text_found given.entry)) }
 {
     if by_name {
         named_address(alloc, naming.name, naming.api, naming.internal)
@@ -181,7 +182,8 @@ fn is_every_address(text: &str) -> bool
 /// The rule by which a listener is refused is the least of all that it breaks, and where there is none, it
 /// breaks none: a law of the definitions.
 pub fn listener_rule_is_least()
-    ensures { (profile : Profile) (tree : Data) → IsLeast (rules_of (listener_broken profile tree)) (least_of (listener_broken profile tree)) }
+    ensures { (profile : Profile) (tree : Data)
+        → IsLeast (rules_of (listener_broken profile tree)) (least_of (listener_broken profile tree)) }
 {}
 
 /// What is found of a listener by the own rules. The values count where no rule is broken.

@@ -30,7 +30,8 @@ pub(crate) fn read_body(
     ttl: Found<Span>,
     resource: Found<&Value>,
 ) -> Result<Body, AllocError>
-    ensures { IfOk result (λ read. read ≡ body_of profile kind name.now ttl (found_map (λ v. view v.now) resource.entry)) }
+    ensures { IfOk result (λ read. read
+        ≡ body_of profile kind name.now ttl (found_map (λ v. view v.now) resource.entry)) }
 {
     if is_heartbeat(name, ttl, resource) {
         return Ok(Body::Beat);
@@ -103,7 +104,8 @@ fn inspect_own(
 #[tactic(auto, using(crate::proofs::LeastLemmas::body_least))]
 pub fn body_rule_is_least()
     ensures { (profile : Profile) (kind : Kind) (name : List ℕ) (ttl : Found Span) (resource : Found Data)
-        → IsLeast (rules_of (item_broken profile kind name ttl resource)) (rule_in (body_of profile kind name ttl resource)) }
+        → IsLeast (rules_of (item_broken profile kind name ttl resource))
+        (rule_in (body_of profile kind name ttl resource)) }
 {}
 
 // Whether a body is an object whose `@type` is that of the kind.

@@ -74,7 +74,8 @@ fn read_lists(
     value: &Value,
 ) -> Result<Response, WireError>
     requires { 1 ≤ length nonce }
-    ensures { Reads result (given_if (has_lists (view value.now)) (parts_of profile (Some kind) nonce (view value.now))) }
+    ensures { Reads result (given_if (has_lists (view value.now))
+        (parts_of profile (Some kind) nonce (view value.now))) }
 {
     let resources = member::objects(alloc, Some(value), "resources")?;
     let removed = member::texts(alloc, Some(value), "removed_resources")?;

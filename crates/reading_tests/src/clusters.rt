@@ -113,7 +113,9 @@ fn describe_cluster(alloc: Global, cluster: &Cluster) -> Result<String, AllocErr
             fresh,
         } => {
             let (service, limited, fresh) = (service.as_str(), *limited, *fresh);
-            format!(in alloc; "{name} by {service}, limited {limited}, fresh {fresh}, checked {checked}")
+            format!(in alloc;
+                "{name} by {service}, limited {limited}, fresh {fresh}, checked {checked}"
+            )
         }
         Discovery::Elsewhere => format!(in alloc; "{name} elsewhere, checked {checked}"),
     }

@@ -64,10 +64,12 @@ fn describe_pattern(text: &mut String, pattern: &StringPattern) -> Result<(), Al
 // What is asked of a header's value, as text.
 fn describe_test(text: &mut String, test: &HeaderTest) -> Result<(), AllocError> {
     match test {
-        HeaderTest::Text(StringMatcher {
-            pattern,
-            ignore_case,
-        }) => {
+        HeaderTest::Text(
+            StringMatcher {
+                pattern,
+                ignore_case,
+            },
+        ) => {
             describe_pattern(text, pattern)?;
             text.push_str(if *ignore_case { " folded" } else { "" })
         }
