@@ -45,10 +45,12 @@ pub fn read_target(alloc: Global, profile: Profile, value: &Value) -> Result<Tar
 /// The rule by which a route configuration is refused is the least of all that it breaks, and where there is
 /// none, it breaks none: a law of the definitions.
 pub fn table_rule_is_least()
-    ensures { (profile : Profile) (tree : Data) → IsLeast (rules_of (table_broken profile tree)) (least_of (table_broken profile tree)) }
+    ensures { (profile : Profile) (tree : Data)
+        → IsLeast (rules_of (table_broken profile tree)) (least_of (table_broken profile tree)) }
 {}
 
 /// The same of a target.
 pub fn target_rule_is_least()
-    ensures { (profile : Profile) (tree : Data) → IsLeast (rules_of (target_broken_in profile tree)) (least_of (target_broken_in profile tree)) }
+    ensures { (profile : Profile) (tree : Data)
+        → IsLeast (rules_of (target_broken_in profile tree)) (least_of (target_broken_in profile tree)) }
 {}
