@@ -19,7 +19,8 @@ use Rattle.ev_script.specs.StreamLines.{connect_line, disconnect_line, response_
 use Rattle.ev_script.specs.HealthLines.{health_line}
 use Rattle.ev_script.specs.TimerLines.{timeout_of, timeout_line, drain_line, expired_line}
 use Rattle.ev_script.specs.MainLines.{publish_line, reap_line}
-use Rattle.ev_script.specs.WorkerLines.{worker_in, conn_in, ask_in, worker_line, accept_line, close_line, settle_line}
+use Rattle.ev_script.specs.Asks.{conn_in, ask_in}
+use Rattle.ev_script.specs.WorkerLines.{worker_in, worker_line, accept_line, close_line, settle_line}
 use Rattle.ev_script.specs.Lines.{line_of, line_by, main_side_line}
 use Rattle.ev_expand.specs.Fronts.{event_of, message_of}
 use Rattle.ev_expand.specs.Guarding.{kind_of, items_as, items_by, listed_as, clusters_by}
