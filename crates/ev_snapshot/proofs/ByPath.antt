@@ -1,5 +1,5 @@
 -- Where routes ask for paths alone, the first that takes a path is the first that doesn't say no.
-use Rattle.std.proofs.Common.{◌≡◌, ℕ, ◌&&◌, ◌==◌, not, Bool, true, false, cond, List, [], ◌∷◌, length, find, Some, refl, arith}
+use Rattle.std.proofs.Common.{◌≡◌, ℕ, ◌&&◌, ◌==◌, not, Bool, true, false, cond, List, [], ◌∷◌, length, find, Option, Some, None, refl, arith}
 use Rattle.std.specs.Cmp.{first_so, second_so}
 use Rattle.std.proofs.lemmas.Bool.Decides.{nat_tests}
 use Rattle.std.proofs.lemmas.Grind.{common_steps}
@@ -10,7 +10,14 @@ use Rattle.ev_types.specs.declared.routes.PathMatch.{PathMatch}
 use Rattle.ev_types.specs.declared.routes.Route.{Route}
 use Rattle.ev_model.specs.Conditions.{Requested, is_no, match_says, taken_by, yes_if}
 use Rattle.ev_model.specs.Paths.{is_path_taken}
+use Rattle.ev_snapshot.specs.Indexed.{MayIndex}
+use Rattle.ev_snapshot.specs.declared.path_index.PathIndex.{PathIndex}
 use Rattle.ev_snapshot.specs.Paths.{are_by_path, cased_match, is_by_path, is_cased, path_of}
+
+-- an index is of routes that ask for paths alone
+pub indexed_by_path : (routes : List Route) (index : PathIndex) (kept : Option PathIndex) → MayIndex routes kept → kept ≡ Some index → are_by_path routes ≡ true
+indexed_by_path routes index None may is = absurd (cc)
+indexed_by_path routes index (Some other) may is = may.0
 
 -- what a route of these says
 one_says : (b : Bool) → b ≡ not (is_no (taken_by (yes_if b ∷ [])))

@@ -1,6 +1,7 @@
 -- Texts as they are compared: as they are, or with their ASCII letters as lower case.
 use Rattle.std.proofs.Common.{◌≡◌, ℕ, ◌+◌, ◌-◌, ◌<◌, ◌≤◌, ◌==◌, ◌&&◌, ◌||◌, ◌++◌, not, min, nat_eq, nat_le, nat_lt, Bool, true, false, cond, List, [], ◌∷◌, length, map, take, drop, take_while, slice_index_or, codes, zero, suc, refl, sym, ap, ◌∙◌, arith}
 use Rattle.std.specs.Char.{to_ascii_lowercase}
+use Rattle.std.specs.List.{prefix_len}
 use Rattle.std.specs.Str.{bytes_eq, str_to_ascii_lowercase}
 use Rattle.std.proofs.lemmas.Bool.Decides.{nat_tests}
 use Rattle.std.proofs.lemmas.Grind.{common_steps}
@@ -63,15 +64,14 @@ pub lower_slash : (byte : ℕ) → nat_eq (to_ascii_lowercase byte) 47 ≡ nat_e
 lower_slash byte = grind (arith, nat_tests)
 
 -- the query of a path in lower case begins where it did
+query_place : (path : List ℕ) → prefix_len (λ byte. not (byte == 63)) (str_to_ascii_lowercase path) ≡ prefix_len (λ byte. not (byte == 63)) path
+query_place [] = refl
+query_place (byte ∷ path) = λ i. cond (not (lower_query byte i)) (1 + query_place path i) 0
+
 pub query_lower : (path : List ℕ) → without_query (str_to_ascii_lowercase path) ≡ str_to_ascii_lowercase (without_query path)
-query_lower [] = refl
-query_lower (byte ∷ path) = by (byte == 63) (lower_query byte) (query_lower path)
-  where
-    by : (b : Bool) → (to_ascii_lowercase byte == 63) ≡ b → without_query (str_to_ascii_lowercase path) ≡ str_to_ascii_lowercase (without_query path)
-        → without_query (str_to_ascii_lowercase (byte ∷ path)) ≡ str_to_ascii_lowercase (cond (not b) (byte ∷ without_query path) [])
-    by true is rest = λ i. cond (not (is i)) (to_ascii_lowercase byte ∷ without_query (str_to_ascii_lowercase path)) []
-    by false is rest =
-        (λ i. cond (not (is i)) (to_ascii_lowercase byte ∷ without_query (str_to_ascii_lowercase path)) []) ∙ ap (λ bytes. to_ascii_lowercase byte ∷ bytes) rest
+query_lower path =
+    ap (λ n. take n (str_to_ascii_lowercase path)) (query_place path)
+    ∙ take-map to_ascii_lowercase (prefix_len (λ byte. not (byte == 63)) path) path
 
 byte_lower : (text : List ℕ) (n : ℕ) → nat_eq (slice_index_or (str_to_ascii_lowercase text) n 0) 47 ≡ nat_eq (slice_index_or text n 0) 47
 byte_lower [] n = refl

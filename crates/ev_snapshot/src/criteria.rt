@@ -1,4 +1,4 @@
-ghost use Rattle.std.specs.Prelude.{◌≡◌, ◌+◌, ◌≤◌, ◌∷◌, ◌&&◌, [], drop, slice_get};
+ghost use Rattle.std.specs.Prelude.{◌≡◌, ◌+◌, ◌≤◌, ◌∷◌, ◌&&◌, [], drop, find, slice_get};
 ghost use Rattle.std.specs.List.{list_any};
 ghost use Rattle.std.specs.Option.{option_copied};
 ghost use Rattle.std.specs.Str.{str_to_ascii_lowercase};
@@ -56,6 +56,13 @@ impl<'a> Criteria<'a> {
     pub(crate) fn leave_source(&self, chains: &[RoutedChain]) -> bool
         ensures { result ≡ list_any (λ (c : ServedChain). c.criteria.asks_source) (left_by self.now chains.now) }
     {
+        self.any_leaves_source(chains)
+    }
+
+    // Whether one of these chains is left and asks for a source.
+    fn any_leaves_source(&self, chains: &[RoutedChain]) -> bool
+        ensures { result ≡ list_any (λ (c : ServedChain). is_left self.now c.criteria && c.criteria.asks_source) chains.now }
+    {
         chains.iter().any(|chain| self.leaves_source(chain))
     }
 
@@ -69,6 +76,13 @@ impl<'a> Criteria<'a> {
     /// The first of the chains that are left.
     pub(crate) fn first_left<'c>(&self, chains: &'c [RoutedChain]) -> Option<&'c RoutedChain>
         ensures { option_copied result ≡ slice_get (left_by self.now chains.now) 0 }
+    {
+        self.find_left(chains)
+    }
+
+    // The first of these chains that is left.
+    fn find_left<'c>(&self, chains: &'c [RoutedChain]) -> Option<&'c RoutedChain>
+        ensures { option_copied result ≡ find (λ (c : ServedChain). is_left self.now c.criteria) chains.now }
     {
         chains.iter().find(|chain| self.leaves(chain))
     }
@@ -88,6 +102,14 @@ impl<'a> Criteria<'a> {
     // Whether one of the chains that are left asks for a value.
     fn is_asked<V: Criterion>(&self, chains: &[RoutedChain], value: &V) -> bool
         ensures { result ≡ is_asked V.same V.values (left_by self.now chains.now) value.now }
+    {
+        self.any_asks(chains, value)
+    }
+
+    // Whether one of these chains is left and asks for a value.
+    fn any_asks<V: Criterion>(&self, chains: &[RoutedChain], value: &V) -> bool
+        ensures { result ≡ list_any
+            (λ (c : ServedChain). is_left self.now c.criteria && has_value V.same (V.values c.criteria) value.now) chains.now }
     {
         chains.iter().any(|chain| self.asks(chain, value))
     }
@@ -124,6 +146,13 @@ impl<'a> Criteria<'a> {
     // Whether one of the chains that are left asks for a range.
     fn ask_range(&self, chains: &[RoutedChain]) -> bool
         ensures { result ≡ list_any (λ (c : ServedChain). asks_range c.criteria) (left_by self.now chains.now) }
+    {
+        self.any_asks_range(chains)
+    }
+
+    // Whether one of these chains is left and asks for a range.
+    fn any_asks_range(&self, chains: &[RoutedChain]) -> bool
+        ensures { result ≡ list_any (λ (c : ServedChain). is_left self.now c.criteria && asks_range c.criteria) chains.now }
     {
         chains.iter().any(|chain| self.asks_range(chain))
     }

@@ -215,10 +215,17 @@ fn first_of(group: &[Shared<RoutedListener>]) -> Option<&RoutedListener>
 fn first_for_every(group: &[Shared<RoutedListener>]) -> Option<&RoutedListener>
     ensures { option_copied result ≡ find (λ (l : ServedListener). l.takes_every_address) group.now }
 {
-    match group.iter().find(|listener| takes_every_address(listener)) {
+    match found_for_every(group) {
         Some(listener) => Some(listener.get()),
         None => None,
     }
+}
+
+// The same, with its owner.
+fn found_for_every(group: &[Shared<RoutedListener>]) -> Option<&Shared<RoutedListener>>
+    ensures { option_copied result ≡ find (λ (l : ServedListener). l.takes_every_address) group.now }
+{
+    group.iter().find(|listener| takes_every_address(listener))
 }
 
 // Whether a listener takes every address.

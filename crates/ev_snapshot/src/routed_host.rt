@@ -65,7 +65,6 @@ impl RoutedHost {
     }
 
     /// The first route that doesn't say no.
-    #[tactic(auto, using(crate::proofs::ByPath::found_by_path))]
     pub(crate) fn route_for(&self, ask: &Ask) -> Option<&Route>
         ensures { option_copied result ≡ route_for self.now (requested_of ask.now) }
     {

@@ -1,6 +1,6 @@
 //! A worker is idle until its first line.
 use ev_snapshot::Snapshot;
-use ev_types::{Ask, Host, Name, Text};
+use ev_types::{Ask, Host, Name, Seq, Text};
 use ev_worker::Worker;
 use std::alloc::Global;
 use std::mem::drop;
@@ -11,14 +11,20 @@ fn accept(alloc: Global, worker: &mut Worker) -> Result<(), Fail> {
     let address = Name::new(alloc, "10.1.0.1")?;
     let path = Text::new(alloc, "/")?;
     let host = Text::new(alloc, "")?;
+    let server_name = Text::new(alloc, "")?;
     if worker.room() == 0 {
         return Err(Fail::new("full"));
     }
     let ask = Ask {
         conn: 1,
         address: Host { address, port: 80 },
+        ip: None,
+        server_name,
+        tls: false,
+        alpn: Seq::new(alloc),
         host,
         path,
+        headers: Seq::new(alloc),
         pick: 0,
     };
     worker.accept(2, ask);

@@ -10,5 +10,5 @@ use Rattle.ev_snapshot.proofs.groups.enter_group.Goals as goal
 pub returns : goal.returns
 returns c address =
     c.in_ok-set_group.ensures address
-    ∙ (λ i. cond (host_same c.args.listener.now.address address) ((c.in_ok-group.ensures ∙ ap (λ o. put_before (λ (l : ServedListener). l.name) c.args.listener.now (group_of o)) (c.get-2.ensures ∙ ap (found host_same c.args.groups.now) (ap (λ (l : ServedListener). l.address) (c.served.ensures ∙ c.get.ensures.value)))) i) (group_of (found host_same c.args.groups.now address)))
+    ∙ (λ i. cond (host_same c.args.listener.now.address address) ((c.in_ok-group.ensures ∙ ap (λ o. put_before (λ (l : ServedListener). l.name) c.args.listener.now (group_of o)) (c.get-2.ensures ∙ ap (found host_same c.args.groups.now) (c.address.ensures ∙ ap (λ (l : ServedListener). l.address) c.get.ensures.value))) i) (group_of (found host_same c.args.groups.now address)))
     ∙ same_address (λ a. put_before (λ (l : ServedListener). l.name) c.args.listener.now (group_of (found host_same c.args.groups.now a))) c.args.listener.now.address address (group_of (found host_same c.args.groups.now address))

@@ -13,5 +13,5 @@ returns c address =
     c.in_ok-set_group.ensures address
     ∙ (λ i. cond (host_same c.args.listener.now.address address) ((c.in_ok-group.ensures
     ∙ (λ j. without_number (λ (l : ServedListener). l.number) ((c.number.ensures ∙ ap (λ (l : ServedListener). l.number) c.get-3.ensures.value) j) (group_of (option_copied c.get-2.result)))
-    ∙ ap (λ o. without_number (λ (l : ServedListener). l.number) c.args.listener.now.number (group_of o)) (c.get-2.ensures ∙ ap (found host_same c.args.groups.now) (ap (λ (l : ServedListener). l.address) (c.served.ensures ∙ c.get.ensures.value)))) i) (group_of (found host_same c.args.groups.now address)))
+    ∙ ap (λ o. without_number (λ (l : ServedListener). l.number) c.args.listener.now.number (group_of o)) (c.get-2.ensures ∙ ap (found host_same c.args.groups.now) (c.address.ensures ∙ ap (λ (l : ServedListener). l.address) c.get.ensures.value))) i) (group_of (found host_same c.args.groups.now address)))
     ∙ same_address (λ a. without_number (λ (l : ServedListener). l.number) c.args.listener.now.number (group_of (found host_same c.args.groups.now a))) c.args.listener.now.address address (group_of (found host_same c.args.groups.now address))

@@ -1,5 +1,4 @@
-use Rattle.std.proofs.Common.{rules, ◌≡◌, ◌&&◌, ◌∙◌, sym}
-use Rattle.std.specs.List.{list_any}
+use Rattle.std.proofs.Common.{◌∙◌, sym}
 use Rattle.ev_types.specs.FilterChains.{has_value}
 use Rattle.ev_model.specs.declared.pictures.ServedChain.{ServedChain}
 use Rattle.ev_snapshot.specs.Wanted.{is_left}
@@ -8,7 +7,6 @@ use Rattle.ev_snapshot.proofs.criteria.Criteria.is_asked.Goals as goal
 
 pub returns : goal.returns
 returns g c =
-    let each : c.any.result ≡ list_any (λ (x : ServedChain). is_left c.args.self.now x.criteria && has_value g.V.Criterion.same (g.V.Criterion.values x.criteria) c.args.value.now) c.args.chains.now = search (rules, c.iter.ensures.runs, c.any.ensures.runs) in
-    each
+    c.any_asks.ensures
     ∙ sym (any_left (λ (x : ServedChain). is_left c.args.self.now x.criteria)
     (λ (x : ServedChain). has_value g.V.Criterion.same (g.V.Criterion.values x.criteria) c.args.value.now) c.args.chains.now)

@@ -26,7 +26,7 @@ returns c =
     let criteria = c.of-criteria.result in
     let chains = c.filter_chains-chains.ensures in
     c.choose_by_chain.ensures
-    ∙ (λ i. by_chain c.args.self.now c.args.ask.now (c.number.ensures i) (c.routing_left.ensures i))
+    ∙ (λ i. by_chain c.args.self.now c.args.ask.now (c.number-2.ensures i) (c.routing_left.ensures i))
     ∙ ap (λ (b : Bool). cond b (Undecided listener.number)
     (by_chain c.args.self.now c.args.ask.now listener.number (routing_left (left_by criteria listener.filter_chains) listener.default_filter_chain)))
     (sym c.if-leave_source.false)

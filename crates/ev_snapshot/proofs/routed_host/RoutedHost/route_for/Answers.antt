@@ -1,0 +1,20 @@
+use Rattle.std.proofs.Common.{◌≡◌, ◌∙◌, true, find, ap}
+use Rattle.ev_types.specs.declared.routes.Route.{Route}
+use Rattle.ev_types.specs.declared.routes.VirtualHost.{VirtualHost}
+use Rattle.ev_model.specs.Choice.{requested_of}
+use Rattle.ev_model.specs.Paths.{is_path_taken}
+use Rattle.ev_snapshot.specs.Domains.{host_at}
+use Rattle.ev_snapshot.specs.Paths.{are_by_path, path_of}
+use Rattle.ev_snapshot.proofs.ByPath.{found_by_path, indexed_by_path}
+use Rattle.ev_snapshot.proofs.routed_host.RoutedHost.route_for.Goals as goal
+
+pub returns-in-Some : goal.returns-in-Some
+returns-in-Some c =
+    let inside = c.self.inside in
+    let kept : are_by_path (host_at inside.table.hosts inside.place).routes ≡ true =
+    indexed_by_path (host_at inside.table.hosts inside.place).routes c.in-Some.index inside.index c.self.invariant.1 c.in-Some.is in
+    let all : are_by_path c.args.self.now.routes ≡ true = cc in
+    c.route_for.ensures
+    ∙ (λ i. find (λ (r : Route). is_path_taken ((c.as_bytes-path.ensures.value ∙ c.as_str.ensures.bytes) i) (path_of r))
+    ((c.as_slice.ensures.elements ∙ ap (λ (h : VirtualHost). h.routes) c.host.ensures) i))
+    ∙ found_by_path (requested_of c.args.ask.now) c.args.self.now.routes all
