@@ -1,6 +1,6 @@
 -- What a connection brings, one value after the other: ranges with its address, the longest first, and the endings of its server
 -- name after a star.
-use Rattle.std.proofs.Common.{◌≡◌, ℕ, ◌+◌, ◌<◌, ◌≤◌, ◌==◌, ◌++◌, ◌||◌, nat_lt, Bool, true, false, cond, List, [], ◌∷◌, length, map, drop, reverse, find, codes, Option, Some, None, zero, suc, refl, sym, ap, ◌∙◌, arith, add-one}
+use Rattle.std.proofs.Common.{◌≡◌, ℕ, ◌+◌, ◌<◌, ◌==◌, ◌++◌, ◌||◌, nat_lt, Bool, true, false, cond, List, [], ◌∷◌, length, map, drop, reverse, find, codes, Some, None, zero, suc, refl, ap, ◌∙◌, arith, add-one}
 use Rattle.std.specs.List.{list_any, range_with_len}
 use Rattle.std.specs.Option.{option_or}
 use Rattle.std.proofs.lemmas.Bool.Decides.{nat_tests}

@@ -1,12 +1,11 @@
 -- Where routes ask for paths alone, the first that takes a path is the first that doesn't say no.
-use Rattle.std.proofs.Common.{◌≡◌, ℕ, ◌&&◌, ◌==◌, not, Bool, true, false, cond, List, [], ◌∷◌, length, find, Option, Some, None, refl, arith}
+use Rattle.std.proofs.Common.{◌≡◌, ◌==◌, not, Bool, true, false, cond, List, [], ◌∷◌, length, find, Option, Some, None, refl, arith}
 use Rattle.std.specs.Cmp.{first_so, second_so}
 use Rattle.std.proofs.lemmas.Bool.Decides.{nat_tests}
 use Rattle.std.proofs.lemmas.Grind.{common_steps}
 use Rattle.ev_types.specs.declared.matchers.PathSpecifier.{PathSpecifier}
 use Rattle.ev_types.specs.declared.matchers.PathSpecifier.TheVariants.{Cased, Folded, Connect, Open as open_path}
 use Rattle.ev_types.specs.declared.matchers.RouteCondition.{RouteCondition}
-use Rattle.ev_types.specs.declared.routes.PathMatch.{PathMatch}
 use Rattle.ev_types.specs.declared.routes.Route.{Route}
 use Rattle.ev_model.specs.Conditions.{Requested, is_no, match_says, taken_by, yes_if}
 use Rattle.ev_model.specs.Paths.{is_path_taken}

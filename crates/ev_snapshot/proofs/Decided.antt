@@ -1,5 +1,5 @@
 -- A choice at a listener, by the chains that its criteria leave.
-use Rattle.std.proofs.Common.{◌≡◌, Bool, cond, Some, sym, ap, ◌∙◌}
+use Rattle.std.proofs.Common.{◌≡◌, Bool, cond, Some, ap, ◌∙◌}
 use Rattle.std.specs.List.{list_any}
 use Rattle.ev_types.specs.declared.events.Ask.{Ask}
 use Rattle.ev_model.specs.Choice.{by_chain, by_listener, incoming_of, routing_left}

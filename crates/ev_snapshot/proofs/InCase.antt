@@ -1,5 +1,5 @@
 -- Texts as they are compared: as they are, or with their ASCII letters as lower case.
-use Rattle.std.proofs.Common.{◌≡◌, ℕ, ◌+◌, ◌-◌, ◌<◌, ◌≤◌, ◌==◌, ◌&&◌, ◌||◌, ◌++◌, not, min, nat_eq, nat_le, nat_lt, Bool, true, false, cond, List, [], ◌∷◌, length, map, take, drop, take_while, slice_index_or, codes, zero, suc, refl, sym, ap, ◌∙◌, arith}
+use Rattle.std.proofs.Common.{◌≡◌, ℕ, ◌+◌, ◌-◌, ◌<◌, ◌≤◌, ◌==◌, ◌&&◌, ◌||◌, ◌++◌, not, min, nat_eq, nat_le, Bool, true, false, cond, List, [], ◌∷◌, length, take, drop, slice_index_or, zero, suc, refl, sym, ap, ◌∙◌, arith}
 use Rattle.std.specs.Char.{to_ascii_lowercase}
 use Rattle.std.specs.List.{prefix_len}
 use Rattle.std.specs.Str.{bytes_eq, str_to_ascii_lowercase}

@@ -7,7 +7,6 @@ use Rattle.std.proofs.lemmas.List.Folds.{list_any-append}
 use Rattle.ev_types.specs.SameHosts.{host_same}
 use Rattle.ev_types.specs.Weights.{weight_sum}
 use Rattle.ev_types.specs.declared.events.Ask.{Ask}
-use Rattle.ev_types.specs.declared.hosts.Host.{Host}
 use Rattle.ev_types.specs.declared.ips.Ip.{Ip}
 use Rattle.ev_types.specs.declared.ips.Ip.TheVariants.{V4, V6}
 use Rattle.ev_types.specs.declared.routes.Action.{Action}

@@ -1,6 +1,6 @@
 use Rattle.std.proofs.Common.{◌≡◌, ◌∙◌, cond, List, Bool, sym, ap, subst}
 use Rattle.std.specs.List.{list_any}
-use Rattle.ev_model.specs.Choice.{by_chain, by_listener, incoming_of, routing_left}
+use Rattle.ev_model.specs.Choice.{by_chain, incoming_of, routing_left}
 use Rattle.ev_model.specs.Narrowing.{chains_left}
 use Rattle.ev_model.specs.declared.pictures.Choice.TheVariants.{Undecided}
 use Rattle.ev_model.specs.declared.pictures.ServedChain.{ServedChain}

@@ -1,4 +1,4 @@
-use Rattle.std.proofs.Common.{◌≡◌, ◌∙◌, ◌/◌, List, sym, ap}
+use Rattle.std.proofs.Common.{◌∙◌, ◌/◌, List, sym, ap}
 use Rattle.ev_types.specs.Weights.{weight_sum}
 use Rattle.ev_types.specs.declared.routes.Target.{Target}
 use Rattle.ev_types.specs.declared.routes.WeightedCluster.{WeightedCluster}
