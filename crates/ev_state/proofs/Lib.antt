@@ -1,6 +1,7 @@
 pub mod HeardLemmas
 pub mod WholeLemmas
 pub mod KnownLemmas
+pub mod WatchedNames
 pub mod TidyLemmas
 pub mod AgeLemmas
 pub mod NameLists

@@ -11,7 +11,7 @@ use Rattle.ev_model.specs.Requests.{other_than}
 use Rattle.ev_model.specs.Rows.{with_statuses}
 use Rattle.ev_model.specs.Tidy.{promoted, promoted_status, has_successor}
 use Rattle.ev_model.specs.Warming.{is_ready_by}
-use Rattle.ev_model.specs.Watching.{is_by_name, sorted_names, watched_of}
+use Rattle.ev_model.specs.Watching.{is_by_name, watched_of}
 use Rattle.ev_generations.specs.Tables.{IsTable, row_in}
 use Rattle.ev_indexes.specs.declared.state.State.{State as Part}
 use Rattle.ev_indexes.specs.Due.{is_among}
@@ -20,7 +20,7 @@ use Rattle.ev_indexes.specs.Moved.{names_lost, names_gained}
 use Rattle.ev_indexes.specs.Reads.{names_watched}
 use Rattle.ev_indexes.specs.Worlds.{IsSound, StandsFor as HasRows, needs_of, rows_of_kind}
 use Rattle.ev_indexes.proofs.RowLemmas.{found-of_kind}
-use Rattle.ev_indexes.proofs.ReadLemmas.{names-world, needs-world}
+use Rattle.ev_indexes.proofs.ReadLemmas.{names-world}
 use Rattle.ev_warming.proofs.RemovalLemmas.{apart-filter}
 use Rattle.ev_indexes.proofs.WorldLemmas.{rows_of_kind-with_statuses}
 use Rattle.ev_types.specs.Kinds.{kind_same}
@@ -38,6 +38,7 @@ use Rattle.ev_state.specs.Changed.{HaveChanged}
 use Rattle.ev_state.specs.Retirements.{HaveMoved, HaveRetired, retired_of}
 use Rattle.ev_state.proofs.AgeLemmas.{later-kind, later-promoted, found-later}
 use Rattle.ev_state.proofs.ChangeLemmas.{names-begun, names-ended}
+use Rattle.ev_state.proofs.WatchedNames.{names-sound}
 
 -- the managers' rows are the world's
 pub rows-are : (m : Managers) (kind : Kind) (world : World) → AreKept m → StandFor m world → (manager_of m kind).state.table.rows ≡ rows_of_kind (rows_of kind) world.rows
@@ -211,7 +212,7 @@ names-changed change m kind made retired kept by_name begun ended before world s
     let back : (n : ℕ) (row : GenRow) → row_in n s.table.rows ≡ Some row → is_among retired n ≡ true → has_retired n rows0 s.table.rows ≡ true =
     λ n row at there. same n ∙ own_retired kind n row retired before world stands.sound have ((λ i. row_in n (sym (rows-are m kind world kept stand) i)) ∙ at) there in
     let was : names_watched rows0 ≡ watched_of before kind =
-    ap sorted_names (needs-world s.kind is_own.kept.rows before.rows sound.typed) ∙ ap (watched_of before) needs in
+    names-sound s.kind before is_own.kept.rows sound ∙ ap (watched_of before) needs in
     let is : names_watched s.table.rows ≡ watched_of world kind = names-world s world stands is_own.kept.rows ∙ ap (watched_of world) needs in
     record {
       begun = begun ∙ (λ i. other_than (names_lost (drawn i) s.table.rows retired) (names_gained (drawn i) s.table.made s.table.rows))

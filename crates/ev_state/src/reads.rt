@@ -46,8 +46,8 @@ impl State {
         Ok(served)
     }
 
-    /// What a picture shows of the listener of this number now: nothing before listeners serve, and then, where it is active, its routes
-    /// or its target. It costs a look-up of the number, and one of the name that the listener depends on.
+    /// What a picture shows of the listener of this number now: nothing before listeners serve, and then, where it is active, its chains
+    /// with their routes and targets. It costs a look-up of the number, and one of each name that the listener depends on.
     pub fn listener(&self, alloc: Global, number: Gen) -> Result<Option<ServedListener>, AllocError>
         requires kept { AreKept self.now.managers }
         ensures { IfOk result (λ served. (world : World) → ManagesAt self.now world → served ≡ listener_at world number) }
