@@ -13,7 +13,9 @@ def run(check):
     status, out, errors = ran('bench/replay', '--program', '/bin/true', 'nothing', '0')
     check(status == 0 and float(out.split(b' MB')[0].split()[-1]) < 8, f'bench/replay of nothing has a start\'s own size: {out}')
     module = loaded('bench/replay')
-    for kind in sorted({kind for kind, _ in module.TABLE}):
-        reading = script.read_script(b''.join(json.dumps(line).encode() + b'\n' for line in module.lines(kind, 250)))
+    least = {kind: min(number for other, number in module.TABLE if other == kind) for kind, _ in module.TABLE}
+    for kind in sorted(least):
+        lines = module.lines(kind, min(least[kind], 250))
+        reading = script.read_script(b''.join(json.dumps(line).encode() + b'\n' for line in lines))
         items = [item for line in reading.lines if line.response for item in line.response.items]
         check(not reading.faults and not any(item.broken for item in items), f'bench/replay {kind} makes no script of good resources')
