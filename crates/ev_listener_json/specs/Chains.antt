@@ -1,5 +1,5 @@
 -- Filter chains of a listener as Envoy reads them: each with its match, a default chain, and the one of an API listener.
-use Rattle.std.specs.Prelude.{ℕ, ◌||◌, ◌==◌, ◌&&◌, List, [], ◌∷◌, length, map, Bool, true, false, not, if◌then◌else◌, Option, Some, None, unwrap_or, codes}
+use Rattle.std.specs.Prelude.{◌||◌, ◌==◌, ◌&&◌, List, [], ◌∷◌, length, map, Bool, true, false, not, if◌then◌else◌, Option, Some, None, unwrap_or, codes}
 use Rattle.serde_json.specs.Data.{Data}
 use Rattle.ev_types.specs.FilterChains.{has_collision}
 use Rattle.ev_types.specs.declared.events.Profile.TheVariants.{Envoy}

@@ -4,7 +4,7 @@ use Rattle.std.specs.Prelude.{ℕ, ◌||◌, List, [], map, Bool, false, not, if
 use Rattle.std.specs.Str.{bytes_eq}
 use Rattle.serde_json.specs.Data.{Data}
 use Rattle.ev_types.specs.declared.events.Profile.{Profile}
-use Rattle.ev_types.specs.declared.events.Profile.TheVariants.{Own, Envoy}
+use Rattle.ev_types.specs.declared.events.Profile.TheVariants.{Own}
 use Rattle.ev_types.specs.declared.listeners.Serve.{Serve}
 use Rattle.ev_types.specs.declared.listeners.Serve.TheVariants.{Tcp, Inline}
 use Rattle.ev_tree.specs.declared.broken.BrokenRules.{BrokenRules}

@@ -1,6 +1,5 @@
 use Rattle.std.proofs.Common.{◌∙◌, ap, ◌++◌, ◌∷◌, [], codes}
 use Rattle.ev_types.specs.declared.events.Profile.TheVariants.{Envoy}
-use Rattle.ev_types.specs.declared.listeners.FilterChain.{FilterChain}
 use Rattle.ev_tree.specs.Forms.{is_wrong, inside, text_of, object_of}
 use Rattle.ev_tree.specs.Broken.{either_broken}
 use Rattle.ev_tree.proofs.Outcomes.{or_same, not_same}
