@@ -105,19 +105,19 @@ not_above m n h = grind (arith, nat_tests)
 
 -- what wasn't told of has no last word
 none_told : (kind : Kind) (name : List ℕ) (arrivals : List Arrived) → is_told_by arrivals kind name ≡ false → last_told arrivals kind name ≡ None
-none_told kind name arrivals h = ap (λ (as : List Arrived). last_or None (map (λ (a : Arrived). a.made) as)) (none_words arrivals h)
+none_told kind name arrivals h = ap (λ (rest : List Arrived). last_or None (map (λ (a : Arrived). a.made) rest)) (none_words arrivals h)
   where
-    none_words : (as : List Arrived) → list_any is_word (map (λ (a : Arrived). a.arrival) (filter (is_for kind name) as)) ≡ false → filter (λ (a : Arrived). is_for kind name a && is_word a.arrival) as ≡ []
+    none_words : (rest : List Arrived) → list_any is_word (map (λ (a : Arrived). a.arrival) (filter (is_for kind name) rest)) ≡ false → filter (λ (a : Arrived). is_for kind name a && is_word a.arrival) rest ≡ []
     none_words [] e = refl
-    none_words (a ∷ as) e = by (is_for kind name a) (is_word a.arrival) refl e (λ rest. none_words as rest)
+    none_words (a ∷ rest) e = by (is_for kind name a) (is_word a.arrival) refl e (λ rest. none_words rest rest)
       where
-        by : (b c : Bool) → is_word a.arrival ≡ c → list_any is_word (map (λ (x : Arrived). x.arrival) (cond b (a ∷ filter (is_for kind name) as) (filter (is_for kind name) as))) ≡ false
-            → (list_any is_word (map (λ (x : Arrived). x.arrival) (filter (is_for kind name) as)) ≡ false → filter (λ (x : Arrived). is_for kind name x && is_word x.arrival) as ≡ [])
-            → cond (b && c) (a ∷ filter (λ (x : Arrived). is_for kind name x && is_word x.arrival) as) (filter (λ (x : Arrived). is_for kind name x && is_word x.arrival) as) ≡ []
+        by : (b c : Bool) → is_word a.arrival ≡ c → list_any is_word (map (λ (x : Arrived). x.arrival) (cond b (a ∷ filter (is_for kind name) rest) (filter (is_for kind name) rest))) ≡ false
+            → (list_any is_word (map (λ (x : Arrived). x.arrival) (filter (is_for kind name) rest)) ≡ false → filter (λ (x : Arrived). is_for kind name x && is_word x.arrival) rest ≡ [])
+            → cond (b && c) (a ∷ filter (λ (x : Arrived). is_for kind name x && is_word x.arrival) rest) (filter (λ (x : Arrived). is_for kind name x && is_word x.arrival) rest) ≡ []
         by true true word none more =
-            let parts = or_parts (is_word a.arrival) (list_any is_word (map (λ (x : Arrived). x.arrival) (filter (is_for kind name) as))) none in
+            let parts = or_parts (is_word a.arrival) (list_any is_word (map (λ (x : Arrived). x.arrival) (filter (is_for kind name) rest))) none in
             absurd (both_ways (is_word a.arrival) parts.0 word)
-        by true false word none more = more (or_parts (is_word a.arrival) (list_any is_word (map (λ (x : Arrived). x.arrival) (filter (is_for kind name) as))) none).1
+        by true false word none more = more (or_parts (is_word a.arrival) (list_any is_word (map (λ (x : Arrived). x.arrival) (filter (is_for kind name) rest))) none).1
         by false c word none more = more none
 
 -- the endpoints that are written of a place are read as its hosts
