@@ -109,7 +109,7 @@ none_told kind name arrivals h = ap (λ (rest : List Arrived). last_or None (map
   where
     none_words : (rest : List Arrived) → list_any is_word (map (λ (a : Arrived). a.arrival) (filter (is_for kind name) rest)) ≡ false → filter (λ (a : Arrived). is_for kind name a && is_word a.arrival) rest ≡ []
     none_words [] e = refl
-    none_words (a ∷ rest) e = by (is_for kind name a) (is_word a.arrival) refl e (λ rest. none_words rest rest)
+    none_words (a ∷ rest) e = by (is_for kind name a) (is_word a.arrival) refl e (λ none. none_words rest none)
       where
         by : (b c : Bool) → is_word a.arrival ≡ c → list_any is_word (map (λ (x : Arrived). x.arrival) (cond b (a ∷ filter (is_for kind name) rest) (filter (is_for kind name) rest))) ≡ false
             → (list_any is_word (map (λ (x : Arrived). x.arrival) (filter (is_for kind name) rest)) ≡ false → filter (λ (x : Arrived). is_for kind name x && is_word x.arrival) rest ≡ [])
