@@ -137,7 +137,7 @@ plain_tree : (tree : Data) → (true && has_format tree) ≡ false → has_forma
 plain_tree tree e = e
 
 -- no line that was read begins a journal
-not_begun : (forms : LineForms) (texts : List (List ℕ)) (settings : Settings) (n i : ℕ) → AreRead forms true texts workers n → 0 < i → i < n → begins_journal (tree_of (get_or texts i [])) ≡ false
+not_begun : (forms : LineForms) (texts : List (List ℕ)) (settings : Settings) (n i : ℕ) → AreRead forms true texts settings n → 0 < i → i < n → begins_journal (tree_of (get_or texts i [])) ≡ false
 not_begun forms texts settings n i read some within =
     let r : IsLineOf forms true settings (i + 1) (tree_of (get_or texts i [])) = read.others i some within in
     ap begins_journal r.is ∙ plain_tree r.tree r.plain
