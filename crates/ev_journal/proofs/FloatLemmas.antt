@@ -1,9 +1,9 @@
 -- No tree of a journal has a float, so its text is that of its digits.
-use Rattle.std.proofs.Common.{◌≡◌, Bool, false, ◌||◌, refl, ◌∙◌, ap}
+use Rattle.std.proofs.Common.{◌≡◌, Bool, false, ◌||◌, None, Some, refl, ◌∙◌, ap}
 use Rattle.serde_json.specs.Data.{Data}
 use Rattle.serde_json.specs.Written.{has_float}
 use Rattle.ev_types.specs.declared.events.Answer.{Answer}
-use Rattle.ev_types.specs.declared.events.Answer.TheVariants.{Ignored, Done, Moved, Replied, Version, Unchanged, Reaped, InUse, NoListener, NoRoute, Redirect, NoCluster, NoEndpoint, Local, Served, NotOpen, Settled}
+use Rattle.ev_types.specs.declared.events.Answer.TheVariants.{Ignored, Done, Moved, Replied, Version, Unchanged, Reaped, InUse, NoListener, NoChain, Undecided, Elsewhere, NoRoute, Redirect, NoCluster, NoEndpoint, Local, Served, NotOpen, Settled}
 use Rattle.ev_types.specs.declared.events.Entry.{Entry}
 use Rattle.ev_types.specs.declared.journals.Row.{Row}
 use Rattle.ev_wire.specs.Requests.{request_tree}
@@ -24,6 +24,10 @@ answer_tree-whole Unchanged = refl
 answer_tree-whole (Reaped numbers) = neither _ _ (items_have_float-map number_tree (λ _. refl) numbers) refl
 answer_tree-whole InUse = refl
 answer_tree-whole NoListener = refl
+answer_tree-whole NoChain = refl
+answer_tree-whole (Undecided listener) = refl
+answer_tree-whole (Elsewhere listener None) = refl
+answer_tree-whole (Elsewhere listener (Some cluster)) = refl
 answer_tree-whole (NoRoute listener) = refl
 answer_tree-whole (Redirect listener) = refl
 answer_tree-whole (NoCluster listener) = refl
