@@ -27,17 +27,17 @@ use Rattle.ev_app.proofs.ExpandLemmas.{has_made, text_made, never_unmade}
 use Rattle.ev_app.proofs.TreeLemmas.{whole_trees}
 
 -- the text that was made
-pub dns_told : (trees : ScriptTrees) (text : Vec ℕ Global) (made : Made) → LastAnswers → IsExpanded dns_rules (view trees.head) (lines_in trees) (Ok text)
-    → HasNoFault plain_lines (input_of_text text.items) → script_of false text.items ≡ Some (expanded_script dns_rules trees)
-    → IsScript (expanded_script dns_rules trees) → made.status ≡ Done → made.text ≡ text → IsDnsAnswer trees (Ok made)
+pub dns_told : (trees : ScriptTrees) (text : Vec ℕ Global) (made : Made) → LastAnswers → IsExpanded (dns_rules trees.header.profile) (view trees.head) (lines_in trees) (Ok text)
+    → HasNoFault plain_lines (input_of_text text.items) → script_of false text.items ≡ Some (expanded_script (dns_rules trees.header.profile) trees)
+    → IsScript (expanded_script (dns_rules trees.header.profile) trees) → made.status ≡ Done → made.text ≡ text → IsDnsAnswer trees (Ok made)
 dns_told trees text made law told sound script kept done same = (
-  has_made dns_rules trees text told,
+  has_made (dns_rules trees.header.profile) trees text told,
   done,
-  record { made = text_made dns_rules trees text made.text told sound script kept same; last = λ format journal. law trees format journal told.0 kept },
+  record { made = text_made (dns_rules trees.header.profile) trees text made.text told sound script kept same; last = λ format journal. law trees format journal told.0 kept },
 )
 
 -- why none was
-pub dns_not_told : (trees : ScriptTrees) (error : ExpandError) → IsExpanded dns_rules (view trees.head) (lines_in trees) (Err error) → IsDnsAnswer trees (Err (fault_of error))
+pub dns_not_told : (trees : ScriptTrees) (error : ExpandError) → IsExpanded (dns_rules trees.header.profile) (view trees.head) (lines_in trees) (Err error) → IsDnsAnswer trees (Err (fault_of error))
 dns_not_told trees (Private line) told = inl (told, refl)
 dns_not_told trees (Large line) told = inr (told.0, told.1, refl)
 dns_not_told trees OutOfMemory told = tt

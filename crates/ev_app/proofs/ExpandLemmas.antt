@@ -5,7 +5,9 @@ use Rattle.std.proofs.lemmas.List.{map-append, take-append-drop}
 use Rattle.std.proofs.lemmas.Grind.{flat_map-append}
 use Rattle.serde_json.specs.Data.{Data}
 use Rattle.serde_json.specs.View.{view}
+use Rattle.ev_types.specs.declared.events.Profile.{Profile}
 use Rattle.ev_types.specs.Scripts.{IsScript}
+use Rattle.ev_script.specs.declared.header.Header.{Header}
 use Rattle.ev_script.specs.declared.trees.ScriptTrees.{ScriptTrees}
 use Rattle.ev_script.specs.Faults.{LineForms, HasNoFault, plain_lines}
 use Rattle.ev_script.specs.Script.{script_of}
@@ -19,7 +21,7 @@ use Rattle.ev_expand.proofs.GrowthLemmas.{within_front}
 use Rattle.ev_expand_laws.specs.Said.{lines_in, input_of_text, expanded_script}
 use Rattle.ev_app.specs.Expansions.{IsTextBy, HasText, IsUnmade, MakesNoText}
 use Rattle.ev_app.specs.Trees.{AreTreesOf}
-use Rattle.ev_app.proofs.TreeLemmas.{same_heads, same_lines}
+use Rattle.ev_app.proofs.TreeLemmas.{same_headers, same_heads, same_lines}
 
 -- there is a text
 pub has_made : (rules : Rules) (trees : ScriptTrees) (text : Vec ℕ Global) → IsExpanded rules (view trees.head) (lines_in trees) (Ok text) → HasText rules trees
@@ -76,7 +78,10 @@ not_unmade : (rules : Rules) (trees : ScriptTrees) (line number : ℕ) → HasTe
 not_unmade rules trees line number has (inl private) = let e : None ≡ Some line = sym has.unused ∙ private.0 in cc
 not_unmade rules trees line number has (inr large) = large.1.above (front_within rules (view trees.head) (lines_in trees) (line - 1) has.limits)
 
-pub never_unmade : (rules : Rules) (forms : LineForms) (bytes : List ℕ) (trees : ScriptTrees) → AreTreesOf forms bytes trees → HasText rules trees
+pub never_unmade : (rules : Profile → Rules) (forms : LineForms) (bytes : List ℕ) (trees : ScriptTrees) → AreTreesOf forms bytes trees → HasText (rules trees.header.profile) trees
     → (line number : ℕ) → MakesNoText rules forms bytes line number → ⊥
 never_unmade rules forms bytes trees reads has line number late =
-    not_unmade rules late.trees line number (has_text rules forms bytes trees late.trees reads late.reads has) late.unmade
+    let same : trees.header ≡ late.trees.header = same_headers forms bytes trees late.trees reads late.reads in
+    let own : Rules = rules late.trees.header.profile in
+    not_unmade own late.trees line number
+    (has_text own forms bytes trees late.trees reads late.reads (subst (λ (h : Header). HasText (rules h.profile) trees) same has)) late.unmade

@@ -26,17 +26,17 @@ use Rattle.ev_app.proofs.ExpandLemmas.{has_made, text_made, never_unmade}
 use Rattle.ev_app.proofs.TreeLemmas.{whole_trees}
 
 -- the text that was made
-pub tls_told : (trees : ScriptTrees) (text : Vec ℕ Global) (made : Made) → Sealed → IsExpanded tls_rules (view trees.head) (lines_in trees) (Ok text)
-    → HasNoFault plain_lines (input_of_text text.items) → script_of false text.items ≡ Some (expanded_script tls_rules trees)
-    → IsScript (expanded_script tls_rules trees) → made.status ≡ Done → made.text ≡ text → IsTlsAnswer trees (Ok made)
+pub tls_told : (trees : ScriptTrees) (text : Vec ℕ Global) (made : Made) → Sealed → IsExpanded (tls_rules trees.header.profile) (view trees.head) (lines_in trees) (Ok text)
+    → HasNoFault plain_lines (input_of_text text.items) → script_of false text.items ≡ Some (expanded_script (tls_rules trees.header.profile) trees)
+    → IsScript (expanded_script (tls_rules trees.header.profile) trees) → made.status ≡ Done → made.text ≡ text → IsTlsAnswer trees (Ok made)
 tls_told trees text made law told sound script kept done same = (
-  has_made tls_rules trees text told,
+  has_made (tls_rules trees.header.profile) trees text told,
   done,
-  record { made = text_made tls_rules trees text made.text told sound script kept same; sealed = λ format journal. law trees format journal told.0 kept },
+  record { made = text_made (tls_rules trees.header.profile) trees text made.text told sound script kept same; sealed = λ format journal. law trees format journal told.0 kept },
 )
 
 -- why none was
-pub tls_not_told : (trees : ScriptTrees) (error : ExpandError) → IsExpanded tls_rules (view trees.head) (lines_in trees) (Err error) → IsTlsAnswer trees (Err (fault_of error))
+pub tls_not_told : (trees : ScriptTrees) (error : ExpandError) → IsExpanded (tls_rules trees.header.profile) (view trees.head) (lines_in trees) (Err error) → IsTlsAnswer trees (Err (fault_of error))
 tls_not_told trees (Private line) told = inl (told, refl)
 tls_not_told trees (Large line) told = inr (told.0, told.1, refl)
 tls_not_told trees OutOfMemory told = tt

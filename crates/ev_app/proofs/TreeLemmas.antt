@@ -9,8 +9,10 @@ use Rattle.ev_io.specs.LinesState.{LinesState, HasTaken, IsWithin}
 use Rattle.ev_io.specs.Outside.{Takes}
 use Rattle.ev_io.specs.declared.faults.ScriptFault.{ScriptFault}
 use Rattle.ev_io.specs.declared.faults.ScriptFault.TheVariants.{OutOfMemory as lacks_memory}
+use Rattle.ev_script.specs.declared.header.Header.{Header}
 use Rattle.ev_script.specs.declared.trees.ScriptTrees.{ScriptTrees}
 use Rattle.ev_script.specs.Faults.{Input, LineForms}
+use Rattle.ev_script.specs.Header.{header_of}
 use Rattle.ev_script.specs.Members.{tree_of}
 use Rattle.ev_script.specs.ReadInput.{input_of}
 use Rattle.ev_script.specs.ReadTrees.{IsTreesAnswer}
@@ -38,6 +40,14 @@ one_tree text a b first second = ap (tree_in a) (sym first ∙ second)
 
 pub same_heads : (forms : LineForms) (bytes : List ℕ) (trees others : ScriptTrees) → AreTreesOf forms bytes trees → AreTreesOf forms bytes others → view trees.head ≡ view others.head
 same_heads forms bytes trees others one two = one_tree (slice_index_or (lines_of bytes) 0 []) (view trees.head) (view others.head) one.1.head two.1.head
+
+abbrev header_in : Header → Option Header → Header
+header_in header None = header
+header_in header (Some found) = found
+
+pub same_headers : (forms : LineForms) (bytes : List ℕ) (trees others : ScriptTrees) → AreTreesOf forms bytes trees → AreTreesOf forms bytes others → trees.header ≡ others.header
+same_headers forms bytes trees others one two =
+    ap (header_in trees.header) (sym one.1.header ∙ ap header_of (same_heads forms bytes trees others one two) ∙ two.1.header)
 
 pub same_lines : (forms : LineForms) (bytes : List ℕ) (trees others : ScriptTrees) → AreTreesOf forms bytes trees → AreTreesOf forms bytes others → lines_in trees ≡ lines_in others
 same_lines forms bytes trees others one two =

@@ -21,7 +21,7 @@ TellsLastAnswers trees =
 
 -- the text is that of a script of these trees, and its runs report the last answers
 pub record IsDnsText (trees : ScriptTrees) (text : List ℕ) : Type 0 where
-  pub made : IsTextBy dns_rules trees text
+  pub made : IsTextBy (dns_rules trees.header.profile) trees text
   pub last : TellsLastAnswers trees
 
 -- the bytes are a script with resolutions, and the text answers it
@@ -32,7 +32,7 @@ pub record IsDns (bytes text : List ℕ) : Type 0 where
 
 -- what is made of trees, or why nothing is
 abbrev pub IsDnsAnswer : ScriptTrees → Result Made ScriptFault → Type 0
-IsDnsAnswer trees (Ok made) = HasText dns_rules trees × (made.status ≡ Done) × IsDnsText trees made.text.items
-IsDnsAnswer trees (Err (Bad line number)) = IsUnmade dns_rules trees line number
+IsDnsAnswer trees (Ok made) = HasText (dns_rules trees.header.profile) trees × (made.status ≡ Done) × IsDnsText trees made.text.items
+IsDnsAnswer trees (Err (Bad line number)) = IsUnmade (dns_rules trees.header.profile) trees line number
 IsDnsAnswer trees (Err Read) = ⊥
 IsDnsAnswer trees (Err lacks_memory) = ⊤

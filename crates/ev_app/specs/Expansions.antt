@@ -3,6 +3,7 @@ use Rattle.std.specs.Prelude.{◌≡◌, ℕ, ◌⊎◌, List, false, None, Some
 use Rattle.serde_json.specs.View.{view}
 use Rattle.ev_io.specs.declared.faults.ScriptFault.{ScriptFault}
 use Rattle.ev_io.specs.declared.faults.ScriptFault.TheVariants.{Bad, OutOfMemory as lacks_memory}
+use Rattle.ev_types.specs.declared.events.Profile.{Profile}
 use Rattle.ev_types.specs.Scripts.{IsScript}
 use Rattle.ev_script.specs.declared.trees.ScriptTrees.{ScriptTrees}
 use Rattle.ev_script.specs.Faults.{LineForms, HasNoFault, plain_lines}
@@ -35,11 +36,11 @@ IsUnmade rules trees line number =
     ((first_use rules.prefix (lines_in trees) ≡ Some line) × (number ≡ 11))
     ⊎ ((first_use rules.prefix (lines_in trees) ≡ None) × GrowsTooLarge rules (view trees.head) (lines_in trees) line × (number ≡ 10))
 
--- the bytes are a script of lines of these forms, of which the rules make no text: a fault of kind 10 or 11
-pub record MakesNoText (rules : Rules) (forms : LineForms) (bytes : List ℕ) (line number : ℕ) : Type 0 where
+-- the bytes are a script of lines of these forms, of which the rules of its header's profile make no text: a fault of kind 10 or 11
+pub record MakesNoText (rules : Profile → Rules) (forms : LineForms) (bytes : List ℕ) (line number : ℕ) : Type 0 where
   pub trees : ScriptTrees
   pub reads : AreTreesOf forms bytes trees
-  pub unmade : IsUnmade rules trees line number
+  pub unmade : IsUnmade (rules trees.header.profile) trees line number
 
 -- the fault that says why there is no text
 abbrev pub fault_of : ExpandError → ScriptFault

@@ -21,7 +21,7 @@ AreSealed trees =
 
 -- the text is that of a script of these trees, and what is accepted in its runs is sealed
 pub record IsTlsText (trees : ScriptTrees) (text : List ℕ) : Type 0 where
-  pub made : IsTextBy tls_rules trees text
+  pub made : IsTextBy (tls_rules trees.header.profile) trees text
   pub sealed : AreSealed trees
 
 -- the bytes are a script, and the text answers it
@@ -32,7 +32,7 @@ pub record IsTls (bytes text : List ℕ) : Type 0 where
 
 -- what is made of trees, or why nothing is
 abbrev pub IsTlsAnswer : ScriptTrees → Result Made ScriptFault → Type 0
-IsTlsAnswer trees (Ok made) = HasText tls_rules trees × (made.status ≡ Done) × IsTlsText trees made.text.items
-IsTlsAnswer trees (Err (Bad line number)) = IsUnmade tls_rules trees line number
+IsTlsAnswer trees (Ok made) = HasText (tls_rules trees.header.profile) trees × (made.status ≡ Done) × IsTlsText trees made.text.items
+IsTlsAnswer trees (Err (Bad line number)) = IsUnmade (tls_rules trees.header.profile) trees line number
 IsTlsAnswer trees (Err Read) = ⊥
 IsTlsAnswer trees (Err lacks_memory) = ⊤
