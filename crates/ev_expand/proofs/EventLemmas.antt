@@ -23,7 +23,7 @@ use Rattle.ev_script.specs.Asks.{conn_in, ask_in}
 use Rattle.ev_script.specs.WorkerLines.{worker_in, worker_line, accept_line, close_line, settle_line}
 use Rattle.ev_script.specs.Lines.{line_of, line_by, main_side_line}
 use Rattle.ev_expand.specs.Fronts.{event_of, message_of}
-use Rattle.ev_expand.specs.Guarding.{kind_of, items_as, items_by, listed_as, clusters_by}
+use Rattle.ev_expand.specs.Guarding.{items_as, items_by, listed_as, clusters_by}
 
 -- a response is what its line's message is read as
 abbrev pub AsSaid : Profile → Data → Event → Type 0

@@ -81,7 +81,9 @@ fn hash_discovery<H: Hasher>(discovery: &Discovery, state: &mut H)
     match discovery {
         Discovery::Static(assignment) => hash_rows(assignment.rows(), state),
         Discovery::Eds {
-            service, limited, ..
+            service,
+            limited,
+            ..
         } => {
             service.hash(state);
             limited.hash(state);

@@ -11,7 +11,6 @@ use Rattle.serde_json.specs.declared.value.Value.{Value}
 use Rattle.serde_json.proofs.Nesting.{depth-read}
 use Rattle.ev_io.specs.Lines.{lines_of, onto_first, feeds_in}
 use Rattle.ev_types.specs.declared.events.Line.{Line}
-use Rattle.ev_types.specs.declared.events.Profile.{Profile}
 use Rattle.ev_script.specs.declared.forms.Settings.{Settings}
 use Rattle.ev_script.specs.declared.trees.ScriptTrees.{ScriptTrees}
 use Rattle.ev_script.specs.declared.fault_kinds.FaultKind.TheVariants.{NotLine, NoSuchWorker}

@@ -8,8 +8,6 @@ use Rattle.std.proofs.lemmas.List.{map-append}
 use Rattle.std.proofs.lemmas.List.Folds.{list_any-append}
 use Rattle.indexmap.specs.IndexSet.{contains}
 use Rattle.ev_types.specs.Same.{numbers_decide}
-use Rattle.ev_types.specs.declared.clusters.Discovery.{Discovery}
-use Rattle.ev_types.specs.declared.clusters.Discovery.TheVariants.{Eds}
 use Rattle.ev_expand.specs.Guarding.{Guarded}
 use Rattle.ev_secrets.specs.declared.awaited.Awaited.TheVariants.{Endpoints}
 use Rattle.ev_secrets.specs.declared.complete.Complete.{Complete}

@@ -96,11 +96,7 @@ impl Told {
     }
 
     // The endpoints of this name, where they haven't come.
-    fn next_endpoints(
-        &self,
-        alloc: Global,
-        service: &Name,
-    ) -> Result<Option<Awaited>, AllocError>
+    fn next_endpoints(&self, alloc: Global, service: &Name) -> Result<Option<Awaited>, AllocError>
         ensures { IfOk result (λ next. next ≡ first_untold self.now (Endpoints service.now ∷ [])) }
     {
         if self.endpoints.contains(service) {

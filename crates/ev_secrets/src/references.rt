@@ -202,11 +202,7 @@ fn has_own_hosts(alloc: Global, body: Option<&Value>) -> Result<bool, AllocError
 }
 
 // The key of a good cluster that names secrets.
-fn body_key(
-    alloc: Global,
-    body: &Body,
-    names: Vec<Name>,
-) -> Result<Option<Key>, AllocError>
+fn body_key(alloc: Global, body: &Body, names: Vec<Name>) -> Result<Option<Key>, AllocError>
     ensures { IfOk result (λ key. key ≡ body_key body.now names.items) }
 {
     match body {

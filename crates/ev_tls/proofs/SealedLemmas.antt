@@ -126,9 +126,11 @@ good_is_guarded profile entry content secret good named guarded =
     let cluster = item_cluster profile entry content good in
     let key : Key = key_with cluster.0 names in
     let some : (length names == 0) ≡ false = ne_eqb (length names) 0 (λ e. omega (arith, named.1, e)) in
-    let hosts : has_own_hosts (body_in entry) ≡ true = own_hosts profile entry content good guarded in
-    (key, (λ i. cond (hosts i) (body_key (good i) names) None) ∙ ap (λ (c : Content). content_key c names) cluster.1
-    ∙ ap (λ (b : Bool). cond b None (Some key)) some)
+    let hosts : has_own_hosts (body_in entry) ≡ true = own_hosts profile entry content good guarded in (
+      key,
+      (λ i. cond (hosts i) (body_key (good i) names) None) ∙ ap (λ (c : Content). content_key c names) cluster.1
+          ∙ ap (λ (b : Bool). cond b None (Some key)) some,
+    )
 
 -- ---- what a line with such a resource becomes
 
@@ -172,7 +174,7 @@ module _ (profile : Profile) (front : Front) (at : ℕ) (line : Line) (makes : R
       let event : event_of profile front.line ≡ Some (Response makes) =
       line_event profile at front.line line (ap (line_of profile at) (sym stays) ∙ is) ∙ ap (λ (e : Event). Some e) says in
       let typed : makes.kind ≡ Some Cds = sym (ap kind_of event) ∙ of_clusters (kind_of (event_of profile front.line)) (message_of front.line) item entry stands in
-      let items : makes.items ≡ map (item_of profile Cds) (clusters_in profile front.line) = 
+      let items : makes.items ≡ map (item_of profile Cds) (clusters_in profile front.line) =
       sym (ap (λ (kind : Option Kind). items_as kind makes.items) typed)
       ∙ cluster_items_read profile front.line (Some (Response makes)) (sym event)
       ∙ ap (λ (e : Option Event). map (item_of profile Cds) (clusters_by e front.line)) (sym event) in
