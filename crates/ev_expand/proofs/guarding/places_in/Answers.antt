@@ -1,4 +1,5 @@
-use Rattle.std.proofs.Common.{◌≡◌, List, ◌++◌, map, filter_map, take, Option, option_map, sym, ap, ◌∙◌}
+use Rattle.std.proofs.Common.{rules, arith, ◌≡◌, ◌<◌, List, ◌++◌, length, map, filter_map, take, Option, option_map, sym, ap, ◌∙◌}
+use Rattle.std.proofs.lemmas.List.{length-map}
 use Rattle.serde_json.specs.Data.{Data}
 use Rattle.serde_json.specs.View.{view}
 use Rattle.ev_types.specs.declared.contents.Kind.TheVariants.{Cds}
@@ -10,6 +11,36 @@ use Rattle.ev_expand.specs.Numbers.{guarded_so_far, guarded_with}
 use Rattle.ev_expand.proofs.EventLemmas.{cluster_items_read}
 use Rattle.ev_expand.proofs.NumberLemmas.{entry_item, views_more, placed_next, numbers-push}
 use Rattle.ev_expand.proofs.guarding.places_in.Goals as goal
+
+pub offset_bounds-items-index : goal.offset_bounds-items-index
+offset_bounds-items-index g c =
+    let profile : Profile = (g.E.Expansion.rules c.args.profile).guard.profile in
+    let items : c.items_by-items.result.now ≡ map (item_of profile Cds) (map view c.in_ok-entries.entries.now) =
+    c.items_by-items.ensures ∙ cluster_items_read profile (view c.args.line.now) c.args.event.now c.requires
+    ∙ ap (map (item_of profile Cds)) (sym c.in_ok-entries.ensures) in
+    let below : c.loop-index.index < length c.items_by-items.result.now =
+    omega (
+      arith,
+      c.loop-index-test.true,
+      ap length items,
+      length-map (map view c.in_ok-entries.entries.now) (item_of profile Cds),
+      length-map c.in_ok-entries.entries.now view,
+    ) in
+    search rules
+
+pub bounds-items-index : goal.bounds-items-index
+bounds-items-index g c =
+    let profile : Profile = (g.E.Expansion.rules c.args.profile).guard.profile in
+    let items : c.items_by-items.result.now ≡ map (item_of profile Cds) (map view c.in_ok-entries.entries.now) =
+    c.items_by-items.ensures ∙ cluster_items_read profile (view c.args.line.now) c.args.event.now c.requires
+    ∙ ap (map (item_of profile Cds)) (sym c.in_ok-entries.ensures) in
+    omega (
+      arith,
+      c.loop-index-test.true,
+      ap length items,
+      length-map (map view c.in_ok-entries.entries.now) (item_of profile Cds),
+      length-map c.in_ok-entries.entries.now view,
+    )
 
 pub key-requires : goal.key-requires
 key-requires g c =
