@@ -1,6 +1,6 @@
 -- Addresses of hosts and listeners.
 use Rattle.std.proofs.Common.{◌≡◌, ◌∙◌, ap}
-use Rattle.std.specs.Prelude.{ℕ, ◌||◌, ◌&&◌, List, [], ◌∷◌, not, if◌then◌else◌, codes}
+use Rattle.std.specs.Prelude.{ℕ, ◌||◌, ◌&&◌, List, [], ◌∷◌, not, codes}
 use Rattle.serde_json.specs.Data.{Data}
 use Rattle.ev_types.specs.declared.events.Profile.{Profile}
 use Rattle.ev_types.specs.declared.events.Profile.TheVariants.{Own, Envoy}
@@ -9,7 +9,7 @@ use Rattle.ev_tree.specs.Rules.{is_name}
 use Rattle.ev_tree.specs.declared.broken.BrokenRules.{BrokenRules}
 use Rattle.ev_tree.specs.Broken.{none_broken}
 use Rattle.ev_tree.specs.Counts.{exactly_one}
-use Rattle.ev_tree.specs.Addresses.{socket_of, address_text_of, is_port, port_or_none, port_of, address_broken, outer_of, pipe_of, internal_of, pipe_text, internal_text, has_pipe, has_internal, addresses_given, any_text_of, any_port_of, any_address_broken, text_in_profile, port_in_profile, address_broken_in}
+use Rattle.ev_tree.specs.Addresses.{socket_of, address_text_of, is_port, port_or_none, port_of, address_broken, outer_of, pipe_in, internal_in, has_pipe, path_in, is_wrong_pipe, has_internal, internal_name_in, internal_id_in, is_wrong_internal, addresses_given, text_among, any_text_of, port_unless, any_port_of, any_address_broken, text_in_profile, port_in_profile, address_broken_in}
 use Rattle.ev_tree.specs.Floats.{whole}
 use Rattle.ev_whole_laws.proofs.Forms.{inside-object, number_of-whole, object-is_given, object-is_wrong, text_of-whole}
 
@@ -44,62 +44,78 @@ outer_of-whole : (tree : Data) → outer_of (whole tree) ≡ whole (outer_of tre
 unfolding outer_of
 outer_of-whole tree = inside-object (codes "address") tree
 
-pipe_of-whole : (tree : Data) → pipe_of (whole tree) ≡ whole (pipe_of tree)
-unfolding pipe_of
-pipe_of-whole tree = ap (λ (t : Data). inside (object_of (codes "pipe") t)) (outer_of-whole tree) ∙ inside-object (codes "pipe") (outer_of tree)
+-- what is found in the object with the address
+at_outer : {A : Type 0} (form : Data → A) → ((tree : Data) → form (whole tree) ≡ form tree) → (tree : Data) → form (outer_of (whole tree)) ≡ form (outer_of tree)
+at_outer form same tree = ap form (outer_of-whole tree) ∙ same (outer_of tree)
 
-internal_of-whole : (tree : Data) → internal_of (whole tree) ≡ whole (internal_of tree)
-unfolding internal_of
-internal_of-whole tree = ap (λ (t : Data). inside (object_of (codes "envoy_internal_address") t)) (outer_of-whole tree) ∙ inside-object (codes "envoy_internal_address") (outer_of tree)
+pipe_in-whole : (outer : Data) → pipe_in (whole outer) ≡ whole (pipe_in outer)
+unfolding pipe_in
+pipe_in-whole outer = inside-object (codes "pipe") outer
 
--- a part of the object with the address: whether it is given, and whether it has the wrong form
-outer_given : (name : List ℕ) (tree : Data) → is_given (object_of name (outer_of (whole tree))) ≡ is_given (object_of name (outer_of tree))
-outer_given name tree = ap (λ (t : Data). is_given (object_of name t)) (outer_of-whole tree) ∙ object-is_given name (outer_of tree)
+internal_in-whole : (outer : Data) → internal_in (whole outer) ≡ whole (internal_in outer)
+unfolding internal_in
+internal_in-whole outer = inside-object (codes "envoy_internal_address") outer
 
-outer_wrong : (name : List ℕ) (tree : Data) → is_wrong (object_of name (outer_of (whole tree))) ≡ is_wrong (object_of name (outer_of tree))
-outer_wrong name tree = ap (λ (t : Data). is_wrong (object_of name t)) (outer_of-whole tree) ∙ object-is_wrong name (outer_of tree)
+path_found : (outer : Data) → text_of (codes "path") (pipe_in (whole outer)) ≡ text_of (codes "path") (pipe_in outer)
+path_found outer = ap (text_of (codes "path")) (pipe_in-whole outer) ∙ text_of-whole (codes "path") (pipe_in outer)
 
-path_found : (tree : Data) → text_of (codes "path") (pipe_of (whole tree)) ≡ text_of (codes "path") (pipe_of tree)
-path_found tree = ap (text_of (codes "path")) (pipe_of-whole tree) ∙ text_of-whole (codes "path") (pipe_of tree)
+internal_found : (name : List ℕ) (outer : Data) → text_of name (internal_in (whole outer)) ≡ text_of name (internal_in outer)
+internal_found name outer = ap (text_of name) (internal_in-whole outer) ∙ text_of-whole name (internal_in outer)
 
-internal_found : (name : List ℕ) (tree : Data) → text_of name (internal_of (whole tree)) ≡ text_of name (internal_of tree)
-internal_found name tree = ap (text_of name) (internal_of-whole tree) ∙ text_of-whole name (internal_of tree)
+has_pipe-whole : (outer : Data) → has_pipe (whole outer) ≡ has_pipe outer
+has_pipe-whole outer = object-is_given (codes "pipe") outer
 
-has_pipe-whole : (tree : Data) → has_pipe (whole tree) ≡ has_pipe tree
-has_pipe-whole tree = outer_given (codes "pipe") tree
+path_in-whole : (outer : Data) → path_in (whole outer) ≡ path_in outer
+unfolding path_in
+path_in-whole outer = λ i. given_or [] (path_found outer i)
 
-has_internal-whole : (tree : Data) → has_internal (whole tree) ≡ has_internal tree
-has_internal-whole tree = outer_given (codes "envoy_internal_address") tree
+is_wrong_pipe-whole : (outer : Data) → is_wrong_pipe (whole outer) ≡ is_wrong_pipe outer
+unfolding is_wrong_pipe
+is_wrong_pipe-whole outer = λ i. object-is_wrong (codes "pipe") outer i || is_wrong (path_found outer i)
 
-addresses_given-whole : (tree : Data) → addresses_given (whole tree) ≡ addresses_given tree
-addresses_given-whole tree = λ i. outer_given (codes "socket_address") tree i ∷ has_pipe-whole tree i ∷ has_internal-whole tree i ∷ []
+has_internal-whole : (outer : Data) → has_internal (whole outer) ≡ has_internal outer
+has_internal-whole outer = object-is_given (codes "envoy_internal_address") outer
+
+internal_name_in-whole : (outer : Data) → internal_name_in (whole outer) ≡ internal_name_in outer
+unfolding internal_name_in
+internal_name_in-whole outer = λ i. given_or [] (internal_found (codes "server_listener_name") outer i)
+
+internal_id_in-whole : (outer : Data) → internal_id_in (whole outer) ≡ internal_id_in outer
+unfolding internal_id_in
+internal_id_in-whole outer = λ i. given_or [] (internal_found (codes "endpoint_id") outer i)
+
+is_wrong_internal-whole : (outer : Data) → is_wrong_internal (whole outer) ≡ is_wrong_internal outer
+unfolding is_wrong_internal
+is_wrong_internal-whole outer = λ i.
+    object-is_wrong (codes "envoy_internal_address") outer i
+    || is_wrong (internal_found (codes "server_listener_name") outer i)
+    || is_wrong (internal_found (codes "endpoint_id") outer i)
+
+addresses_given-whole : (outer : Data) → addresses_given (whole outer) ≡ addresses_given outer
+addresses_given-whole outer = λ i. object-is_given (codes "socket_address") outer i ∷ has_pipe-whole outer i ∷ has_internal-whole outer i ∷ []
 
 pub any_text_of-whole : (tree : Data) → any_text_of (whole tree) ≡ any_text_of tree
 unfolding any_text_of
 any_text_of-whole tree = λ i.
-    if has_pipe-whole tree i then pipe_text (given_or [] (path_found tree i))
-    else if has_internal-whole tree i
-    then internal_text (given_or [] (internal_found (codes "server_listener_name") tree i)) (given_or [] (internal_found (codes "endpoint_id") tree i))
-    else address_text_of-whole tree i
+    text_among (at_outer has_pipe has_pipe-whole tree i) (at_outer has_internal has_internal-whole tree i) (at_outer path_in path_in-whole tree i)
+    (at_outer internal_name_in internal_name_in-whole tree i) (at_outer internal_id_in internal_id_in-whole tree i) (address_text_of-whole tree i)
 
 pub any_port_of-whole : (tree : Data) → any_port_of (whole tree) ≡ any_port_of tree
 unfolding any_port_of
-any_port_of-whole tree = λ i. if has_pipe-whole tree i || has_internal-whole tree i then 0 else port_of-whole tree i
+any_port_of-whole tree = λ i.
+    port_unless (at_outer has_pipe has_pipe-whole tree i || at_outer has_internal has_internal-whole tree i) (port_of-whole tree i)
 
 pub any_address_broken-whole : (tree : Data) → any_address_broken (whole tree) ≡ any_address_broken tree
 unfolding any_address_broken
 any_address_broken-whole tree = λ i. record none_broken {
   v6 =
       ap (λ (b : BrokenRules). b.v6) (address_broken-whole tree) i
-      || outer_wrong (codes "pipe") tree i
-      || is_wrong (path_found tree i)
-      || outer_wrong (codes "envoy_internal_address") tree i
-      || is_wrong (internal_found (codes "server_listener_name") tree i)
-      || is_wrong (internal_found (codes "endpoint_id") tree i);
+      || at_outer is_wrong_pipe is_wrong_pipe-whole tree i
+      || at_outer is_wrong_internal is_wrong_internal-whole tree i;
   v12 =
-      not (exactly_one (addresses_given-whole tree i))
+      not (exactly_one (at_outer addresses_given addresses_given-whole tree i))
       || not (is_name (any_text_of-whole tree i))
-      || (outer_given (codes "socket_address") tree i
+      || (at_outer (λ (t : Data). is_given (object_of (codes "socket_address") t)) (object-is_given (codes "socket_address")) tree i
       && not (is_port ((ap (number_of (codes "port_value")) (socket_of-whole tree) ∙ number_of-whole (codes "port_value") (socket_of tree)) i)));
 }
 

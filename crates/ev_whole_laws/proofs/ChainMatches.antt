@@ -1,7 +1,6 @@
 -- Matches of filter chains, as Envoy reads them.
 use Rattle.std.proofs.Common.{◌≡◌, ◌∙◌, ap, refl}
-use Rattle.std.specs.Prelude.{ℕ, ◌||◌, ◌==◌, List, [], length, map, Bool, not, is_some, Option, codes}
-use Rattle.std.specs.List.{list_all}
+use Rattle.std.specs.Prelude.{ℕ, ◌||◌, ◌==◌, List, [], length, map, not, is_some, Option, codes}
 use Rattle.std.specs.Str.{str_to_ascii_lowercase}
 use Rattle.serde_json.specs.Data.{Data, unsigned, negative, float, null, boolean, number, string, array, object}
 use Rattle.ev_tree.specs.declared.outcome.Found.{Found}

@@ -1,23 +1,23 @@
 -- Filter chains of a listener, as Envoy reads them.
 use Rattle.std.proofs.Common.{◌≡◌, ◌∙◌, ap, refl}
-use Rattle.std.specs.Prelude.{ℕ, ◌||◌, ◌&&◌, ◌==◌, List, [], ◌∷◌, length, map, Bool, not, if◌then◌else◌, Option, None, Some, codes}
+use Rattle.std.specs.Prelude.{◌||◌, ◌&&◌, ◌==◌, [], ◌∷◌, length, map, not, if◌then◌else◌, None, Some, codes}
 use Rattle.serde_json.specs.Data.{Data}
 use Rattle.ev_types.specs.FilterChains.{has_collision}
 use Rattle.ev_types.specs.declared.events.Profile.TheVariants.{Envoy}
 use Rattle.ev_types.specs.declared.listeners.FilterChain.{FilterChain}
-use Rattle.ev_types.specs.declared.listeners.Serve.{Serve}
-use Rattle.ev_tree.specs.declared.broken.BrokenRules.{BrokenRules}
-use Rattle.ev_tree.specs.Forms.{is_wrong, inside, text_of, object_of}
-use Rattle.ev_tree.specs.Broken.{none_broken, either_broken, any_broken, broken_where}
+use Rattle.ev_tree.specs.declared.outcome.Found.{Found}
+use Rattle.ev_tree.specs.declared.outcome.Found.TheVariants.{Absent, Wrong, Given}
+use Rattle.ev_tree.specs.Forms.{found_map, is_wrong, inside, text_of, object_of}
+use Rattle.ev_tree.specs.Broken.{none_broken, either_broken, any_broken}
 use Rattle.ev_tree.specs.Counts.{more_than_one}
 use Rattle.ev_tree.specs.Floats.{whole}
 use Rattle.ev_listener_json.specs.Parts.{first_of}
 use Rattle.ev_listener_json.specs.Filters.{kind_in, config_serve, config_broken, filter_serve, filter_serves, filter_broken, filters_of}
 use Rattle.ev_listener_json.specs.ChainMatches.{filter_chain_match_of, filter_chain_match_broken}
-use Rattle.ev_listener_json.specs.Chains.{no_criteria, serve_or_other, served_by, filters_broken, chain_match_of, envoy_chain_broken, envoy_chain_of, has_api, api_outer_of, api_config_of, api_kind_of, is_manager, api_broken, api_serve_of, chains_of, default_chain_of, has_default, given_chains_broken, envoy_chains_broken, envoy_chains_of, envoy_default_of}
+use Rattle.ev_listener_json.specs.Chains.{no_criteria, serve_or_other, served_by, filters_broken, chain_match_of, envoy_chain_broken, envoy_chain_of, has_api, api_outer_of, api_config_of, api_kind_of, default_serve, default_broken, is_manager, api_broken, api_serve_of, chains_of, has_default, given_chains_broken, given_default_of, envoy_chains_broken, envoy_chains_of, envoy_default_of}
 use Rattle.ev_whole_laws.proofs.ChainMatches.{filter_chain_match_broken-whole, filter_chain_match_of-whole}
 use Rattle.ev_whole_laws.proofs.Filters.{config_broken-whole, config_serve-whole, filter_broken-whole, filter_serve-whole, filter_serves-whole, filters_of-whole}
-use Rattle.ev_whole_laws.proofs.Forms.{field-is_absent, inside-object, listed-objects, object-is_given, object-is_wrong, objects-is_wrong, text_of-whole}
+use Rattle.ev_whole_laws.proofs.Forms.{field-is_absent, inside-object, listed-objects, object_of-whole, object-is_given, object-is_wrong, objects-is_wrong, text_of-whole}
 use Rattle.ev_whole_laws.proofs.Parts.{any_broken-whole, length-whole, map-whole}
 
 -- ---- a chain
@@ -103,9 +103,23 @@ pub chains_of-whole : (tree : Data) → chains_of (whole tree) ≡ map whole (ch
 unfolding chains_of
 chains_of-whole tree = listed-objects (codes "filter_chains") tree
 
-default_chain_of-whole : (tree : Data) → default_chain_of (whole tree) ≡ whole (default_chain_of tree)
-unfolding default_chain_of
-default_chain_of-whole tree = inside-object (codes "default_filter_chain") tree
+serve_by : (found : Found Data) → default_serve (found_map whole found) ≡ default_serve found
+serve_by Absent = refl
+serve_by Wrong = refl
+serve_by (Given chain) = ap Some (served_by-whole chain)
+
+broken_by : (found : Found Data) → default_broken (found_map whole found) ≡ default_broken found
+broken_by Absent = refl
+broken_by Wrong = refl
+broken_by (Given chain) = filters_broken-whole chain
+
+default_broken-whole : (tree : Data)
+    → default_broken (object_of (codes "default_filter_chain") (whole tree)) ≡ default_broken (object_of (codes "default_filter_chain") tree)
+default_broken-whole tree = ap default_broken (object_of-whole (codes "default_filter_chain") tree) ∙ broken_by (object_of (codes "default_filter_chain") tree)
+
+given_default_of-whole : (tree : Data) → given_default_of (whole tree) ≡ given_default_of tree
+unfolding given_default_of
+given_default_of-whole tree = ap default_serve (object_of-whole (codes "default_filter_chain") tree) ∙ serve_by (object_of (codes "default_filter_chain") tree)
 
 has_default-whole : (tree : Data) → has_default (whole tree) ≡ has_default tree
 has_default-whole tree = object-is_given (codes "default_filter_chain") tree
@@ -117,13 +131,14 @@ given_chains_broken-whole : (tree : Data) → given_chains_broken (whole tree) �
 unfolding given_chains_broken
 given_chains_broken-whole tree = λ i.
     either_broken ((ap (any_broken envoy_chain_broken) (chains_of-whole tree) ∙ any_broken-whole envoy_chain_broken envoy_chain_broken-whole (chains_of tree)) i)
-    (either_broken (broken_where (has_default-whole tree i) ((ap filters_broken (default_chain_of-whole tree) ∙ filters_broken-whole (default_chain_of tree)) i)) (record none_broken {
+    (either_broken (default_broken-whole tree i) (record none_broken {
       v6 = objects-is_wrong (codes "filter_chains") tree i || object-is_wrong (codes "default_filter_chain") tree i;
       v16 = ((ap length (chains_of-whole tree) ∙ length-whole (chains_of tree)) i == 0) && not (has_default-whole tree i);
       v26 = has_collision (map (λ (c : FilterChain). c.criteria) (given_chains_of tree i));
     }))
 
 pub envoy_chains_broken-whole : (tree : Data) → envoy_chains_broken (whole tree) ≡ envoy_chains_broken tree
+unfolding envoy_chains_broken
 envoy_chains_broken-whole tree = λ i. if has_api-whole tree i then api_broken-whole tree i else given_chains_broken-whole tree i
 
 pub envoy_chains_of-whole : (tree : Data) → envoy_chains_of (whole tree) ≡ envoy_chains_of tree
@@ -134,7 +149,4 @@ envoy_chains_of-whole tree = λ i.
 
 pub envoy_default_of-whole : (tree : Data) → envoy_default_of (whole tree) ≡ envoy_default_of tree
 unfolding envoy_default_of
-envoy_default_of-whole tree = λ i.
-    if not (has_api-whole tree i) && has_default-whole tree i
-    then Some ((ap served_by (default_chain_of-whole tree) ∙ served_by-whole (default_chain_of tree)) i)
-    else None
+envoy_default_of-whole tree = λ i. if has_api-whole tree i then None else given_default_of-whole tree i

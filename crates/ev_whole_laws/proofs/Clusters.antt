@@ -15,7 +15,7 @@ use Rattle.ev_tree.specs.Sources.{source_broken_in, source_is_limited}
 use Rattle.ev_cluster_json.specs.declared.parts.TheConstants.{STATIC, EDS}
 use Rattle.ev_cluster_json.specs.Assignments.{rows_of, assignment_broken}
 use Rattle.ev_cluster_json.specs.Clusters.{name_of, type_of, is_static, is_eds, has_custom_type, is_in_cluster, is_by_eds, holds_hosts, asks_hosts, eds_of, eds_source_of, service_name_of, load_assignment_of, service_with, service_of, is_checked, own_broken, eds_broken, load_assignment_broken, cluster_broken, discovery_of, cluster_of, cluster_reading}
-use Rattle.ev_tree.specs.Floats.{whole, body_text_of}
+use Rattle.ev_tree.specs.Floats.{whole}
 use Rattle.ev_whole_laws.proofs.Texts.{body_text_of-whole}
 use Rattle.ev_whole_laws.proofs.Assignments.{assignment_broken-whole, rows_of-whole}
 use Rattle.ev_whole_laws.proofs.Forms.{duration_of-whole, enumeration_of-whole, inside-object, listed-objects, object-is_absent, object-is_given, object-is_wrong, objects-is_wrong, text_of-whole}

@@ -1,18 +1,18 @@
 -- What a route's match asks of a request, as Envoy reads it.
-use Rattle.std.proofs.Common.{◌≡◌, ◌∙◌, ap, refl}
-use Rattle.std.specs.Prelude.{ℕ, ◌||◌, ◌==◌, List, [], ◌∷◌, length, map, Bool, false, not, codes}
+use Rattle.std.proofs.Common.{◌≡◌, ◌∙◌, ap}
+use Rattle.std.specs.Prelude.{ℕ, ◌||◌, ◌==◌, List, [], ◌∷◌, length, map, false, not, codes}
 use Rattle.std.specs.Str.{str_to_ascii_lowercase}
 use Rattle.serde_json.specs.Data.{Data}
 use Rattle.ev_types.specs.declared.events.Profile.{Profile}
 use Rattle.ev_types.specs.declared.events.Profile.TheVariants.{Own, Envoy}
 use Rattle.ev_types.specs.declared.matchers.RouteCondition.TheVariants.{Header}
 use Rattle.ev_types.specs.declared.matchers.PathSpecifier.TheVariants.{Cased}
-use Rattle.ev_tree.specs.Forms.{is_wrong, is_given, given_or, inside, listed, text_of, boolean_of, object_of, objects_of}
+use Rattle.ev_tree.specs.Forms.{is_wrong, is_given, given_or, listed, objects_of}
 use Rattle.ev_tree.specs.Broken.{none_broken, either_broken, any_broken, broken_where}
 use Rattle.ev_tree.specs.Counts.{exactly_one, more_than_one}
 use Rattle.ev_tree.specs.Floats.{whole}
 use Rattle.ev_route_json.specs.Targets.{is_empty_text}
-use Rattle.ev_route_json.specs.Matches.{path_of, match_broken, is_false, separated_is_bad}
+use Rattle.ev_route_json.specs.Matches.{is_false, separated_is_bad}
 use Rattle.ev_route_json.specs.Conditions.{pattern_with, string_test, string_matcher_of, string_matcher_broken, string_match_of, header_test_with, header_test_of, header_test_broken, header_name_of, turned_over, header_matcher_of, header_matcher_broken, header_condition_of, headers_of, has_elements, is_open, open_wrong, conditions_with, conditions_of, conditions_broken, specifier_with, path_specifier_of, path_specifier_broken, route_match_of, route_match_broken, own_match_of, match_in, match_broken_in}
 use Rattle.ev_whole_laws.proofs.Forms.{boolean_of-whole, inside-object, listed-objects, object-is_given, object-is_wrong, objects-is_wrong, text_of-whole}
 use Rattle.ev_whole_laws.proofs.Matches.{match_broken-whole, path_of-whole}

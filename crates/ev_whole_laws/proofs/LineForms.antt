@@ -3,7 +3,6 @@ use Rattle.std.proofs.Common.{◌≡◌, ℕ, List, [], ◌∷◌, Bool, false, 
 use Rattle.std.specs.Str.{bytes_eq}
 use Rattle.serde_json.specs.Data.{Data}
 use Rattle.serde_json.specs.Find.{as_str, as_bool}
-use Rattle.ev_types.specs.Ips.{ip_of}
 use Rattle.ev_types.specs.Items.{ResponseParts}
 use Rattle.ev_types.specs.declared.contents.Kind.{Kind}
 use Rattle.ev_types.specs.declared.contents.Kind.TheVariants.{Cds, Eds, Lds, Rds}
@@ -26,9 +25,7 @@ use Rattle.ev_script.specs.StreamLines.{connect_line, disconnect_line, response_
 use Rattle.ev_script.specs.HealthLines.{health_in, health_line}
 use Rattle.ev_script.specs.TimerLines.{timeout_of, timeout_line, drain_line, expired_in, expired_line}
 use Rattle.ev_script.specs.MainLines.{publish_line, reap_line}
-use Rattle.ev_script.specs.declared.asks.Handshake.{Handshake}
-use Rattle.ev_script.specs.declared.asks.HttpRequest.{HttpRequest}
-use Rattle.ev_script.specs.Headers.{Headers, headers_of}
+use Rattle.ev_script.specs.Headers.{headers_of}
 use Rattle.ev_script.specs.Asks.{conn_in, pick_in, server_name_in, tls_in, alpn_in, handshake_in, named_host_in, path_in, headers_in, request_in, ask_in}
 use Rattle.ev_script.specs.WorkerLines.{worker_in, worker_line, accept_members, accept_in, accept_line, close_line, settle_line}
 use Rattle.ev_script.specs.Lines.{main_side_line, line_by, line_of}
@@ -132,6 +129,20 @@ expired_line-whole at tree = with_only-whole (codes "type" ∷ codes "name" ∷ 
 
 -- ---- the lines of the workers
 
+-- what is made of three parts and of five, each of which is the same
+of_three : {A B C D : Type 0} (made : A → B → C → D) {a a2 : Option A} {b b2 : Option B} {c c2 : Option C} → a ≡ a2 → b ≡ b2 → c ≡ c2
+    → option_and_then (λ (x : A). option_and_then (λ (y : B). option_map (λ (z : C). made x y z) c) b) a
+    ≡ option_and_then (λ (x : A). option_and_then (λ (y : B). option_map (λ (z : C). made x y z) c2) b2) a2
+of_three made first second third =
+    λ i. option_and_then (λ x. option_and_then (λ y. option_map (λ z. made x y z) (third i)) (second i)) (first i)
+
+of_five : {A B C D E F : Type 0} (made : A → B → C → D → E → F) {a a2 : Option A} {b b2 : Option B} {c c2 : Option C} {d d2 : Option D} {e e2 : Option E}
+    → a ≡ a2 → b ≡ b2 → c ≡ c2 → d ≡ d2 → e ≡ e2
+    → option_and_then (λ (x : A). option_and_then (λ (y : B). option_and_then (λ (z : C). option_and_then (λ (v : D). option_map (λ (w : E). made x y z v w) e) d) c) b) a
+    ≡ option_and_then (λ (x : A). option_and_then (λ (y : B). option_and_then (λ (z : C). option_and_then (λ (v : D). option_map (λ (w : E). made x y z v w) e2) d2) c2) b2) a2
+of_five made first second third fourth fifth =
+    λ i. option_and_then (λ x. option_and_then (λ y. option_and_then (λ z. option_and_then (λ v. option_map (λ w. made x y z v w) (fifth i)) (fourth i)) (third i)) (second i)) (first i)
+
 pub worker_in-whole : (tree : Data) → worker_in (whole tree) ≡ worker_in tree
 worker_in-whole tree = member_of-whole (whole_within 0 MAX_WORKER) (whole_within-whole 0 MAX_WORKER) (codes "worker") tree
 
@@ -157,45 +168,16 @@ alpn_in-whole : (tree : Data) → alpn_in (whole tree) ≡ alpn_in tree
 alpn_in-whole tree = member_or-whole [] texts_in texts_in-whole (codes "alpn") tree
 
 handshake_in-whole : (tree : Data) → handshake_in (whole tree) ≡ handshake_in tree
-handshake_in-whole tree = λ i. option_and_then
-    (λ (server_name : List ℕ). option_and_then
-    (λ (tls : Bool). option_map (λ (alpn : List (List ℕ)). record { server_name = server_name; tls = tls; alpn = alpn }) (alpn_in-whole tree i))
-    (tls_in-whole tree i))
-    (server_name_in-whole tree i)
+handshake_in-whole tree = of_three _ (server_name_in-whole tree) (tls_in-whole tree) (alpn_in-whole tree)
 
 headers_in-whole : (tree : Data) → headers_in (whole tree) ≡ headers_in tree
 headers_in-whole tree = member_or-whole [] headers_of headers_of-whole (codes "headers") tree
 
 request_in-whole : (tree : Data) → request_in (whole tree) ≡ request_in tree
-request_in-whole tree = λ i. option_and_then
-    (λ (host : List ℕ). option_and_then
-    (λ (path : List ℕ). option_map (λ (headers : Headers). record { host = host; path = path; headers = headers }) (headers_in-whole tree i))
-    (path_in-whole tree i))
-    (named_host_in-whole tree i)
+request_in-whole tree = of_three _ (named_host_in-whole tree) (path_in-whole tree) (headers_in-whole tree)
 
 ask_in-whole : (tree : Data) → ask_in (whole tree) ≡ ask_in tree
-ask_in-whole tree = λ i. option_and_then
-    (λ (conn : ℕ). option_and_then
-    (λ (address : Host). option_and_then
-    (λ (handshake : Handshake). option_and_then
-    (λ (request : HttpRequest). option_map
-    (λ (pick : ℕ). record {
-      conn = conn;
-      address = address;
-      ip = ip_of address.address;
-      server_name = handshake.server_name;
-      tls = handshake.tls;
-      alpn = handshake.alpn;
-      host = request.host;
-      path = request.path;
-      headers = request.headers;
-      pick = pick;
-    })
-    (pick_in-whole tree i))
-    (request_in-whole tree i))
-    (handshake_in-whole tree i))
-    (host_in-whole tree i))
-    (conn_in-whole tree i)
+ask_in-whole tree = of_five _ (conn_in-whole tree) (host_in-whole tree) (handshake_in-whole tree) (request_in-whole tree) (pick_in-whole tree)
 
 pub worker_line-whole : (at : ℕ) (there here : Option Event) (tree : Data) → there ≡ here → worker_line at there (whole tree) ≡ worker_line at here tree
 worker_line-whole at there here tree same = λ i. option_and_then (λ (worker : ℕ). line_at at (Worker worker) (same i)) (worker_in-whole tree i)

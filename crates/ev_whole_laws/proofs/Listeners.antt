@@ -7,13 +7,13 @@ use Rattle.ev_types.specs.declared.events.Profile.TheVariants.{Own, Envoy}
 use Rattle.ev_types.specs.declared.listeners.Serve.TheVariants.{Inline}
 use Rattle.ev_tree.specs.declared.tables.EnumTable.TheVariants.{Protocol}
 use Rattle.ev_tree.specs.Forms.{is_wrong, given_or, enumeration_of}
-use Rattle.ev_tree.specs.Addresses.{socket_of}
+use Rattle.ev_tree.specs.Addresses.{socket_of, port_unless}
 use Rattle.ev_tree.specs.Rules.{judged, is_name}
 use Rattle.ev_tree.specs.Broken.{none_broken, either_broken, any_broken, least_of}
 use Rattle.ev_listener_json.specs.Parts.{first_of}
 use Rattle.ev_listener_json.specs.Filters.{chain_serve, chain_broken}
 use Rattle.ev_listener_json.specs.Chains.{chains_of, no_criteria}
-use Rattle.ev_listener_json.specs.Listeners.{name_of, is_udp, serve_of, own_listener_broken, own_listener_of, lacks_address, named_with, named_address, listening_text, listening_port, has_bad_address, is_every_address, envoy_parts_broken, envoy_listener_of, listener_broken, listener_of, listener_reading}
+use Rattle.ev_listener_json.specs.Listeners.{name_of, is_udp, serve_of, own_listener_broken, own_listener_of, lacks_address, named_with, named_address, listening_text, listening_port, is_unusable, has_bad_address, is_every_address, envoy_parts_broken, envoy_listener_of, listener_broken, listener_of, listener_reading}
 use Rattle.ev_tree.specs.Floats.{whole}
 use Rattle.ev_whole_laws.proofs.Addresses.{address_broken-whole, address_text_of-whole, any_address_broken-whole, any_port_of-whole, any_text_of-whole, port_of-whole, socket_of-whole}
 use Rattle.ev_whole_laws.proofs.Texts.{body_text_of-whole}
@@ -82,10 +82,10 @@ listening_text-whole tree = λ i. if lacks_address-whole tree i then named_addre
 
 listening_port-whole : (tree : Data) → listening_port (whole tree) ≡ listening_port tree
 unfolding listening_port
-listening_port-whole tree = λ i. if lacks_address-whole tree i then 0 else any_port_of-whole tree i
+listening_port-whole tree = λ i. port_unless (lacks_address-whole tree i) (any_port_of-whole tree i)
 
 has_bad_address-whole : (tree : Data) → has_bad_address (whole tree) ≡ has_bad_address tree
-has_bad_address-whole tree = λ i. if lacks_address-whole tree i then not (is_name (named_address-whole tree i)) else (any_address_broken-whole tree i).v12
+has_bad_address-whole tree = λ i. is_unusable (lacks_address-whole tree i) (listening_text-whole tree i) (any_address_broken-whole tree i).v12
 
 envoy_parts_broken-whole : (tree : Data) → envoy_parts_broken (whole tree) ≡ envoy_parts_broken tree
 unfolding envoy_parts_broken

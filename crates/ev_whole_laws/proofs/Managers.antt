@@ -1,6 +1,6 @@
 -- HTTP connection managers.
 use Rattle.std.proofs.Common.{◌≡◌, ◌∙◌, ap}
-use Rattle.std.specs.Prelude.{◌||◌, ◌&&◌, [], ◌∷◌, not, codes}
+use Rattle.std.specs.Prelude.{◌||◌, ◌&&◌, [], not, codes}
 use Rattle.serde_json.specs.Data.{Data}
 use Rattle.ev_types.specs.declared.events.Profile.{Profile}
 use Rattle.ev_types.specs.declared.events.Profile.TheVariants.{Own, Envoy}
@@ -9,9 +9,8 @@ use Rattle.ev_tree.specs.Forms.{is_wrong, given_or, inside, text_of, object_of}
 use Rattle.ev_tree.specs.Rules.{is_name}
 use Rattle.ev_tree.specs.Broken.{none_broken, either_broken, broken_where}
 use Rattle.ev_tree.specs.Sources.{source_broken_in, source_is_limited}
-use Rattle.ev_tree.specs.Counts.{exactly_one}
 use Rattle.ev_route_json.specs.Tables.{table_of, table_broken}
-use Rattle.ev_listener_json.specs.Managers.{rds_of, rds_source_of, route_name_of, inline_of, scoped_wrong, ways_are_bad, manager_broken, is_scoped, serve_with, manager_serve}
+use Rattle.ev_listener_json.specs.Managers.{rds_of, rds_source_of, route_name_of, inline_of, has_scopes, are_scopes_wrong, ways_are_bad, manager_broken, is_scoped, serve_with, manager_serve}
 use Rattle.ev_tree.specs.Floats.{whole}
 use Rattle.ev_whole_laws.proofs.Forms.{field-is_given, field-is_wrong, inside-object, object-is_given, object-is_wrong, text_of-whole}
 use Rattle.ev_whole_laws.proofs.Sources.{source_broken_in-whole, source_is_limited-whole}
@@ -33,18 +32,13 @@ pub inline_of-whole : (manager : Data) → inline_of (whole manager) ≡ whole (
 unfolding inline_of
 inline_of-whole manager = inside-object (codes "route_config") manager
 
-scoped_wrong-whole : (profile : Profile) (manager : Data) → scoped_wrong profile (whole manager) ≡ scoped_wrong profile manager
-scoped_wrong-whole Own manager = field-is_wrong (codes "scoped_routes") manager
-scoped_wrong-whole Envoy manager = object-is_wrong (codes "scoped_routes") manager
+has_scopes-whole : (profile : Profile) (manager : Data) → has_scopes profile (whole manager) ≡ has_scopes profile manager
+has_scopes-whole Own manager = field-is_given (codes "scoped_routes") manager
+has_scopes-whole Envoy manager = object-is_given (codes "scoped_routes") manager
 
-ways_are_bad-whole : (profile : Profile) (manager : Data) → ways_are_bad profile (whole manager) ≡ ways_are_bad profile manager
-ways_are_bad-whole Own manager = λ i.
-    not (exactly_one (object-is_given (codes "rds") manager i ∷ object-is_given (codes "route_config") manager i ∷ []))
-    || field-is_given (codes "scoped_routes") manager i
-ways_are_bad-whole Envoy manager = λ i.
-    not (exactly_one (
-    object-is_given (codes "rds") manager i ∷ object-is_given (codes "route_config") manager i
-    ∷ object-is_given (codes "scoped_routes") manager i ∷ []))
+are_scopes_wrong-whole : (profile : Profile) (manager : Data) → are_scopes_wrong profile (whole manager) ≡ are_scopes_wrong profile manager
+are_scopes_wrong-whole Own manager = field-is_wrong (codes "scoped_routes") manager
+are_scopes_wrong-whole Envoy manager = object-is_wrong (codes "scoped_routes") manager
 
 pub manager_broken-whole : (profile : Profile) (manager : Data) → manager_broken profile (whole manager) ≡ manager_broken profile manager
 unfolding manager_broken
@@ -55,12 +49,14 @@ manager_broken-whole profile manager = λ i. either_broken ((ap (table_broken pr
       || (ap (λ (t : Data). is_wrong (object_of (codes "config_source") t)) (rds_of-whole manager) ∙ object-is_wrong (codes "config_source") (rds_of manager)) i
       || is_wrong ((ap (text_of (codes "route_config_name")) (rds_of-whole manager) ∙ text_of-whole (codes "route_config_name") (rds_of manager)) i)
       || object-is_wrong (codes "route_config") manager i
-      || scoped_wrong-whole profile manager i;
-  v18 = ways_are_bad-whole profile manager i;
+      || are_scopes_wrong-whole profile manager i;
+  v18 =
+      ways_are_bad profile (object-is_given (codes "rds") manager i) (object-is_given (codes "route_config") manager i)
+      (has_scopes-whole profile manager i);
 }))
 
 is_scoped-whole : (profile : Profile) (manager : Data) → is_scoped profile (whole manager) ≡ is_scoped profile manager
-is_scoped-whole profile manager = λ i. is_envoy profile && object-is_given (codes "scoped_routes") manager i
+is_scoped-whole profile manager = λ i. is_envoy profile && has_scopes-whole profile manager i
 
 pub manager_serve-whole : (profile : Profile) (manager : Data) → manager_serve profile (whole manager) ≡ manager_serve profile manager
 unfolding manager_serve

@@ -6,7 +6,6 @@ use Rattle.serde_json.specs.Data.{Data}
 use Rattle.ev_types.specs.declared.events.Profile.{Profile}
 use Rattle.ev_types.specs.declared.contents.Kind.{Kind}
 use Rattle.ev_tree.specs.Forms.{is_wrong, given_or, listed, text_in, field_of, texts_of}
-use Rattle.ev_wire.specs.Requests.{type_url}
 use Rattle.ev_wire.specs.Bodies.{is_positive, body_of}
 use Rattle.ev_wire.specs.Responses.{entry_name, ttl_of, is_entry, item_of, kind_with, response_kind, nonce_of, entries_of, removed_of, has_head, has_lists, has_lists_of, is_response, parts_of, given_if, response_of}
 use Rattle.ev_tree.specs.Floats.{whole}
