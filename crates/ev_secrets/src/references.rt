@@ -3,7 +3,7 @@ ghost use Rattle.std.specs.List.{filter_map};
 ghost use Rattle.serde_json.specs.Data.{array, no_items};
 ghost use Rattle.serde_json.specs.View.{view};
 ghost use Rattle.ev_tree.specs.Forms.{tree_of, found_map, given_or, inside, object_of};
-ghost use Rattle.ev_cluster_json.specs.Clusters.{load_assignment_of};
+ghost use Rattle.ev_cluster_json.specs.Clusters.{has_custom_type, load_assignment_of, type_of};
 ghost use Rattle.ev_expand.specs.Guarding.{body_in};
 ghost use Rattle.ev_secrets.specs.References.{socket_config, is_tls, context_in, tls_context, own_name, secret_named, given_list, references_of, endpoints_in, cluster_key, content_key, body_key, has_own_hosts, key_by};
 
@@ -191,14 +191,31 @@ pub(crate) fn key_by(
 }
 
 // Whether the written type of a cluster is STATIC or EDS, and no custom type is given.
-#[tactic(auto, unfolding(ev_cluster_json::specs::Clusters::type_of))]
 fn has_own_hosts(alloc: Global, body: Option<&Value>) -> Result<bool, AllocError>
     ensures { IfOk result (λ has. has ≡ has_own_hosts (tree_of body.entry)) }
 {
+    if has_custom_type(alloc, body)? {
+        return Ok(false);
+    }
+    let number = type_of(alloc, body)?;
+    Ok(number == STATIC || number == EDS)
+}
+
+// Whether a custom type is given.
+fn has_custom_type(alloc: Global, body: Option<&Value>) -> Result<bool, AllocError>
+    ensures { IfOk result (λ has. has ≡ has_custom_type (tree_of body.entry)) }
+{
     let custom = member::object(alloc, body, "cluster_type")?;
+    Ok(custom.is_given())
+}
+
+// The number of the type.
+#[tactic(auto, unfolding(ev_cluster_json::specs::Clusters::type_of))]
+fn type_of(alloc: Global, body: Option<&Value>) -> Result<u32, AllocError>
+    ensures { IfOk result (λ number. number ≡ type_of (tree_of body.entry)) }
+{
     let kind = member::enumeration(alloc, body, "type", EnumTable::Discovery)?;
-    let number = kind.given_or(STATIC);
-    Ok(!custom.is_given() && (number == STATIC || number == EDS))
+    Ok(kind.given_or(STATIC))
 }
 
 // The key of a good cluster that names secrets.
