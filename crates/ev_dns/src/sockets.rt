@@ -1,6 +1,10 @@
 ghost use Rattle.std.specs.Prelude.{◌≡◌, map, IfOk};
 ghost use Rattle.std.specs.List.{list_all};
 ghost use Rattle.serde_json.specs.View.{view};
+ghost use Rattle.ev_cluster_json.specs.Assignments.{endpoint_of, groups_of};
+ghost use Rattle.ev_cluster_json.specs.Clusters.{load_assignment_of};
+ghost use Rattle.ev_tree.specs.Addresses.{outer_of};
+ghost use Rattle.ev_tree.specs.Forms.{inside, object_of, tree_of};
 ghost use Rattle.ev_dns.specs.Templates.{has_socket, group_has_sockets, has_sockets};
 
 use ev_tree::member;
@@ -8,13 +12,42 @@ use serde_json::Value;
 use std::alloc::{AllocError, Global};
 
 // Whether each host that stands in a cluster has a socket address.
-#[tactic(auto, unfolding(ev_cluster_json::specs::Assignments::groups_of, ev_cluster_json::specs::Clusters::load_assignment_of))]
 pub(crate) fn has_sockets(alloc: Global, body: &Value) -> Result<bool, AllocError>
     ensures { IfOk result (λ has. has ≡ has_sockets (view body.now)) }
 {
-    let assignment = member::object(alloc, Some(body), "load_assignment")?;
-    let groups = member::objects(alloc, member::inner(assignment), "endpoints")?;
-    all_have_sockets(alloc, member::elements(groups))
+    let assignment = load_assignment(alloc, Some(body))?;
+    let groups = groups_in(alloc, assignment)?;
+    all_have_sockets(alloc, groups)
+}
+
+// The assignment given in a cluster.
+#[tactic(auto, unfolding(ev_cluster_json::specs::Clusters::load_assignment_of))]
+fn load_assignment<'a>(
+    alloc: Global,
+    body: Option<&'a Value>,
+) -> Result<Option<&'a Value>, AllocError>
+    ensures { IfOk result (λ assignment. tree_of assignment ≡ load_assignment_of (tree_of body.entry)) }
+{
+    inner_object(alloc, body, "load_assignment")
+}
+
+// The groups of an assignment.
+#[tactic(auto, unfolding(ev_cluster_json::specs::Assignments::groups_of))]
+fn groups_in(alloc: Global, assignment: Option<&Value>) -> Result<&[Value], AllocError>
+    ensures { IfOk result (λ groups. map view groups.now ≡ groups_of (tree_of assignment.entry)) }
+{
+    Ok(member::elements(member::objects(alloc, assignment, "endpoints")?))
+}
+
+// The object in a field, to look into.
+fn inner_object<'a>(
+    alloc: Global,
+    holder: Option<&'a Value>,
+    name: &str,
+) -> Result<Option<&'a Value>, AllocError>
+    ensures { IfOk result (λ inner. tree_of inner ≡ inside (object_of name.now (tree_of holder.entry))) }
+{
+    Ok(member::inner(member::object(alloc, holder, name)?))
 }
 
 // Whether each host of these groups has one.
@@ -51,12 +84,30 @@ fn hosts_have_sockets(alloc: Global, hosts: &[Value]) -> Result<bool, AllocError
 }
 
 // Whether a host has one.
-#[tactic(auto, unfolding(ev_cluster_json::specs::Assignments::endpoint_of, ev_tree::specs::Addresses::outer_of))]
 fn has_socket(alloc: Global, host: &Value) -> Result<bool, AllocError>
     ensures { IfOk result (λ has. has ≡ has_socket (view host.now)) }
 {
-    let endpoint = member::object(alloc, Some(host), "endpoint")?;
-    let address = member::object(alloc, member::inner(endpoint), "address")?;
-    let socket = member::object(alloc, member::inner(address), "socket_address")?;
+    let endpoint = endpoint_in(alloc, Some(host))?;
+    let address = address_in(alloc, endpoint)?;
+    let socket = member::object(alloc, address, "socket_address")?;
     Ok(socket.is_given())
+}
+
+// The object with the host's address.
+#[tactic(auto, unfolding(ev_cluster_json::specs::Assignments::endpoint_of))]
+fn endpoint_in<'a>(alloc: Global, host: Option<&'a Value>) -> Result<Option<&'a Value>, AllocError>
+    ensures { IfOk result (λ endpoint. tree_of endpoint ≡ endpoint_of (tree_of host.entry)) }
+{
+    inner_object(alloc, host, "endpoint")
+}
+
+// The address in it.
+#[tactic(auto, unfolding(ev_tree::specs::Addresses::outer_of))]
+fn address_in<'a>(
+    alloc: Global,
+    endpoint: Option<&'a Value>,
+) -> Result<Option<&'a Value>, AllocError>
+    ensures { IfOk result (λ address. tree_of address ≡ outer_of (tree_of endpoint.entry)) }
+{
+    inner_object(alloc, endpoint, "address")
 }
