@@ -1,10 +1,10 @@
-ghost use Rattle.std.specs.Prelude.{◌≡◌, map, IfOk};
+ghost use Rattle.std.specs.Prelude.{◌≡◌, map, codes, IfOk};
 ghost use Rattle.std.specs.List.{list_all};
 ghost use Rattle.serde_json.specs.View.{view};
+ghost use Rattle.ev_tree.specs.Addresses.{outer_of};
+ghost use Rattle.ev_tree.specs.Forms.{tree_of, is_given, object_of};
 ghost use Rattle.ev_cluster_json.specs.Assignments.{endpoint_of, groups_of};
 ghost use Rattle.ev_cluster_json.specs.Clusters.{load_assignment_of};
-ghost use Rattle.ev_tree.specs.Addresses.{outer_of};
-ghost use Rattle.ev_tree.specs.Forms.{inside, object_of, tree_of};
 ghost use Rattle.ev_dns.specs.Templates.{has_socket, group_has_sockets, has_sockets};
 
 use ev_tree::member;
@@ -15,39 +15,28 @@ use std::alloc::{AllocError, Global};
 pub(crate) fn has_sockets(alloc: Global, body: &Value) -> Result<bool, AllocError>
     ensures { IfOk result (λ has. has ≡ has_sockets (view body.now)) }
 {
-    let assignment = load_assignment(alloc, Some(body))?;
+    let assignment = assignment_in(alloc, body)?;
     let groups = groups_in(alloc, assignment)?;
-    all_have_sockets(alloc, groups)
+    let have = all_have_sockets(alloc, groups)?;
+    Ok(have)
 }
 
-// The assignment given in a cluster.
+// The hosts that stand in a cluster.
 #[tactic(auto, unfolding(ev_cluster_json::specs::Clusters::load_assignment_of))]
-fn load_assignment<'a>(
-    alloc: Global,
-    body: Option<&'a Value>,
-) -> Result<Option<&'a Value>, AllocError>
-    ensures { IfOk result (λ assignment. tree_of assignment ≡ load_assignment_of (tree_of body.entry)) }
+fn assignment_in(alloc: Global, body: &Value) -> Result<Option<&Value>, AllocError>
+    ensures { IfOk result (λ assignment. tree_of assignment ≡ load_assignment_of (view body.now)) }
 {
-    inner_object(alloc, body, "load_assignment")
+    let assignment = member::object(alloc, Some(body), "load_assignment")?;
+    Ok(member::inner(assignment))
 }
 
-// The groups of an assignment.
+// Their groups.
 #[tactic(auto, unfolding(ev_cluster_json::specs::Assignments::groups_of))]
 fn groups_in(alloc: Global, assignment: Option<&Value>) -> Result<&[Value], AllocError>
     ensures { IfOk result (λ groups. map view groups.now ≡ groups_of (tree_of assignment.entry)) }
 {
-    Ok(member::elements(member::objects(alloc, assignment, "endpoints")?))
-}
-
-// The object in a field, to look into.
-fn inner_object<'a>(
-    alloc: Global,
-    holder: Option<&'a Value>,
-    name: &str,
-) -> Result<Option<&'a Value>, AllocError>
-    ensures { IfOk result (λ inner. tree_of inner ≡ inside (object_of name.now (tree_of holder.entry))) }
-{
-    Ok(member::inner(member::object(alloc, holder, name)?))
+    let groups = member::objects(alloc, assignment, "endpoints")?;
+    Ok(member::elements(groups))
 }
 
 // Whether each host of these groups has one.
@@ -87,27 +76,34 @@ fn hosts_have_sockets(alloc: Global, hosts: &[Value]) -> Result<bool, AllocError
 fn has_socket(alloc: Global, host: &Value) -> Result<bool, AllocError>
     ensures { IfOk result (λ has. has ≡ has_socket (view host.now)) }
 {
-    let endpoint = endpoint_in(alloc, Some(host))?;
+    let endpoint = endpoint_in(alloc, host)?;
     let address = address_in(alloc, endpoint)?;
-    let socket = member::object(alloc, address, "socket_address")?;
-    Ok(socket.is_given())
+    let has = is_of_socket(alloc, address)?;
+    Ok(has)
 }
 
-// The object with the host's address.
+// The endpoint of a host.
 #[tactic(auto, unfolding(ev_cluster_json::specs::Assignments::endpoint_of))]
-fn endpoint_in<'a>(alloc: Global, host: Option<&'a Value>) -> Result<Option<&'a Value>, AllocError>
-    ensures { IfOk result (λ endpoint. tree_of endpoint ≡ endpoint_of (tree_of host.entry)) }
+fn endpoint_in(alloc: Global, host: &Value) -> Result<Option<&Value>, AllocError>
+    ensures { IfOk result (λ endpoint. tree_of endpoint ≡ endpoint_of (view host.now)) }
 {
-    inner_object(alloc, host, "endpoint")
+    let endpoint = member::object(alloc, Some(host), "endpoint")?;
+    Ok(member::inner(endpoint))
 }
 
-// The address in it.
+// The object with its address.
 #[tactic(auto, unfolding(ev_tree::specs::Addresses::outer_of))]
-fn address_in<'a>(
-    alloc: Global,
-    endpoint: Option<&'a Value>,
-) -> Result<Option<&'a Value>, AllocError>
+fn address_in(alloc: Global, endpoint: Option<&Value>) -> Result<Option<&Value>, AllocError>
     ensures { IfOk result (λ address. tree_of address ≡ outer_of (tree_of endpoint.entry)) }
 {
-    inner_object(alloc, endpoint, "address")
+    let address = member::object(alloc, endpoint, "address")?;
+    Ok(member::inner(address))
+}
+
+// Whether it has a socket address.
+fn is_of_socket(alloc: Global, address: Option<&Value>) -> Result<bool, AllocError>
+    ensures { IfOk result (λ has. has ≡ is_given (object_of (codes "socket_address") (tree_of address.entry))) }
+{
+    let socket = member::object(alloc, address, "socket_address")?;
+    Ok(socket.is_given())
 }
