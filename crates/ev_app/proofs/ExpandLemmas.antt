@@ -69,7 +69,7 @@ has_text rules forms bytes trees others one two has =
     let heads : view trees.head ≡ view others.head = same_heads forms bytes trees others one two in
     let lines : lines_in trees ≡ lines_in others = same_lines forms bytes trees others one two in
     record {
-      unused = ap (first_use rules.prefix) (sym lines) ∙ has.unused;
+      unused = ap (first_use rules.guard.profile rules.prefix) (sym lines) ∙ has.unused;
       limits = subst AreWithinLimits (λ i. written_by rules (heads i) (lines i)) has.limits;
     }
 

@@ -26,15 +26,15 @@ pub record IsTextBy (rules : Rules) (trees : ScriptTrees) (text : List ℕ) : Ty
 
 -- no line uses a private name, and the text is within the limits of inputs
 pub record HasText (rules : Rules) (trees : ScriptTrees) : Type 0 where
-  pub unused : first_use rules.prefix (lines_in trees) ≡ None
+  pub unused : first_use rules.guard.profile rules.prefix (lines_in trees) ≡ None
   pub limits : AreWithinLimits (written_by rules (view trees.head) (lines_in trees))
 
 -- why there is no text: some line uses a private name, and the first such line is reported, or no line does, and the text is too large
 -- from this line on
 abbrev pub IsUnmade : Rules → ScriptTrees → ℕ → ℕ → Type 0
 IsUnmade rules trees line number =
-    ((first_use rules.prefix (lines_in trees) ≡ Some line) × (number ≡ 11))
-    ⊎ ((first_use rules.prefix (lines_in trees) ≡ None) × GrowsTooLarge rules (view trees.head) (lines_in trees) line × (number ≡ 10))
+    ((first_use rules.guard.profile rules.prefix (lines_in trees) ≡ Some line) × (number ≡ 11))
+    ⊎ ((first_use rules.guard.profile rules.prefix (lines_in trees) ≡ None) × GrowsTooLarge rules (view trees.head) (lines_in trees) line × (number ≡ 10))
 
 -- the bytes are a script of lines of these forms, of which the rules of its header's profile make no text: a fault of kind 10 or 11
 pub record MakesNoText (rules : Profile → Rules) (forms : LineForms) (bytes : List ℕ) (line number : ℕ) : Type 0 where
