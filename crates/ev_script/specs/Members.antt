@@ -14,8 +14,8 @@ abbrev pub tree_of : List ℕ → Option Data
 tree_of bytes = if is_utf8 bytes then read bytes else None
 
 -- a text is one of these
-abbrev pub is_among : List ℕ → List (Bor (List ℕ)) → Bool
-is_among text names = list_any (λ name. bytes_eq text name.now) names
+abbrev pub is_text_among : List ℕ → List (Bor (List ℕ)) → Bool
+is_text_among text names = list_any (λ name. bytes_eq text name.now) names
 
 -- every member has one of these names
 abbrev pub names_only : List (List ℕ) → Members → Bool

@@ -6,7 +6,7 @@ ghost use Rattle.ev_model.specs.World.{opening};
 ghost use Rattle.ev_model.specs.Watching.{is_by_name};
 ghost use Rattle.ev_model.specs.Tidy.{promoted};
 ghost use Rattle.ev_indexes.specs.Indexes.{depends_on, numbers_waiting};
-ghost use Rattle.ev_indexes.specs.Worlds.{StandsFor, needs_of};
+ghost use Rattle.ev_indexes.specs.Worlds.{HasRows, needs_of};
 ghost use Rattle.ev_warming.specs.Arrivals.{with_arrived};
 ghost use Rattle.ev_warming.specs.Changes.{AreDue, BeganToDrain, CameToServe, EndsRows, ServesName, WarmsUnder, WatchesTheSame, watchers_in};
 ghost use Rattle.ev_warming.specs.Worlds.{Follows, FollowsAt, with_rows_ended, without_unneeded};
@@ -40,7 +40,7 @@ impl Manager {
         ensures kept { IsKept result }
         ensures done { result.stale ≡ [] }
         ensures made { result.state.table.made ≡ 0 }
-        ensures stands { (workers : ℕ) (node : List ℕ) → StandsFor result.state (opening workers node) }
+        ensures stands { (workers : ℕ) (node : List ℕ) → HasRows result.state (opening workers node) }
     {
         Manager {
             state: State::new(alloc, kind),
