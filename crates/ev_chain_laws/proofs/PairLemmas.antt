@@ -8,7 +8,7 @@ use Rattle.serde_json.specs.Data.{Data}
 use Rattle.ev_model.specs.World.{OpenMember}
 use Rattle.ev_model.specs.Picture.{has_number}
 use Rattle.ev_model.specs.Connections.{closed, is_closing, is_member, is_open, left_open, member_on}
-use Rattle.ev_ledger.specs.Members.{member_before, is_open_at, with_member}
+use Rattle.ev_ledger.specs.Members.{is_open_at, member_before, with_member}
 use Rattle.ev_ledger.proofs.OrderLemmas.{any_put}
 use Rattle.ev_ledger.proofs.PlaceLemmas.{closed_leaves}
 use Rattle.ev_chains.specs.declared.chains.ChainAnswer.{ChainAnswer}

@@ -22,7 +22,7 @@ use Rattle.ev_model_laws.proofs.PictureLemmas.{in_use_is}
 use Rattle.ev_model_laws.proofs.PlaceLemmas.{Runs}
 use Rattle.ev_model_laws.specs.Kept.{numbers_gone}
 use Rattle.ev_run_laws.proofs.InUseLemmas.{runs_use}
-use Rattle.ev_worker.specs.Workers.{SameOpen, IsWorkerIn, WorkerParts}
+use Rattle.ev_worker.specs.Workers.{IsWorkerIn, SameOpen, WorkerParts}
 use Rattle.ev_actors.proofs.SettleLemmas.{held_now}
 use Rattle.ev_actors.proofs.SinceLemmas.{in_kept}
 use Rattle.ev_actors.proofs.WorldLemmas.{after_append}

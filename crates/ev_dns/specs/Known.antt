@@ -10,7 +10,7 @@ use Rattle.ev_expand.specs.Guarding.{Guarded}
 use Rattle.ev_dns.specs.declared.answers.Answers.{Answers}
 use Rattle.ev_dns.specs.declared.lines.Resolution.{Resolution}
 use Rattle.ev_dns.specs.declared.places.Places.{Places}
-use Rattle.ev_dns.specs.Answers.{names_once, is_of, success_of}
+use Rattle.ev_dns.specs.Answers.{is_of, names_once, success_of}
 use Rattle.ev_dns.specs.Hosts.{hosts_with, endpoints_tree}
 use Rattle.ev_dns.specs.Marking.{is_listed}
 use Rattle.ev_dns.specs.Templates.{template_rows, has_name}

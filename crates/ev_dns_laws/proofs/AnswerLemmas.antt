@@ -15,7 +15,7 @@ use Rattle.ev_model_laws.proofs.AnyLemmas.{any_first}
 use Rattle.ev_expand.specs.declared.keys.Key.{Key}
 use Rattle.ev_dns.specs.declared.lines.Resolution.{Resolution}
 use Rattle.ev_dns.specs.Lines.{resolution_in}
-use Rattle.ev_dns.specs.Answers.{addresses_of, names_once, is_answered, is_complete, is_of, last_success, resolutions_in, success_of}
+use Rattle.ev_dns.specs.Answers.{addresses_of, is_answered, is_complete, is_of, last_success, names_once, resolutions_in, success_of}
 use Rattle.ev_dns.specs.Hosts.{resolved_rows, with_address}
 use Rattle.ev_dns.specs.Resolving.{answers_name, answers_one, resolved_hosts}
 use Rattle.ev_dns_laws.proofs.ListLemmas.{taken_parts}

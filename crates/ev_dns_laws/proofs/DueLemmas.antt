@@ -13,7 +13,7 @@ use Rattle.ev_expand.specs.Guarding.{Guarded}
 use Rattle.ev_expand_laws.proofs.FrontLemmas.{IsFrontAt, front_at, up_to_at}
 use Rattle.ev_expand_laws.proofs.ListLemmas.{some_same}
 use Rattle.ev_dns.specs.Answers.{is_complete}
-use Rattle.ev_dns.specs.Resolving.{answers_name, has_guarded, resolved_hosts, is_due}
+use Rattle.ev_dns.specs.Resolving.{answers_name, has_guarded, is_due, resolved_hosts}
 use Rattle.ev_dns_laws.proofs.AnswerLemmas.{StaysKnown, stays_known}
 
 -- there is a prefix at each line

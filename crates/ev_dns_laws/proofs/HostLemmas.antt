@@ -46,11 +46,11 @@ use Rattle.ev_expand.specs.Fronts.{up_to}
 use Rattle.ev_expand.specs.Guarding.{Guarded, body_in, clusters_in, each_once, guarded_by, guarded_in, guarded_of, guarded_same}
 use Rattle.ev_expand_laws.proofs.ListLemmas.{in_flat, in_found, in_get}
 use Rattle.ev_dns.specs.declared.lines.Resolution.{Resolution}
-use Rattle.ev_dns.specs.Answers.{addresses_of, names_once, is_of, last_success, resolutions_in, success_of}
+use Rattle.ev_dns.specs.Answers.{addresses_of, is_of, last_success, names_once, resolutions_in, success_of}
 use Rattle.ev_dns.specs.Hosts.{with_address}
 use Rattle.ev_dns.specs.Lines.{addresses_at, all_names, given_addresses, resolution_in, resolution_of}
 use Rattle.ev_dns.specs.Resolving.{resolved_hosts}
-use Rattle.ev_dns.specs.Templates.{by_names, rows_in, template_rows, static_body}
+use Rattle.ev_dns.specs.Templates.{by_names, rows_in, static_body, template_rows}
 use Rattle.ev_dns_laws.proofs.EndpointLemmas.{IsGoodHost, item_reads}
 use Rattle.ev_dns_laws.proofs.GuardLemmas.{template_reads}
 use Rattle.ev_dns_laws.proofs.LastLemmas.{ReadsHosts}

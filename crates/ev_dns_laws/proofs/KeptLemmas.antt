@@ -32,7 +32,7 @@ use Rattle.ev_expand_laws.proofs.FollowLemmas.{names_given}
 use Rattle.ev_expand_laws.proofs.ReadLemmas.{following_names}
 use Rattle.ev_expand_laws.proofs.ListLemmas.{found_in, get_in, map_in}
 use Rattle.ev_dns.specs.Hosts.{endpoints_tree}
-use Rattle.ev_dns.specs.Resolving.{dns_rules, resolved_hosts, is_due}
+use Rattle.ev_dns.specs.Resolving.{dns_rules, is_due, resolved_hosts}
 use Rattle.ev_dns_laws.specs.LastAnswers.{name_of_place}
 use Rattle.ev_dns_laws.proofs.PlaceLemmas.{among_due, due_once, parts_of}
 use Rattle.ev_dns_laws.proofs.TextLemmas.{due_response}

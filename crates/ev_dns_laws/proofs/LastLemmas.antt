@@ -60,7 +60,7 @@ use Rattle.ev_expand_laws.proofs.OrderLemmas.{line_in}
 use Rattle.ev_expand_laws.proofs.SaidPlaceLemmas.{said_in}
 use Rattle.ev_dns.specs.Answers.{is_complete}
 use Rattle.ev_dns.specs.Hosts.{endpoints_tree}
-use Rattle.ev_dns.specs.Resolving.{dns_rules, has_guarded, resolved_hosts, is_due}
+use Rattle.ev_dns.specs.Resolving.{dns_rules, has_guarded, is_due, resolved_hosts}
 use Rattle.ev_dns.specs.Templates.{by_names}
 use Rattle.ev_dns_laws.specs.LastAnswers.{HasLastAnswers, IsLastEntry, answered_script, name_of_place}
 use Rattle.ev_dns_laws.proofs.AnswerLemmas.{complete_later}

@@ -21,7 +21,7 @@ use Rattle.ev_expand_laws.proofs.CountLemmas.{places_same}
 use Rattle.ev_expand_laws.proofs.ListLemmas.{back_get, got, in_kept, map_in, some_same}
 use Rattle.ev_expand_laws.proofs.DueLemmas.{guarded_stays}
 use Rattle.ev_dns.specs.Hosts.{endpoints_tree}
-use Rattle.ev_dns.specs.Resolving.{dns_rules, resolved_hosts, is_due}
+use Rattle.ev_dns.specs.Resolving.{dns_rules, is_due, resolved_hosts}
 use Rattle.ev_dns.specs.Templates.{by_names}
 use Rattle.ev_dns_laws.specs.LastAnswers.{name_of_place}
 use Rattle.ev_dns_laws.proofs.DueLemmas.{was_guarded}

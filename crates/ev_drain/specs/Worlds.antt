@@ -11,7 +11,7 @@ use Rattle.ev_model.specs.Signals.{is_unexpired, unexpired}
 use Rattle.ev_model.specs.Dead.{numbers_in_use}
 use Rattle.ev_model.specs.Publishing.{dead_numbers}
 use Rattle.ev_ledger.specs.Members.{HasOpened}
-use Rattle.ev_drain.specs.Retired.{Retired, retired_status, HasRetired}
+use Rattle.ev_drain.specs.Retired.{HasRetired, Retired, retired_status}
 
 -- whatever rows and marks a drain stands for, this is the answer of the question about them
 abbrev pub IsAnswerOf : {A : Type 0} → (List GenRow → List ℕ → A) → List Retired → A → Type 0

@@ -19,7 +19,7 @@ use Rattle.ev_model_laws.specs.Kept.{HoldsPublished}
 use Rattle.ev_model_laws.proofs.BatchLemmas.{settle_not_batched}
 use Rattle.ev_model_laws.proofs.HeldLemmas.{opens_held, step-held}
 use Rattle.ev_worker.specs.Batches.{entries_of, entry_of}
-use Rattle.ev_worker.specs.Workers.{HasWorker, SameOpen, IsWorkerIn, WorkerParts}
+use Rattle.ev_worker.specs.Workers.{HasWorker, IsWorkerIn, SameOpen, WorkerParts}
 use Rattle.ev_worker.specs.declared.lines.BatchLine.{BatchLine}
 use Rattle.ev_actors.specs.Journals.{JournalParts, WorksIn, entries_made, settle_made, with_entries, world_now}
 use Rattle.ev_actors.specs.Resting.{IsBehind, SettlesForNews, is_settle_by, rests_after}

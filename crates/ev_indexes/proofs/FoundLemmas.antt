@@ -12,7 +12,7 @@ use Rattle.ev_generations.specs.Tables.{row_in}
 use Rattle.ev_generations.proofs.TableLemmas.{number-row_in}
 use Rattle.ev_indexes.specs.declared.state.State.{State}
 use Rattle.ev_indexes.specs.Indexes.{IsIndexed}
-use Rattle.ev_indexes.specs.Worlds.{rows_of_kind, HasRows}
+use Rattle.ev_indexes.specs.Worlds.{HasRows, rows_of_kind}
 use Rattle.ev_indexes.specs.Shown.{cluster_shown, cluster_at, first_of, listener_shown, cluster_shown_in, listener_shown_in}
 use Rattle.ev_indexes.proofs.RowLemmas.{found-of_kind, all-at}
 use Rattle.ev_indexes.proofs.ShownLemmas.{cluster-world, listener-world}

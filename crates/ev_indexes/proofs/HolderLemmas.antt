@@ -18,7 +18,7 @@ use Rattle.ev_indexes.specs.declared.state.State.{State}
 use Rattle.ev_indexes.specs.Addresses.{listens_at, lives_numbered, lives_listed}
 use Rattle.ev_indexes.specs.Indexes.{IsIndexed, holds, numbers_where}
 use Rattle.ev_indexes.specs.Reads.{holders_in, holders_of}
-use Rattle.ev_indexes.specs.Worlds.{rows_of_kind, HasRows}
+use Rattle.ev_indexes.specs.Worlds.{HasRows, rows_of_kind}
 use Rattle.ev_indexes.proofs.WhereLemmas.{own-rows}
 
 found_all : (test : GenRow → Bool) (full rows : List GenRow) → AllByRecursion (λ (r : GenRow). row_in r.number full ≡ Some r) rows

@@ -22,7 +22,7 @@ use Rattle.ev_indexes.specs.Standings.{standing_in}
 use Rattle.ev_indexes.specs.Indexes.{IsIndexed, serves, warms, numbers_where}
 use Rattle.ev_indexes.specs.Newest.{is_live_as, newest_in, later_of_two, later_number, found_in}
 use Rattle.ev_indexes.specs.Reads.{live_rows}
-use Rattle.ev_indexes.specs.Worlds.{rows_of_kind, HasRows}
+use Rattle.ev_indexes.specs.Worlds.{HasRows, rows_of_kind}
 use Rattle.ev_indexes.proofs.RowLemmas.{any-some, any_agrees, all_then}
 use Rattle.ev_indexes.proofs.ShownLemmas.{all_left}
 use Rattle.ev_indexes.proofs.WhereLemmas.{own-rows}

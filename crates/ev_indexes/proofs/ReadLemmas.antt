@@ -23,7 +23,7 @@ use Rattle.ev_indexes.specs.Watched.{unwatched, watch_in, has_watcher, watchers_
 use Rattle.ev_indexes.specs.Needs.{is_need}
 use Rattle.ev_indexes.specs.Indexes.{IsIndexed, depends_on, waits, numbers_waiting, numbers_where}
 use Rattle.ev_indexes.specs.Reads.{live_rows, names_needed, names_watched, awaits_in, is_waiting_in, is_one_waiting, is_timeout_due}
-use Rattle.ev_indexes.specs.Worlds.{needs_of, rows_of_kind, HasRows}
+use Rattle.ev_indexes.specs.Worlds.{HasRows, needs_of, rows_of_kind}
 use Rattle.ev_indexes.proofs.RowLemmas.{any_agrees, all_then}
 use Rattle.ev_indexes.proofs.NameLemmas.{same-names, sorted-in_order, among-watched, among_watched}
 use Rattle.ev_indexes.proofs.PlaceLemmas.{dependency-kinds}

@@ -28,7 +28,7 @@ use Rattle.ev_indexes.specs.Standings.{standing_in}
 use Rattle.ev_indexes.specs.Indexes.{IsIndexed, serves, numbers_where}
 use Rattle.ev_indexes.specs.Reads.{active_by_name, chain_in, cluster_in, clusters_in, listener_in, listeners_in, routing_in}
 use Rattle.ev_indexes.specs.Watched.{WatchesKept}
-use Rattle.ev_indexes.specs.Worlds.{needs_of, HasRows}
+use Rattle.ev_indexes.specs.Worlds.{HasRows, needs_of}
 use Rattle.ev_indexes.proofs.RowLemmas.{filter-rows_of_kind, filter_agrees, all_then, both_all}
 use Rattle.ev_indexes.proofs.SortLemmas.{by_key, sorted_by-same}
 use Rattle.ev_indexes.proofs.SoundLemmas.{contents-of}

@@ -18,7 +18,7 @@ ghost use Rattle.ev_model_rows.specs.Domains.{DomainsAnswers, DomainsPictures};
 ghost use Rattle.ev_model_rows.specs.Weights.{WeightsAnswers, WeightsPictures};
 ghost use Rattle.ev_model_rows.specs.Ttl.{TtlAnswers};
 ghost use Rattle.ev_model_rows.specs.TtlOfEndpoints.{TtlOfEndpointsAnswers, TtlOfEndpointsPictures};
-ghost use Rattle.ev_model_rows.specs.DrainedListenersWait.{DrainedListenersWaitAnswers, AnswersOfFormat1};
+ghost use Rattle.ev_model_rows.specs.DrainedListenersWait.{AnswersOfFormat1, DrainedListenersWaitAnswers};
 ghost use Rattle.ev_model_rows.specs.FullBatch.{IsFull};
 ghost use Rattle.ev_model_rows.specs.Findings.{Found};
 ghost use Rattle.ev_model_rows.specs.Narrowing.{NoWayBack, Ranges, Names, Transports, Protocols};

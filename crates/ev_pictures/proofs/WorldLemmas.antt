@@ -14,7 +14,7 @@ use Rattle.ev_model.specs.Picture.{has_number, is_shown, numbers_shown, shown_of
 use Rattle.ev_model.specs.Dead.{last_picture, numbers_in_use, picture_at, picture_held, shown_at, shown_in_use}
 use Rattle.ev_model.specs.Publishing.{publish}
 use Rattle.ev_snapshot.specs.Changes.{empty_picture}
-use Rattle.ev_pictures.specs.Pictures.{PicturesParts, HasPictures, is_shown_by, is_shown_in, next_version, published_answer, settled_on, with_settled, with_shown}
+use Rattle.ev_pictures.specs.Pictures.{HasPictures, PicturesParts, is_shown_by, is_shown_in, next_version, published_answer, settled_on, with_settled, with_shown}
 
 -- at the opening
 none_known : (n : ℕ) → AllByRecursion (λ version. version < 1) (replicate n 0)

@@ -17,7 +17,7 @@ use Rattle.ev_drain.specs.Retired.{Retired}
 use Rattle.ev_state.specs.States.{ManagesAt}
 use Rattle.ev_state.specs.Retirements.{HaveCeased}
 use Rattle.ev_retirement.specs.Holders.{AreNumbered, HoldersParts, HoldsFor}
-use Rattle.ev_retirement.specs.Retiring.{CeasedBetween, HoldTheSame, has_ceased, noted, noted_all, noted_where}
+use Rattle.ev_retirement.specs.Retiring.{CeasedBetween, has_ceased, HoldTheSame, noted, noted_all, noted_where}
 use Rattle.ev_retirement.proofs.RetireLemmas.{retirements_stand}
 use Rattle.ev_proxy.specs.Proxies.{noted_each, noted_over}
 

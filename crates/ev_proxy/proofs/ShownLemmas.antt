@@ -38,7 +38,7 @@ use Rattle.ev_indexes.specs.Worlds.{HasRows}
 use Rattle.ev_state.specs.Changed.{HaveChanged}
 use Rattle.ev_state.specs.States.{ManagesAt, SameManaged}
 use Rattle.ev_state.specs.declared.state.State.{State}
-use Rattle.ev_pictures.specs.Pictures.{PicturesParts, HasPictures, shown_after}
+use Rattle.ev_pictures.specs.Pictures.{HasPictures, PicturesParts, shown_after}
 use Rattle.ev_retirement.specs.Holders.{AreNumbered}
 use Rattle.ev_proxy.specs.Changing.{IsShownBut, changes_at, cluster_change, listener_change}
 use Rattle.ev_proxy.proofs.OrderLemmas.{AreInOrder, StandsBefore, number_same, number_turned}

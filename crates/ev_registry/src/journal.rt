@@ -42,7 +42,7 @@ pub struct Registry {
 
 impl Model for Registry {
     ghost use Rattle.std.specs.Arc.{arc_value};
-    ghost use Rattle.ev_registry.specs.Registries.{RegistryParts, FollowsJournal};
+    ghost use Rattle.ev_registry.specs.Registries.{FollowsJournal, RegistryParts};
 
     ghost Value = { RegistryParts };
 

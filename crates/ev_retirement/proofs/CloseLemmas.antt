@@ -12,8 +12,8 @@ use Rattle.ev_model.specs.Picture.{has_number}
 use Rattle.ev_model.specs.Publishing.{ascending}
 use Rattle.ev_model.specs.Connections.{closed, closed_by, is_closing, is_member, is_open, left_open, settle}
 use Rattle.ev_model.specs.declared.pictures.Picture.{Picture}
-use Rattle.ev_pictures.specs.Pictures.{PicturesParts, settled_on, HasPictures}
-use Rattle.ev_ledger.specs.Members.{AreApart, member_before, connection_of, held_of, in_order, is_of_worker, HasOpened}
+use Rattle.ev_pictures.specs.Pictures.{HasPictures, PicturesParts, settled_on}
+use Rattle.ev_ledger.specs.Members.{AreApart, connection_of, HasOpened, held_of, in_order, is_of_worker, member_before}
 use Rattle.ev_ledger.proofs.PlaceLemmas.{closed_leaves, filter_in_order}
 use Rattle.ev_drain.specs.Retired.{Retired, row_before, has_row, is_expired, is_numbered, is_retired, retired_in, HasRetired}
 use Rattle.ev_worker.specs.Workers.{IsToldBy}

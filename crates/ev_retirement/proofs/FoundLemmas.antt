@@ -12,9 +12,9 @@ use Rattle.ev_model.specs.Sorted.{put_by}
 use Rattle.ev_model.specs.Picture.{has_number}
 use Rattle.ev_model.specs.Connections.{is_member}
 use Rattle.ev_ledger.specs.Entries.{key_order}
-use Rattle.ev_ledger.specs.Members.{member_before, has_place, is_open_at}
+use Rattle.ev_ledger.specs.Members.{has_place, is_open_at, member_before}
 use Rattle.ev_ledger.proofs.PlaceLemmas.{same_place}
-use Rattle.ev_drain.specs.Retired.{Retired, row_before, is_draining_listener, is_expired, is_numbered, is_waiting, marked, numbers_waiting}
+use Rattle.ev_drain.specs.Retired.{Retired, is_draining_listener, is_expired, is_numbered, is_waiting, marked, numbers_waiting, row_before}
 use Rattle.ev_retirement.specs.declared.closing.Closing.{Closing}
 use Rattle.ev_retirement.specs.Closing.{AreFound, FindsMore, Leaves, is_found}
 use Rattle.ev_retirement.proofs.MoreLemmas.{or_first, or_second, same_number}

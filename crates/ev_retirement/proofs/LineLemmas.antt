@@ -20,7 +20,7 @@ use Rattle.ev_model.specs.declared.pictures.ServedCluster.{ServedCluster}
 use Rattle.ev_model.specs.declared.pictures.Choice.{Choice}
 use Rattle.ev_model.specs.declared.pictures.Choice.TheVariants.{NoListener, NoChain, Undecided, Elsewhere, NoRoute, Local, Redirect, NoCluster, NoEndpoint, Served}
 use Rattle.ev_snapshot.specs.Chosen.{host_of, placed_host}
-use Rattle.ev_ledger.specs.Members.{member_before, in_order, HasOpened}
+use Rattle.ev_ledger.specs.Members.{HasOpened, in_order, member_before}
 use Rattle.ev_ledger.proofs.OrderLemmas.{any_put}
 use Rattle.ev_worker.specs.Batches.{accepted_as, closed_answer, closed_as, entries_of, outcome_answer}
 use Rattle.ev_worker.specs.Members.{chosen_on, on_of}

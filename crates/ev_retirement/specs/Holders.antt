@@ -8,7 +8,7 @@ use Rattle.ev_model.specs.World.{World, OpenMember}
 use Rattle.ev_model.specs.Picture.{has_number}
 use Rattle.ev_model.specs.Signals.{unexpired}
 use Rattle.ev_model.specs.Tidy.{tidy}
-use Rattle.ev_pictures.specs.Pictures.{PicturesParts, HasPictures}
+use Rattle.ev_pictures.specs.Pictures.{HasPictures, PicturesParts}
 use Rattle.ev_ledger.specs.Members.{HasOpened}
 use Rattle.ev_drain.specs.Retired.{Retired, has_row, retired_status, HasRetired}
 

@@ -8,7 +8,7 @@ use Rattle.ev_types.specs.declared.rows.RowStatus.TheVariants.{Warming, Active, 
 use Rattle.ev_model.specs.Sorted.{put_by}
 use Rattle.ev_model.specs.Picture.{has_number}
 use Rattle.ev_generations.specs.Tables.{row_in}
-use Rattle.ev_drain.specs.Retired.{Retired, row_before, has_row, retired_in}
+use Rattle.ev_drain.specs.Retired.{Retired, has_row, retired_in, row_before}
 use Rattle.ev_model.specs.World.{World}
 use Rattle.ev_retirement.specs.Holders.{HoldersParts, AreNumbered, HoldsFor}
 

@@ -1,6 +1,6 @@
 ghost use Rattle.std.specs.Prelude.{◌≡◌, ◌<◌, true, length, IfOk, OnOk, OnErr};
 ghost use Rattle.ev_model.specs.Connections.{closed, is_member, is_open};
-ghost use Rattle.ev_ledger.specs.Members.{IsAnswerOf, HasOpenedAfter};
+ghost use Rattle.ev_ledger.specs.Members.{HasOpenedAfter, IsAnswerOf};
 ghost use Rattle.ev_drain.specs.Retired.{has_row};
 ghost use Rattle.ev_retirement.specs.Asking.{AreAskedOn, AreBothAsked, AsksMore, LetsGo, MayLeave, is_asked};
 ghost use Rattle.ev_retirement.specs.Closing.{AreFound, is_member_among};

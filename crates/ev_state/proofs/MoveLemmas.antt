@@ -18,7 +18,7 @@ use Rattle.ev_indexes.specs.Due.{is_one_of}
 use Rattle.ev_warming.specs.Changes.{is_over, has_retired, began_to_drain}
 use Rattle.ev_indexes.specs.Moved.{names_lost, names_gained}
 use Rattle.ev_indexes.specs.Reads.{names_watched}
-use Rattle.ev_indexes.specs.Worlds.{IsSound, HasRows, needs_of, rows_of_kind}
+use Rattle.ev_indexes.specs.Worlds.{HasRows, IsSound, needs_of, rows_of_kind}
 use Rattle.ev_indexes.proofs.RowLemmas.{found-of_kind}
 use Rattle.ev_indexes.proofs.ReadLemmas.{names-world}
 use Rattle.ev_warming.proofs.RemovalLemmas.{apart-filter}

@@ -16,7 +16,7 @@ use Rattle.ev_model.specs.Watching.{is_by_name, is_watched}
 use Rattle.std.proofs.lemmas.List.Elements.{All-filter, recursion_from_All}
 use Rattle.ev_types.specs.declared.contents.Kind.{Kind}
 use Rattle.ev_types.specs.declared.contents.Kind.TheVariants.{Cds, Eds, Lds, Rds}
-use Rattle.ev_indexes.specs.Worlds.{InWorldsWatching, HasRows, needs_of}
+use Rattle.ev_indexes.specs.Worlds.{HasRows, InWorldsWatching, needs_of}
 use Rattle.ev_indexes.proofs.ReadLemmas.{watched-world, still-waits}
 use Rattle.ev_indexes.proofs.WaitLemmas.{waits-depends}
 use Rattle.ev_state.proofs.TidyLemmas.{found_watched}

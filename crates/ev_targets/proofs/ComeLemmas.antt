@@ -15,7 +15,7 @@ use Rattle.ev_model.specs.Phase.{has_active, has_live, has_come, have_come, phas
 use Rattle.ev_model.specs.Tidy.{with_phase}
 use Rattle.ev_indexes.specs.Indexes.{serves, warms}
 use Rattle.ev_indexes.specs.Reads.{has_come_in}
-use Rattle.ev_indexes.specs.Worlds.{rows_of_kind, HasRows}
+use Rattle.ev_indexes.specs.Worlds.{HasRows, rows_of_kind}
 use Rattle.ev_indexes.specs.declared.state.State.{State}
 use Rattle.ev_targets.specs.Targets.{TargetsParts, HaveBooted}
 

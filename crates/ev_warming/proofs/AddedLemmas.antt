@@ -19,7 +19,7 @@ use Rattle.ev_endpoints.specs.Results.{result_in}
 use Rattle.ev_generations.specs.Tables.{is_number, row_in}
 use Rattle.ev_indexes.specs.declared.state.State.{State}
 use Rattle.ev_indexes.specs.Indexes.{IsIndexed, SameMarks}
-use Rattle.ev_indexes.specs.Worlds.{needs_of, rows_of_kind, HasRows}
+use Rattle.ev_indexes.specs.Worlds.{HasRows, needs_of, rows_of_kind}
 use Rattle.ev_indexes.proofs.SoundLemmas.{sound-added}
 use Rattle.ev_indexes.proofs.WorldLemmas.{rows_of_kind-with_statuses}
 use Rattle.ev_warming.proofs.PromotedLemmas.{there_before}

@@ -25,7 +25,7 @@ use Rattle.ev_indexes.specs.Kept.{Sets}
 use Rattle.ev_indexes.specs.Watched.{WatchesKept, unwatched, watch_in, with_arrival}
 use Rattle.ev_indexes.specs.Indexes.{SameMarks}
 use Rattle.ev_warming.specs.Promotion.{status_drained}
-use Rattle.ev_indexes.specs.Worlds.{needs_of, rows_of_kind, HasRows}
+use Rattle.ev_indexes.specs.Worlds.{HasRows, needs_of, rows_of_kind}
 use Rattle.ev_indexes.proofs.RowLemmas.{all_then, statuses_agree}
 use Rattle.ev_warming.proofs.PromotionLemmas.{with_statuses-twice}
 use Rattle.ev_indexes.proofs.SoundLemmas.{sound-with_statuses}

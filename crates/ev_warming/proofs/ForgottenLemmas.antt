@@ -24,7 +24,7 @@ use Rattle.ev_indexes.specs.declared.state.State.{State}
 use Rattle.ev_indexes.specs.Due.{is_one_of}
 use Rattle.ev_indexes.specs.Watched.{WatchesKept, unwatched, watch_in}
 use Rattle.ev_indexes.specs.Indexes.{depends_on}
-use Rattle.ev_indexes.specs.Worlds.{needs_of, rows_of_kind, HasRows}
+use Rattle.ev_indexes.specs.Worlds.{HasRows, needs_of, rows_of_kind}
 use Rattle.ev_indexes.specs.Needs.{is_needed}
 use Rattle.ev_warming.specs.Forgetting.{is_need_of, is_idle, keeps_result, loses_result, IsUnheard, IsTidyBut}
 use Rattle.ev_indexes.proofs.WhereLemmas.{any-found, all-found}

@@ -24,7 +24,7 @@ use Rattle.ev_indexes.specs.declared.state.State.{State}
 use Rattle.ev_warming.specs.Arrivals.{IsOnValue, AreOnValues}
 use Rattle.ev_indexes.specs.Indexes.{depends_on}
 use Rattle.ev_indexes.specs.Reads.{live_rows}
-use Rattle.ev_indexes.specs.Worlds.{needs_of, HasRows}
+use Rattle.ev_indexes.specs.Worlds.{HasRows, needs_of}
 use Rattle.ev_warming.proofs.ForgottenLemmas.{watched-same}
 
 -- what is needed is asked for by name

@@ -19,7 +19,7 @@ use Rattle.ev_indexes.specs.declared.state.State.{State}
 use Rattle.ev_indexes.specs.Ready.{is_ready_in}
 use Rattle.ev_indexes.specs.Indexes.{IsIndexed, SameMarks}
 use Rattle.ev_warming.specs.Promotion.{succeeded_by, rows_promoted}
-use Rattle.ev_indexes.specs.Worlds.{needs_of, rows_of_kind, HasRows}
+use Rattle.ev_indexes.specs.Worlds.{HasRows, needs_of, rows_of_kind}
 use Rattle.ev_indexes.proofs.WhereLemmas.{own-rows}
 use Rattle.ev_indexes.proofs.SoundLemmas.{contents-of, sound-with_statuses}
 use Rattle.ev_indexes.proofs.RowLemmas.{any_agrees, all_then, both_all, statuses_agree}

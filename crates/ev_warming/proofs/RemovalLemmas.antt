@@ -18,7 +18,7 @@ use Rattle.ev_warming.specs.declared.manager.Manager.{Manager}
 use Rattle.ev_indexes.specs.Ready.{is_ready_in, is_due_found, is_due_at}
 use Rattle.ev_indexes.specs.Addresses.{listens_at}
 use Rattle.ev_indexes.specs.Indexes.{depends_on, waits, serves, warms, numbers_where, holds}
-use Rattle.ev_indexes.specs.Worlds.{rows_of_kind, HasRows}
+use Rattle.ev_indexes.specs.Worlds.{HasRows, rows_of_kind}
 use Rattle.ev_indexes.specs.Needs.{HaveNames, is_needed}
 use Rattle.ev_warming.specs.Changes.{is_over}
 use Rattle.ev_warming.specs.Forgetting.{is_need_of}

@@ -17,7 +17,7 @@ use Rattle.ev_worker.specs.declared.lines.Closed.{Closed}
 use Rattle.ev_worker.specs.declared.lines.BatchLine.{BatchLine}
 use Rattle.ev_worker.specs.declared.lines.Outcome.TheVariants.{Accepted as accepted_outcome, Closed as closed_outcome}
 use Rattle.ev_worker.specs.Batches.{accept_line, accepted_answer, accepted_as, close_line, closed_answer, closed_as, entries_of, entry_of, outcome_answer}
-use Rattle.ev_worker.specs.Workers.{AreAnswered, HasWorker, IsAnswer, IsMadeFrom, SameOpen, IsWorkerIn, WorkerParts}
+use Rattle.ev_worker.specs.Workers.{AreAnswered, HasWorker, IsAnswer, IsMadeFrom, IsWorkerIn, SameOpen, WorkerParts}
 use Rattle.ev_worker.proofs.OpenLemmas.{accept_answer, accepted_same, close_answer, closed_same, open_same}
 
 -- a batch without lines is made from what is open

@@ -19,7 +19,7 @@ use Rattle.ev_model.specs.declared.pictures.Picture.{Picture}
 use Rattle.ev_model.specs.declared.pictures.Choice.{Choice}
 use Rattle.ev_model.specs.declared.pictures.Choice.TheVariants.{NoListener, NoChain, Undecided, Elsewhere, NoRoute, Local, Redirect, NoCluster, NoEndpoint, Served}
 use Rattle.ev_worker.specs.Batches.{accepted_as, accepted_answer, closed_as, closed_answer}
-use Rattle.ev_worker.specs.Members.{chosen_on, member_of, stored_members, on_of}
+use Rattle.ev_worker.specs.Members.{chosen_on, member_of, on_of, stored_members}
 use Rattle.ev_worker.specs.Workers.{SameOpen, without_numbers}
 
 -- a number is itself

@@ -2,7 +2,7 @@ use Rattle.std.proofs.Common.{sym, ap, subst, ◌∙◌}
 use Rattle.ev_model.specs.Picture.{has_number}
 use Rattle.ev_drain.proofs.WorldLemmas.{retire_stands}
 use Rattle.ev_model.specs.Sorted.{put_by}
-use Rattle.ev_drain.specs.Retired.{row_before, has_row, newly_retired}
+use Rattle.ev_drain.specs.Retired.{has_row, newly_retired, row_before}
 use Rattle.ev_drain.specs.Notes.{rows_of}
 use Rattle.ev_drain.specs.Waiters.{HaveWaiters}
 use Rattle.ev_drain.proofs.RowLemmas.{found_row, put_rows}

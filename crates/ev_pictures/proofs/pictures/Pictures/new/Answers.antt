@@ -2,7 +2,7 @@ use Rattle.std.proofs.Common.{◌≡◌, replicate, sym, ap, ◌∙◌, subst}
 use Rattle.std.specs.Arc.{arc_value}
 use Rattle.ev_model.specs.World.{opening}
 use Rattle.ev_snapshot.specs.Changes.{empty_picture}
-use Rattle.ev_pictures.specs.Pictures.{PicturesParts, HasPictures}
+use Rattle.ev_pictures.specs.Pictures.{HasPictures, PicturesParts}
 use Rattle.ev_pictures.proofs.WorldLemmas.{opening_stands}
 use Rattle.ev_pictures.proofs.pictures.Pictures.new.Goals as goal
 

@@ -3,7 +3,7 @@ use Rattle.std.specs.Arc.{arc_value}
 use Rattle.std.specs.Option.{option_map}
 use Rattle.ev_model.specs.declared.pictures.Picture.{Picture}
 use Rattle.ev_snapshot.specs.Changes.{next_picture}
-use Rattle.ev_pictures.specs.Pictures.{PicturesParts, HasPictures, next_version, shown_after, with_shown}
+use Rattle.ev_pictures.specs.Pictures.{HasPictures, PicturesParts, next_version, shown_after, with_shown}
 use Rattle.ev_pictures.proofs.UseLemmas.{IsNext, is_next, none_later}
 use Rattle.ev_pictures.proofs.WorldLemmas.{published_stands}
 use Rattle.ev_pictures.proofs.pictures.Pictures.publish.Goals as goal

@@ -3,7 +3,7 @@ use Rattle.std.specs.Arc.{arc_value}
 use Rattle.std.specs.List.{AllByRecursion}
 use Rattle.std.proofs.lemmas.List.{map-set}
 use Rattle.ev_model.specs.declared.pictures.Picture.{Picture}
-use Rattle.ev_pictures.specs.Pictures.{IsUpTo, PicturesParts, HasPictures, settled_on}
+use Rattle.ev_pictures.specs.Pictures.{HasPictures, IsUpTo, PicturesParts, settled_on}
 use Rattle.ev_pictures.proofs.UseLemmas.{all_set, is_itself}
 use Rattle.ev_pictures.proofs.WorldLemmas.{settle_stands}
 use Rattle.ev_pictures.proofs.pictures.Pictures.settle.Goals as goal

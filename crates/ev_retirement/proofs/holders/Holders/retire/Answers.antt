@@ -1,6 +1,6 @@
 use Rattle.std.proofs.Common.{List, refl, sym, ap, ◌∙◌, subst}
 use Rattle.ev_types.specs.declared.rows.GenRow.{GenRow}
-use Rattle.ev_drain.specs.Retired.{has_row, newly_retired, HasRetired}
+use Rattle.ev_drain.specs.Retired.{has_row, HasRetired, newly_retired}
 use Rattle.ev_retirement.specs.Holders.{HoldersParts, HoldsFor}
 use Rattle.ev_retirement.proofs.HoldLemmas.{on_ok, retire_stands, unmarked}
 use Rattle.ev_retirement.proofs.FoundLemmas.{retire_found}

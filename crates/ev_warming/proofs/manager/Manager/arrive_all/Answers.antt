@@ -1,6 +1,6 @@
 use Rattle.std.proofs.Common.{◌∙◌, subst, sym}
 use Rattle.ev_model.specs.Rows.{with_removals, add_items}
-use Rattle.ev_indexes.specs.Worlds.{needs_of, HasRows}
+use Rattle.ev_indexes.specs.Worlds.{HasRows, needs_of}
 use Rattle.ev_warming.proofs.AbsenceLemmas.{absences-stand}
 use Rattle.ev_warming.proofs.MadeLemmas.{removals-made}
 use Rattle.ev_warming.proofs.manager.Manager.arrive_all.Goals as goal

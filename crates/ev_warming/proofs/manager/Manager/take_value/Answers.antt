@@ -3,7 +3,7 @@ use Rattle.std.specs.List.{list_any}
 use Rattle.ev_types.specs.declared.rows.Arrival.TheVariants.{Bad}
 use Rattle.ev_model.specs.Rows.{add_item}
 use Rattle.ev_indexes.specs.Indexes.{depends_on}
-use Rattle.ev_indexes.specs.Worlds.{needs_of, HasRows}
+use Rattle.ev_indexes.specs.Worlds.{HasRows, needs_of}
 use Rattle.ev_warming.specs.Arrivals.{told_where}
 use Rattle.ev_warming.proofs.IndexLemmas.{on_ok}
 use Rattle.ev_warming.proofs.AbsenceLemmas.{refusal-stands}

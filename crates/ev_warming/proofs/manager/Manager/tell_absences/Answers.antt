@@ -4,7 +4,7 @@ use Rattle.std.proofs.lemmas.List.{nil_from_length, take_all}
 use Rattle.std.specs.List.{list_any}
 use Rattle.ev_types.specs.declared.rows.Arrival.TheVariants.{Absent}
 use Rattle.ev_indexes.specs.Indexes.{depends_on}
-use Rattle.ev_indexes.specs.Worlds.{needs_of, HasRows}
+use Rattle.ev_indexes.specs.Worlds.{HasRows, needs_of}
 use Rattle.ev_warming.specs.Changes.{is_unlisted}
 use Rattle.ev_warming.specs.Arrivals.{told_where}
 use Rattle.ev_warming.proofs.ForgottenLemmas.{watched-same}

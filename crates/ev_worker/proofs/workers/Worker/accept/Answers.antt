@@ -3,7 +3,7 @@ use Rattle.std.specs.Option.{option_to_list}
 use Rattle.std.specs.Arc.{arc_value}
 use Rattle.ev_model.specs.Connections.{accepted, is_open}
 use Rattle.ev_worker.specs.Batches.{BatchParts, accept_line, accepted_as}
-use Rattle.ev_worker.specs.Members.{stored_members, on_of}
+use Rattle.ev_worker.specs.Members.{on_of, stored_members}
 use Rattle.ev_worker.specs.Workers.{WorkerParts}
 use Rattle.ev_worker.proofs.OpenLemmas.{absent, accept_opens, found_open, opens_apart}
 use Rattle.ev_worker.proofs.BatchLemmas.{accept_made}
