@@ -165,8 +165,10 @@ pub fn inspect_hosts(
     cluster: &Value,
     in_cluster: bool,
 ) -> Result<Tally, AllocError>
-    ensures rows { IfOk result (λ t. t.rows.items ≡ made_where profile in_cluster (load_assignment_of (view cluster.now))) }
-    ensures broken { IfOk result (λ t. t.broken ≡ broken_where in_cluster (load_assignment_broken profile (view cluster.now))) }
+    ensures rows { IfOk result (λ t. t.rows.items ≡ made_where profile in_cluster
+        (load_assignment_of (view cluster.now))) }
+    ensures broken { IfOk result (λ t. t.broken ≡ broken_where in_cluster
+        (load_assignment_broken profile (view cluster.now))) }
 {
     if in_cluster {
         return inspect_load_assignment(alloc, profile, cluster);

@@ -56,7 +56,8 @@ pub trait Forms {
         at: u32,
         tree: Value,
     ) -> Result<Option<FormedLine<Self::Kept>>, AllocError>
-        ensures line { IfOk result (λ line. option_map (λ line. line.worker) line ≡ forms.lines profile at (view tree)) }
+        ensures line { IfOk result (λ line. option_map (λ line. line.worker) line
+            ≡ forms.lines profile at (view tree)) }
         ensures kept { IfOk result (λ line. IfSome line (λ line. keeps profile at (view tree) line.kept)) };
 }
 

@@ -27,7 +27,8 @@ pub(crate) fn hear(
     event: &Option<Event>,
 ) -> Result<News, AllocError>
     requires { event.now ≡ event_of profile (view line.now) }
-    ensures told { IfOk result (λ news. news.told.items ≡ flat_map (told_by profile) (heard_now connected (view line.now))) }
+    ensures told { IfOk result (λ news. news.told.items
+        ≡ flat_map (told_by profile) (heard_now connected (view line.now))) }
     ensures values { IfOk result (λ news. map value_shown news.values.items
         ≡ flat_map (values_in profile) (heard_now connected (view line.now))) }
 {

@@ -88,7 +88,8 @@ fn endpoint_values(
     message: Option<&Value>,
 ) -> Result<Vec<(Name, Value)>, AllocError>
     requires { response.now.items ≡ map (item_of profile Eds) (entries_of (tree_of message)) }
-    ensures { IfOk result (λ values. map value_shown values.items ≡ given_in profile response.now (tree_of message.entry)) }
+    ensures { IfOk result (λ values. map value_shown values.items
+        ≡ given_in profile response.now (tree_of message.entry)) }
 {
     let entries = entries_of(alloc, message)?;
     let mentions = Mentions::of(alloc, response)?;
@@ -119,7 +120,8 @@ fn entry_values(
     entries: &[Value],
 ) -> Result<Vec<(Name, Value)>, AllocError>
     requires { items.now ≡ map (item_of profile Eds) (map view entries.now) }
-    ensures { IfOk result (λ values. map value_shown values.items ≡ given_among profile mentions.now (map view entries.now)) }
+    ensures { IfOk result (λ values. map value_shown values.items
+        ≡ given_among profile mentions.now (map view entries.now)) }
 {
     let mut values = Vec::new(alloc);
     for (index, entry) in entries.iter().enumerate() {

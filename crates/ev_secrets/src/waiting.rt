@@ -48,7 +48,8 @@ impl Waiting {
         ensures told { OnOk result (AddsAll told.old told.new heard.items) }
         ensures goes { (guarded : List Guarded) → IsWaiting told.old guarded self.old
             → Grows guarded (guarded_so_far numbers.now)
-            → IfOk result (λ finished. GoesOn told.old told.new guarded (guarded_so_far numbers.now) self.new finished) }
+            → IfOk result (λ finished. GoesOn told.old told.new guarded
+            (guarded_so_far numbers.now) self.new finished) }
     {
         let mut woken = take_up(alloc, &mut self.passed, numbers.len())?;
         wake(alloc, &mut self.under, heard.as_slice(), &mut woken)?;
@@ -65,7 +66,8 @@ impl Waiting {
         places: &[usize],
     ) -> Result<IndexSet<usize>, AllocError>
         ensures { HavePassed told.now (guarded_so_far numbers.now) self.old.passed.items
-            → IfOk result (λ finished. Advances told.now (guarded_so_far numbers.now) places.now self.old self.new finished) }
+            → IfOk result (λ finished. Advances told.now
+            (guarded_so_far numbers.now) places.now self.old self.new finished) }
     {
         let mut finished = IndexSet::new(alloc);
         for place in places {
@@ -84,7 +86,8 @@ impl Waiting {
         finished: &mut IndexSet<usize>,
     ) -> Result<(), AllocError>
         ensures { HavePassed told.now (guarded_so_far numbers.now) self.old.passed.items
-            → OnOk result (AdvancesOne told.now (guarded_so_far numbers.now) place self.old self.new finished.old finished.new) }
+            → OnOk result (AdvancesOne told.now (guarded_so_far numbers.now) place self.old self.new finished.old
+            finished.new) }
     {
         let Some((key, _)) = numbers.get(place) else {
             return Ok(());

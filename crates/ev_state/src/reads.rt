@@ -40,7 +40,8 @@ impl State {
     /// the number and of the name that the cluster depends on, and one of each of its hosts.
     pub fn cluster(&self, alloc: Global, number: Gen) -> Result<Option<ServedCluster>, AllocError>
         requires kept { AreManagersKept self.now.managers }
-        ensures { IfOk result (λ served. (world : World) → ManagesAt self.now world → served ≡ cluster_at world number) }
+        ensures { IfOk result (λ served. (world : World) → ManagesAt self.now world
+            → served ≡ cluster_at world number) }
     {
         let served = self.managers.clusters.state.cluster(alloc, number)?;
         Ok(served)
@@ -50,7 +51,8 @@ impl State {
     /// with their routes and targets. It costs a look-up of the number, and one of each name that the listener depends on.
     pub fn listener(&self, alloc: Global, number: Gen) -> Result<Option<ServedListener>, AllocError>
         requires kept { AreManagersKept self.now.managers }
-        ensures { IfOk result (λ served. (world : World) → ManagesAt self.now world → served ≡ listener_at world number) }
+        ensures { IfOk result (λ served. (world : World) → ManagesAt self.now world
+            → served ≡ listener_at world number) }
     {
         match self.targets.phase() {
             Phase::Serving => {

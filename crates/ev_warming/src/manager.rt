@@ -63,7 +63,8 @@ impl Manager {
         ensures kept { OnOk result (IsKept self.new) }
         ensures kind { OnOk result (self.new.state.kind ≡ self.old.state.kind) }
         ensures table { OnOk result (self.new.state.table ≡ self.old.state.table) }
-        ensures steps { OnOk result (steps.new ≡ steps.old + length (numbers_waiting self.old.state.table.rows name.now)) }
+        ensures steps { OnOk result (steps.new ≡ steps.old
+            + length (numbers_waiting self.old.state.table.rows name.now)) }
         // Whatever world the manager stood for in which so many numbers were drawn, it stands for that world with the arrival.
         ensures stands { OnOk result (FollowsAt made self.old.state self.new.state
             (with_arrived (needs_of self.old.state.kind) arrival.now name.now)) }
