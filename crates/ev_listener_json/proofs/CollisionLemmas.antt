@@ -1,11 +1,11 @@
 -- Chains that collide are found under the keys of any one criterion.
-use Rattle.std.proofs.Common.{◌≡◌, ℕ, ◌+◌, ◌<◌, ◌≤◌, zero, suc, Bool, true, false, not, cond, ◌||◌, ◌&&◌, List, [], ◌∷◌, ◌++◌, map, length, get_or, take, drop, slice_get, nat_eq, nat_le, Decides, Any, Option, None, Some, refl, sym, ap, ◌∙◌, inl, inr, ◌⊎◌, ⊎_elim, arith}
+use Rattle.std.proofs.Common.{◌≡◌, ℕ, ◌<◌, zero, suc, Bool, true, false, not, cond, ◌||◌, List, [], ◌∷◌, map, take, slice_get, nat_eq, nat_le, Decides, Option, None, Some, refl, sym, ap, ◌∙◌, arith}
 use Rattle.std.specs.List.{list_any}
 use Rattle.std.specs.Str.{bytes_eq}
 use Rattle.std.specs.Cmp.{first_so, second_so}
-use Rattle.std.proofs.lemmas.Bool.{false≢true}
-use Rattle.std.proofs.lemmas.List.Folds.{Any-from_list_any, list_any-from_Any, list_any-append}
-use Rattle.std.proofs.lemmas.Option.{slice_get_within, slice_get-get_or}
+use Rattle.std.proofs.lemmas.Bool.{false≢true, or_left, or_right}
+use Rattle.std.proofs.lemmas.List.Folds.{Any-from_list_any, list_any-from_Any}
+use Rattle.std.proofs.lemmas.Option.{slice_get_within, slice_get-get_or, get_or_from_slice_get}
 use Rattle.ev_types.specs.Same.{bytes_decide, numbers_decide}
 use Rattle.ev_types.specs.Ips.{cidr_range_same, cidr_range_decides}
 use Rattle.ev_types.specs.FilterChains.{nat_same, has_value, overlap, collide, ports}
@@ -14,20 +14,9 @@ use Rattle.ev_types.specs.declared.listeners.FilterChain.{FilterChain}
 use Rattle.ev_listener_json.specs.declared.chain_keys.Criterion.{Criterion}
 use Rattle.ev_listener_json.specs.declared.chain_keys.Criterion.TheVariants.{Port, Range, Name, Protocol}
 use Rattle.ev_listener_json.specs.ChainKeys.{bare_key, port_key, range_key, text_key, or_bare, keys_asked, keys_by}
-use Rattle.ev_listener_json.specs.ChainPlaces.{PlacesKept, places_under, stands_under, has_key, HasFirst, HasAll, collides_given, collides_there, any_under, any_collides, count_under, fewer_keys, fewest_keys}
-use Rattle.ev_listener_json.proofs.Overlaps.{chains_collide}
+use Rattle.ev_listener_json.specs.ChainPlaces.{PlacesKept, places_under, has_key, HasFirst, HasAll, collides_given, collides_there, any_under, any_collides, count_under, fewer_keys, fewest_keys}
 
 -- ---- tests of lists
-
-pub or_first : (a b : Bool) → a ≡ true → (a || b) ≡ true
-or_first a b h = ap (λ t. t || b) h
-
-pub or_second : (a b : Bool) → b ≡ true → (a || b) ≡ true
-or_second true b h = refl
-or_second false b h = h
-
-or_none : (a b : Bool) → a ≡ false → b ≡ false → (a || b) ≡ false
-or_none a b h k = λ i. h i || k i
 
 both_true : (a b : Bool) → (a ≡ true → b ≡ true) → (b ≡ true → a ≡ true) → a ≡ b
 both_true true b to from = sym (to refl)
@@ -39,8 +28,8 @@ any_so p q so [] h = h
 any_so p q so (x ∷ xs) h = by (p x) (so x) h (any_so p q so xs)
   where
     by : (t : Bool) → (t ≡ true → q x ≡ true) → (t || list_any p xs) ≡ true → (list_any p xs ≡ true → list_any q xs ≡ true) → (q x || list_any q xs) ≡ true
-    by true here h rest = or_first (q x) (list_any q xs) (here refl)
-    by false here h rest = or_second (q x) (list_any q xs) (rest h)
+    by true here h rest = or_left (q x) (list_any q xs) (here refl)
+    by false here h rest = or_right (q x) (list_any q xs) (rest h)
 
 -- a test of an element that is among these
 any_of : {X : Type 0} (same : X → X → Bool) (decide : (x y : X) → Decides (same x y) (x ≡ y)) (q : X → Bool) (x : X) (xs : List X)
@@ -64,11 +53,11 @@ module _ {X : Type 0} (same : X → X → Bool) (decide : (x y : X) → Decides 
     where
       by : (t : Bool) → (t ≡ true → x ≡ y) → (t || list_any (same x) xs) ≡ true
           → (list_any (same x) xs ≡ true → has_key (map key xs) (key x) ≡ true) → (bytes_eq (key x) (key y) || has_key (map key xs) (key x)) ≡ true
-      by true is h rest = or_first (bytes_eq (key x) (key y)) (has_key (map key xs) (key x)) ((bytes_decide (key x) (key y)).1 (ap key (is refl)))
-      by false is h rest = or_second (bytes_eq (key x) (key y)) (has_key (map key xs) (key x)) (rest h)
+      by true is h rest = or_left (bytes_eq (key x) (key y)) (has_key (map key xs) (key x)) ((bytes_decide (key x) (key y)).1 (ap key (is refl)))
+      by false is h rest = or_right (bytes_eq (key x) (key y)) (has_key (map key xs) (key x)) (rest h)
 
   has_bare : has_key (bare_key mark ∷ []) (bare_key mark) ≡ true
-  has_bare = or_first (bytes_eq (bare_key mark) (bare_key mark)) false ((bytes_decide (bare_key mark) (bare_key mark)).1 refl)
+  has_bare = or_left (bytes_eq (bare_key mark) (bare_key mark)) false ((bytes_decide (bare_key mark) (bare_key mark)).1 refl)
 
   -- lists that overlap have a key in common
   overlap_shares : (xs ys : List X) → overlap same xs ys ≡ true → Shares (or_bare mark (map key xs)) (or_bare mark (map key ys))
@@ -110,13 +99,7 @@ module _ (chains : List FilterChain) (one : FilterChainMatch) where
   given_collides place None at h = absurd (false≢true h)
   given_collides place (Some chain) at h =
       list_any-from_Any (λ (c : FilterChain). collide c.criteria one) chains
-      (place, chain, slice_get_within chains place chain at, at_is, h)
-    where
-      at_is : get_or chains place chain ≡ chain
-      at_is = same_some (sym (slice_get-get_or chains place chain (slice_get_within chains place chain at)) ∙ at)
-        where
-          same_some : {X : Type 0} {x y : X} → Some x ≡ Some y → x ≡ y
-          same_some h = cc
+      (place, chain, slice_get_within chains place chain at, get_or_from_slice_get chains place chain chain at, h)
 
   module _ (kept : PlacesKept) (has : HasAll chains kept) (c : Criterion) where
     under_collides : any_under kept chains one (keys_by c one) ≡ true → any_collides chains one ≡ true

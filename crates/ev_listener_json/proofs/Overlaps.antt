@@ -2,7 +2,7 @@
 use Rattle.std.proofs.Common.{◌≡◌, ℕ, ◌+◌, ◌<◌, List, [], ◌∷◌, ◌++◌, length, get_or, take, drop, map, nat_eq, Bool, true, false, ◌||◌, ◌&&◌, refl, ap, sym, ◌∙◌, arith, take-append-drop}
 use Rattle.std.specs.List.{list_any}
 use Rattle.std.proofs.lemmas.Bool.Decides.{nat_tests}
-use Rattle.std.proofs.lemmas.Bool.{false≢true}
+use Rattle.std.proofs.lemmas.Bool.{false≢true, or_right}
 use Rattle.std.proofs.lemmas.List.{take_more}
 use Rattle.std.proofs.lemmas.List.Folds.{list_any-append}
 use Rattle.ev_types.specs.FilterChains.{has_value, overlap, collide, has_collision}
@@ -24,10 +24,6 @@ overlap_by same (x ∷ a) (y ∷ b) = ap (λ t. (t && nat_eq (length (y ∷ b)) 
 abbrev pub chains_collide : List FilterChain → Bool
 chains_collide [] = false
 chains_collide (chain ∷ chains) = list_any (λ (other : FilterChain). collide chain.criteria other.criteria) chains || chains_collide chains
-
-or_true : (b : Bool) → (b || true) ≡ true
-or_true true = refl
-or_true false = refl
 
 any_map : {A B : Type 0} (p : B → Bool) (f : A → B) (xs : List A) → list_any p (map f xs) ≡ list_any (λ x. p (f x)) xs
 any_map p f [] = refl
@@ -64,7 +60,7 @@ front_collides (first ∷ chains) others h = by (list_any with_first chains) ref
     by : (t : Bool) → list_any with_first chains ≡ t → (t || chains_collide chains) ≡ true → (chains_collide chains ≡ true → chains_collide (chains ++ others) ≡ true)
         → (list_any with_first (chains ++ others) || chains_collide (chains ++ others)) ≡ true
     by true here h rest = ap (λ b. b || chains_collide (chains ++ others)) (list_any-append with_first chains others ∙ ap (λ b. b || list_any with_first others) here)
-    by false here h rest = ap (λ b. list_any with_first (chains ++ others) || b) (rest h) ∙ or_true (list_any with_first (chains ++ others))
+    by false here h rest = ap (λ b. list_any with_first (chains ++ others) || b) (rest h) ∙ or_right (list_any with_first (chains ++ others)) true refl
 
 -- in order, each with those before it
 module _ (chains : List FilterChain) (place : ℕ) (chain : FilterChain) (one : FilterChainMatch) (lt : place < length chains) (is : chain ≡ get_or chains place chain)
@@ -77,4 +73,4 @@ module _ (chains : List FilterChain) (place : ℕ) (chain : FilterChain) (one : 
   pub collides_with_earlier : any_collides (take place chains) one ≡ true → chains_collide chains ≡ true
   collides_with_earlier found =
       ap chains_collide (sym (take-append-drop (place + 1) chains))
-      ∙ front_collides (take (place + 1) chains) (drop (place + 1) chains) (one_more ∙ ap (λ b. chains_collide (take place chains) || b) found ∙ or_true (chains_collide (take place chains)))
+      ∙ front_collides (take (place + 1) chains) (drop (place + 1) chains) (one_more ∙ ap (λ b. chains_collide (take place chains) || b) found ∙ or_right (chains_collide (take place chains)) true refl)

@@ -1,10 +1,10 @@
 -- Places of chains under their keys, as more are put.
-use Rattle.std.proofs.Common.{◌≡◌, ℕ, ◌+◌, ◌<◌, ◌≤◌, Bool, true, false, cond, ◌||◌, List, [], ◌∷◌, ◌++◌, length, get_or, take, slice_get, nat_eq, Option, Some, refl, sym, ap, ◌∙◌, inl, inr, ◌⊎◌, ⊎_elim, arith, eq-or-lt_of_le}
+use Rattle.std.proofs.Common.{◌≡◌, ℕ, ◌+◌, ◌<◌, ◌≤◌, Bool, true, false, cond, ◌||◌, List, [], ◌∷◌, length, get_or, take, slice_get, nat_eq, Some, refl, sym, ap, ◌∙◌, ⊎_elim, arith, eq-or-lt_of_le}
 use Rattle.std.specs.List.{list_any}
 use Rattle.std.specs.Str.{bytes_eq}
-use Rattle.std.proofs.lemmas.Bool.{false≢true}
+use Rattle.std.proofs.lemmas.Bool.{or_left, or_right}
 use Rattle.std.proofs.lemmas.List.Folds.{list_any-append, list_any_more}
-use Rattle.std.proofs.lemmas.Option.{slice_get_within, slice_get-get_or}
+use Rattle.std.proofs.lemmas.Option.{same_Some, slice_get-get_or}
 use Rattle.ev_types.specs.Same.{bytes_decide, numbers_decide}
 use Rattle.ev_types.specs.declared.filter_chains.FilterChainMatch.{FilterChainMatch}
 use Rattle.ev_types.specs.declared.listeners.FilterChain.{FilterChain}
@@ -12,7 +12,6 @@ use Rattle.ev_listener_json.specs.declared.chain_keys.Criterion.{Criterion}
 use Rattle.ev_listener_json.specs.declared.chain_keys.Criterion.TheVariants.{Port, Range, Name, Protocol}
 use Rattle.ev_listener_json.specs.ChainKeys.{keys_by}
 use Rattle.ev_listener_json.specs.ChainPlaces.{PlacesKept, places_under, stands_under, has_key, Puts, Enters, EntersMatch, HasFirst}
-use Rattle.ev_listener_json.proofs.CollisionLemmas.{or_first, or_second}
 
 -- ---- one key
 
@@ -23,13 +22,13 @@ puts_kept : (key : List ℕ) (place : ℕ) (before after : PlacesKept) → Puts 
     → (other : List ℕ) (n : ℕ) → stands_under before other n ≡ true → stands_under after other n ≡ true
 puts_kept key place before after puts other n stands =
     ap (list_any (nat_eq n)) (puts other) ∙ list_any-append (nat_eq n) (places_under before other) (placed (bytes_eq key other) place)
-    ∙ or_first (stands_under before other n) (list_any (nat_eq n) (placed (bytes_eq key other) place)) stands
+    ∙ or_left (stands_under before other n) (list_any (nat_eq n) (placed (bytes_eq key other) place)) stands
 
 puts_own : (key : List ℕ) (place : ℕ) (before after : PlacesKept) → Puts key place before after → stands_under after key place ≡ true
 puts_own key place before after puts =
     ap (list_any (nat_eq place)) (puts key) ∙ list_any-append (nat_eq place) (places_under before key) (placed (bytes_eq key key) place)
-    ∙ or_second (stands_under before key place) (list_any (nat_eq place) (placed (bytes_eq key key) place))
-    (ap (λ t. list_any (nat_eq place) (placed t place)) ((bytes_decide key key).1 refl) ∙ or_first (nat_eq place place) false ((numbers_decide place place).1 refl))
+    ∙ or_right (stands_under before key place) (list_any (nat_eq place) (placed (bytes_eq key key) place))
+    (ap (λ t. list_any (nat_eq place) (placed t place)) ((bytes_decide key key).1 refl) ∙ or_left (nat_eq place place) false ((numbers_decide place place).1 refl))
 
 -- ---- keys in order
 
@@ -66,9 +65,6 @@ enters_match m place ports ranges names protocols a b c d e ports_are ranges_are
 
 -- ---- chains in order
 
-same_some : {X : Type 0} {x y : X} → Some x ≡ Some y → x ≡ y
-same_some h = cc
-
 -- one chain more
 pub has_more : (chains : List FilterChain) (n : ℕ) (chain : FilterChain) (m : FilterChainMatch) (before after : PlacesKept) → n < length chains → chain ≡ get_or chains n chain
     → m ≡ chain.criteria → EntersMatch m n before after → HasFirst n chains before → HasFirst (n + 1) chains after
@@ -78,6 +74,6 @@ has_more chains n chain m before after lt at is enters first place own within th
   where
     here : place ≡ n → stands_under after key place ≡ true
     here same =
-        let same_chain : own ≡ chain = same_some (sym there ∙ ap (slice_get chains) same ∙ slice_get-get_or chains n chain lt ∙ ap Some (sym at)) in
+        let same_chain : own ≡ chain = same_Some own chain (sym there ∙ ap (slice_get chains) same ∙ slice_get-get_or chains n chain lt ∙ ap Some (sym at)) in
         let match_is : own.criteria ≡ m = ap (λ (f : FilterChain). f.criteria) same_chain ∙ sym is in
         ap (stands_under after key) same ∙ enters.entered c key (ap (λ q. has_key (keys_by c q) key) (sym match_is) ∙ has)

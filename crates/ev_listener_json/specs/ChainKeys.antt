@@ -1,6 +1,6 @@
--- What filter chains are found by: the values of a criterion, as keys. A key begins with a mark, which tells the criterion and
--- whether a value is asked for.
-use Rattle.std.specs.Prelude.{ℕ, ◌++◌, Bool, if◌then◌else◌, List, [], ◌∷◌, map}
+-- What filter chains are found by: the values of a criterion, as keys. A key begins with a mark: 1 of a port, 3 of an IPv4 range,
+-- 4 of an IPv6 one, 6 of a server name, 8 of an application protocol, and 0, 2, 5 and 7 where by the criterion none is asked for.
+use Rattle.std.specs.Prelude.{ℕ, ◌++◌, if◌then◌else◌, List, [], ◌∷◌, map}
 use Rattle.std.specs.List.{flat_map}
 use Rattle.std.specs.Hash as fed
 use Rattle.ev_types.specs.declared.ips.Ip.{Ip}

@@ -1,6 +1,5 @@
 ghost use Rattle.std.specs.Prelude.{◌≡◌, ◌∷◌, IfOk, map, option_to_list};
-ghost use Rattle.ev_types.specs.FilterChains.{ports};
-ghost use Rattle.ev_listener_json.specs.ChainKeys.{number_key, text_key, bare_key, port_key, range_key, or_bare, keys_asked, keys_by};
+ghost use Rattle.ev_listener_json.specs.ChainKeys.{number_key, text_key, port_key, range_key, or_bare, keys_by};
 
 use ev_types::{CidrRange, FilterChainMatch, Ip, Text};
 use std::alloc::{AllocError, Global};

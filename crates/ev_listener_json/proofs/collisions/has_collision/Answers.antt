@@ -21,7 +21,7 @@ loop-place-preserved c =
     record {
       none = one_more chains place chain one c.loop-place-test.true c.index-chains-place.is c.get-one.ensures.value ∙ (λ i. c.loop-place.invariant.none i || apart i);
       has = has_more chains place chain one c.loop-place.places c.put_match.new.self c.loop-place-test.true c.index-chains-place.is c.get-one.ensures.value
-      c.in_ok-put_match.ensures c.loop-place.invariant.has;
+          c.in_ok-put_match.ensures c.loop-place.invariant.has;
     }
 
 pub returns : goal.returns
