@@ -5,12 +5,11 @@ ghost use Rattle.ev_script.specs.ReadTrees.{KeepsTrees};
 ghost use Rattle.ev_app.specs.Trees.{ReadsTrees};
 
 use ev_io::{Lines, ScriptFault, Source};
-use ev_script::{Forms, ScriptTrees, read_trees_with};
-use serde_json::Value;
+use ev_script::{Forms, LineTree, ScriptTrees, read_trees_with};
 use std::alloc::Global;
 
 // Reads the trees of the script that the source's bytes are, whose lines have these forms.
-pub(crate) fn read_trees_of<F: Forms<Kept = Value>, S: Source>(
+pub(crate) fn read_trees_of<F: Forms<Kept = LineTree>, S: Source>(
     alloc: Global,
     forms: &F,
     source: &mut S,

@@ -22,7 +22,7 @@ use crate::templates::template_key;
 use crate::touching::touched_by;
 use crate::waiting::Waiting;
 use ev_expand::{Due, ExpandError, Expansion, Key, Numbers, expand_with};
-use ev_script::is_op;
+use ev_script::{LineTree, is_op};
 use ev_types::{Event, Item, Name, Profile, TryCopy};
 use serde_json::{Value, json};
 use std::alloc::{AllocError, Global};
@@ -206,9 +206,9 @@ pub fn expand(
     alloc: Global,
     profile: Profile,
     head: &Value,
-    lines: &[Value],
+    lines: &[LineTree],
 ) -> Result<Vec<u8>, ExpandError>
-    ensures { IsExpanded (dns_rules profile) (view head.now) (map view lines.now) result }
+    ensures { IsExpanded (dns_rules profile) (view head.now) lines.now result }
 {
     expand_with(alloc, profile, Resolutions::new(alloc), head, lines)
 }

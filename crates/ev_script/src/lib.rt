@@ -32,9 +32,9 @@
 //! - The reader of a whole input is one loop, `read_lines_with`, over a type that says which lines there are and what
 //!   is kept of each (`Forms`): a script keeps a line as what it says. A command that reads other lines gives such a
 //!   type; the lines of a script are `ScriptLines`.
-//! - `read_trees` is the same reader over a type that keeps a line as its tree (`LineTrees`). The first line's text
-//!   is kept until the end, and the header and its tree are read from it then: the loop would else need a second type
-//!   for what is kept of a header.
+//! - `read_trees` is the same reader over a type that keeps a line as its tree (`LineTrees`), which takes the memory of the
+//!   line's text alone: whoever looks at it reads it again (`LineTree`). The first line's text is kept until the end, and
+//!   the header and its tree are read from it then: the loop would else need a second type for what is kept of a header.
 //! - A script alone and a script with a journal after it are two calls with two types: `read_script` gives a
 //!   `Script`, and `read_audited_script` an `AuditedScript`. They take the place of one call `read_script` with a
 //!   flag and an answer that has both cases, of which each caller would have to rule out one. Trees are read of whole
@@ -61,6 +61,7 @@ mod headers;
 mod health_lines;
 mod limits;
 mod line_forms;
+mod line_tree;
 mod lines;
 mod main_lines;
 mod members;
@@ -75,6 +76,7 @@ pub use fault_kinds::FaultKind;
 pub use forms::{FormedLine, Forms, ScriptLines, Settings};
 pub use header::{Header, read_header};
 pub use limits::{MAX_NUMBER, MAX_PATH_LENGTH, MAX_WORKER};
+pub use line_tree::LineTree;
 pub use lines::read_line;
 pub use members::{
     flag_at, has_only, is_op, name_at, number_at, read_name, read_tree, text_or, word_at,

@@ -13,6 +13,7 @@ ghost use Rattle.ev_script.specs.ReadTrees.{KeepsTrees, IsTreeOf, IsTreesAnswer}
 
 use crate::forms::{FormedLine, Forms, Settings, worker_of};
 use crate::header::{Header, read_header, read_settings};
+use crate::line_tree::LineTree;
 use crate::lines::read_line;
 use crate::members::read_tree;
 use crate::read_input::{ReadLines, read_lines_with};
@@ -28,11 +29,11 @@ pub struct LineTrees;
 impl Forms for LineTrees {
     ghost use Rattle.ev_script.specs.Faults.{plain_lines};
 
-    type Kept = Value;
+    type Kept = LineTree;
 
     ghost forms = { plain_lines };
 
-    ghost keeps = { λ profile at tree kept. view kept ≡ tree };
+    ghost keeps = { λ profile at tree kept. kept ≡ tree };
 
     fn read_head(&self, alloc: Global, tree: &Value) -> Result<Option<Settings>, AllocError> {
         read_settings(alloc, tree)
@@ -43,11 +44,12 @@ impl Forms for LineTrees {
         alloc: Global,
         profile: Profile,
         at: u32,
+        text: &[u8],
         tree: Value,
-    ) -> Result<Option<FormedLine<Value>>, AllocError> {
+    ) -> Result<Option<FormedLine<LineTree>>, AllocError> {
         match read_line(alloc, profile, at, &tree)? {
             Some(line) => Ok(Some(FormedLine {
-                kept: tree,
+                kept: LineTree::new(alloc, text, &tree)?,
                 worker: worker_of(line.actor),
             })),
             None => Ok(None),
@@ -63,7 +65,7 @@ pub struct ScriptTrees {
     /// The tree of the first line.
     pub head: Value,
     /// The trees of the lines after it, in order.
-    pub lines: Vec<Value>,
+    pub lines: Vec<LineTree>,
 }
 
 /// Reads the trees of a script's lines, under the faults of `read_script`. The reader of lines is a fresh one.
@@ -95,7 +97,7 @@ pub fn read_trees<S: Source>(
 ///
 /// # Errors
 /// As of `read_script`; a line of another form is one of kind 6.
-pub fn read_trees_with<S: Source, F: Forms<Kept = Value>>(
+pub fn read_trees_with<S: Source, F: Forms<Kept = LineTree>>(
     alloc: Global,
     forms: &F,
     lines: &mut Lines,
@@ -124,9 +126,13 @@ pub fn read_trees_with<S: Source, F: Forms<Kept = Value>>(
 }
 
 // The trees of a script whose first line is a header of this text.
-fn made_trees(alloc: Global, heading: &[u8], lines: Vec<Value>) -> Result<ScriptTrees, AllocError>
+fn made_trees(
+    alloc: Global,
+    heading: &[u8],
+    lines: Vec<LineTree>,
+) -> Result<ScriptTrees, AllocError>
     requires { IsSome (option_and_then header_of (tree_of heading.now)) }
-    ensures head { IfOk result (λ trees. IsTreeOf heading.now trees.head) }
+    ensures head { IfOk result (λ trees. IsTreeOf heading.now (view trees.head)) }
     ensures header { IfOk result (λ trees. header_of (view trees.head) ≡ Some trees.header) }
     ensures lines { IfOk result (λ trees. trees.lines ≡ lines) }
 {

@@ -1,4 +1,4 @@
-ghost use Rattle.std.specs.Prelude.{◌≡◌, ◌&&◌, ℕ, [], not, nat_eq, map, IfOk, OnOk};
+ghost use Rattle.std.specs.Prelude.{◌≡◌, ◌&&◌, ℕ, [], not, nat_eq, IfOk, OnOk};
 ghost use Rattle.std.specs.Str.{bytes_eq};
 ghost use Rattle.serde_json.specs.View.{view};
 ghost use Rattle.ev_expand.specs.Expanding.{IsExpanded};
@@ -16,6 +16,7 @@ use crate::looking::{Marked, look};
 use crate::references::{body_in, key_by, own_endpoints};
 use crate::waiting::Waiting;
 use ev_expand::{Due, ExpandError, Expansion, Key, Numbers, expand_with};
+use ev_script::LineTree;
 use ev_types::{Event, Item, Name, Profile};
 use indexmap::IndexSet;
 use serde_json::Value;
@@ -164,9 +165,9 @@ pub fn expand(
     alloc: Global,
     profile: Profile,
     head: &Value,
-    lines: &[Value],
+    lines: &[LineTree],
 ) -> Result<Vec<u8>, ExpandError>
-    ensures { IsExpanded (tls_rules profile) (view head.now) (map view lines.now) result }
+    ensures { IsExpanded (tls_rules profile) (view head.now) lines.now result }
 {
     expand_with(alloc, profile, Secrets::new(alloc), head, lines)
 }

@@ -44,7 +44,8 @@ pub fn to_delta(alloc: Global, trees: &ScriptTrees) -> Result<Vec<u8>, DeltaErro
     let mut names = NamesSoFar::new(alloc);
     push_tree(alloc, &mut text, &trees.head)?;
     for line in &trees.lines {
-        push_delta(alloc, &mut text, &mut names, line)?;
+        let tree = line.read(alloc)?;
+        push_delta(alloc, &mut text, &mut names, &tree)?;
     }
     Ok(text.bytes)
 }
