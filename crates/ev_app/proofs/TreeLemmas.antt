@@ -1,5 +1,5 @@
 -- Bytes have the same trees in each reading, and what the reader of trees answers.
-use Rattle.std.proofs.Common.{◌≡◌, ℕ, suc, ◌+◌, ◌<◌, true, false, IsTrue, List, [], ◌∷◌, length, Option, None, Some, Result, Ok, Err, refl, sym, ap, ap₂, subst, ◌∙◌, arith, slice_index_or}
+use Rattle.std.proofs.Common.{◌≡◌, ℕ, suc, ◌+◌, ◌<◌, true, false, IsTrue, List, [], ◌∷◌, map, length, Option, None, Some, Result, Ok, Err, refl, sym, ap, ap₂, subst, ◌∙◌, arith, slice_index_or}
 use Rattle.std.specs.Io.KnownBytes.{IsAtEnd}
 use Rattle.serde_json.specs.Data.{Data}
 use Rattle.serde_json.specs.View.{view}
@@ -12,7 +12,7 @@ use Rattle.ev_script.specs.declared.header.Header.{Header}
 use Rattle.ev_script.specs.declared.trees.ScriptTrees.{ScriptTrees}
 use Rattle.ev_script.specs.Faults.{Input, LineForms}
 use Rattle.ev_script.specs.Header.{header_of}
-use Rattle.ev_script.specs.Members.{tree_of}
+use Rattle.ev_script.specs.Members.{tree_of, tree_told}
 use Rattle.ev_script.specs.ReadInput.{input_of}
 use Rattle.ev_script.specs.ReadTrees.{IsTreesAnswer}
 use Rattle.ev_expand_laws.specs.Said.{lines_in, input_of_text}
@@ -21,8 +21,8 @@ use Rattle.ev_app.proofs.InputLemmas.{taken_input, no_byte}
 
 -- ---- bytes have the same trees in each reading
 
--- trees of one number that are the same, each by each
-same_trees : (xs ys : List Data) → length xs ≡ length ys → ((i : ℕ) (other : Data) → i < length xs → slice_index_or xs i other ≡ slice_index_or ys i other) → xs ≡ ys
+-- texts of one number that are the same trees, each by each
+same_trees : (xs ys : List (List ℕ)) → length xs ≡ length ys → ((i : ℕ) (other : List ℕ) → i < length xs → tree_told (slice_index_or xs i other) ≡ tree_told (slice_index_or ys i other)) → map tree_told xs ≡ map tree_told ys
 same_trees [] [] long each = refl
 same_trees [] (y ∷ ys) long each = absurd (omega (arith, long))
 same_trees (x ∷ xs) [] long each = absurd (omega (arith, long))
@@ -52,7 +52,7 @@ pub same_lines : (forms : LineForms) (bytes : List ℕ) (trees others : ScriptTr
 same_lines forms bytes trees others one two =
     let long : length trees.lines.items ≡ length others.lines.items = omega (arith, one.0.lines, two.0.lines) in
     same_trees trees.lines.items others.lines.items long
-    (λ i other less. one_tree (slice_index_or (lines_of bytes) (i + 1) []) (slice_index_or trees.lines.items i other) (slice_index_or others.lines.items i other)
+    (λ i other less. one_tree (slice_index_or (lines_of bytes) (i + 1) []) (tree_told (slice_index_or trees.lines.items i other)) (tree_told (slice_index_or others.lines.items i other))
     (one.1.lines i other less) (two.1.lines i other (omega (arith, less, long))))
 
 -- ---- readings

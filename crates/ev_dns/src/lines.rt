@@ -27,12 +27,13 @@ pub struct DnsLines;
 
 impl Forms for DnsLines {
     ghost use Rattle.ev_dns.specs.Lines.{dns_lines};
+    ghost use Rattle.ev_script.specs.Members.{tree_told};
 
     type Kept = LineTree;
 
     ghost forms = { dns_lines };
 
-    ghost keeps = { λ profile at tree kept. kept ≡ tree };
+    ghost keeps = { λ profile at tree kept. tree_told kept ≡ tree };
 
     fn read_head(&self, alloc: Global, tree: &Value) -> Result<Option<Settings>, AllocError> {
         LineTrees.read_head(alloc, tree)
@@ -53,7 +54,7 @@ impl Forms for DnsLines {
             return Ok(None);
         }
         Ok(Some(FormedLine {
-            kept: LineTree::new(alloc, text, &tree)?,
+            kept: LineTree::new(alloc, text)?,
             worker: None,
         }))
     }

@@ -1,6 +1,7 @@
 ghost use Rattle.std.specs.Prelude.{◌≡◌, ◌∷◌, ◌++◌, [], map, option_map, IfOk, OnOk};
 ghost use Rattle.std.specs.BTreeSet.{contains};
 ghost use Rattle.std.specs.Ordering.{nat_cmp};
+ghost use Rattle.ev_script.specs.Members.{tree_told};
 ghost use Rattle.serde_json.specs.View.{view};
 ghost use Rattle.ev_expand.specs.Expanding.{IsExpanded};
 ghost use Rattle.ev_expand.specs.Following.{due_shown};
@@ -208,7 +209,7 @@ pub fn expand(
     head: &Value,
     lines: &[LineTree],
 ) -> Result<Vec<u8>, ExpandError>
-    ensures { IsExpanded (dns_rules profile) (view head.now) lines.now result }
+    ensures { IsExpanded (dns_rules profile) (view head.now) (map tree_told lines.now) result }
 {
     expand_with(alloc, profile, Resolutions::new(alloc), head, lines)
 }

@@ -1,4 +1,5 @@
 ghost use Rattle.std.specs.Prelude.{◌≡◌, [], map, length, OnOk};
+ghost use Rattle.ev_script.specs.Members.{tree_told};
 ghost use Rattle.serde_json.specs.View.{view};
 ghost use Rattle.ev_expand.specs.Expanding.{IsExpanded, lines_due};
 ghost use Rattle.ev_expand.specs.Following.{due_shown};
@@ -112,7 +113,7 @@ pub fn expand_with<E: Expansion + Drop>(
     lines: &[LineTree],
 ) -> Result<Vec<u8>, ExpandError>
     requires { E.is_behind profile expansion [] }
-    ensures { IsExpanded (E.rules profile) (view head.now) lines.now result }
+    ensures { IsExpanded (E.rules profile) (view head.now) (map tree_told lines.now) result }
 {
     let mut expansion = expansion;
     if lines.len() >= MOST_LINES {

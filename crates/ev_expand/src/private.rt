@@ -1,5 +1,6 @@
-ghost use Rattle.std.specs.Prelude.{◌≡◌, ◌+◌, ◌^◌, ◌<◌, length, option_map, Option, IfOk};
+ghost use Rattle.std.specs.Prelude.{◌≡◌, ◌+◌, ◌^◌, ◌<◌, length, map, option_map, Option, IfOk};
 ghost use Rattle.std.specs.List.{list_any};
+ghost use Rattle.ev_script.specs.Members.{tree_told};
 ghost use Rattle.serde_json.specs.View.{view};
 ghost use Rattle.ev_expand.specs.Private.{is_private, discovery_uses, content_uses, body_uses, item_uses, named_uses, response_uses, event_uses, line_uses, first_use};
 
@@ -17,7 +18,7 @@ pub(crate) fn first_use(
     lines: &[LineTree],
 ) -> Result<Option<u32>, AllocError>
     requires { length lines.now + 2 < 2 ^ 32 }
-    ensures { IfOk result (λ line. line ≡ first_use profile prefix.now lines.now) }
+    ensures { IfOk result (λ line. line ≡ first_use profile prefix.now (map tree_told lines.now)) }
 {
     for (index, line) in lines.iter().enumerate() {
         let tree = line.read(alloc)?;

@@ -6,14 +6,14 @@ use Rattle.ev_types.specs.declared.events.Profile.{Profile}
 use Rattle.ev_io.specs.Lines.{lines_of}
 use Rattle.ev_io.specs.declared.faults.ScriptFault.{ScriptFault}
 use Rattle.ev_script.specs.declared.trees.ScriptTrees.{ScriptTrees}
-use Rattle.ev_script.specs.Members.{tree_of}
+use Rattle.ev_script.specs.Members.{tree_of, tree_told}
 use Rattle.ev_script.specs.Header.{header_of}
 use Rattle.ev_script.specs.Faults.{LineForms, Input}
 use Rattle.ev_script.specs.ReadInput.{IsTold, IsWhole}
 
 -- what is kept of a line is its tree
-abbrev pub KeepsTrees : (Profile → ℕ → Data → Data → Type 0) → Type 0
-KeepsTrees keeps = (profile : Profile) (at : ℕ) (tree kept : Data) → keeps profile at tree kept → kept ≡ tree
+abbrev pub KeepsTrees : (Profile → ℕ → Data → List ℕ → Type 0) → Type 0
+KeepsTrees keeps = (profile : Profile) (at : ℕ) (tree : Data) (kept : List ℕ) → keeps profile at tree kept → tree_told kept ≡ tree
 
 -- the text is that of this tree
 abbrev pub IsTreeOf : List ℕ → Data → Type 0
@@ -23,7 +23,7 @@ IsTreeOf text tree = tree_of text ≡ Some tree
 pub record AreTrees (texts : List (List ℕ)) (trees : ScriptTrees) : Type 0 where
   pub head : IsTreeOf (slice_index_or texts 0 []) (view trees.head)
   pub header : header_of (view trees.head) ≡ Some trees.header
-  pub lines : (i : ℕ) (other : Data) → i < length trees.lines.items → IsTreeOf (slice_index_or texts (i + 1) []) (slice_index_or trees.lines.items i other)
+  pub lines : (i : ℕ) (other : List ℕ) → i < length trees.lines.items → IsTreeOf (slice_index_or texts (i + 1) []) (tree_told (slice_index_or trees.lines.items i other))
 
 -- what an answer means: the trees of all lines of an input without fault, or the first fault of the bytes taken
 abbrev pub IsTreesAnswer : LineForms → Input → Result ScriptTrees ScriptFault → Type 0

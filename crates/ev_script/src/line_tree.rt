@@ -1,26 +1,25 @@
-ghost use Rattle.std.specs.Prelude.{◌≡◌, Some, IfOk};
+ghost use Rattle.std.specs.Prelude.{◌≡◌, IfOk, IsSome};
 ghost use Rattle.serde_json.specs.View.{view};
-ghost use Rattle.ev_script.specs.Members.{tree_of};
+ghost use Rattle.ev_script.specs.Members.{tree_of, tree_told};
 
 use crate::members::read_tree;
 use serde_json::Value;
 use std::alloc::{AllocError, Global};
 use std::marker::Model;
 
-/// The tree of a line, kept as the line's text: a tree takes some thirty times the memory. Contracts see the tree.
+/// The tree of a line, kept as the line's text: as a tree it takes some thirty times the memory. Contracts see the text.
 #[derive(Drop)]
 pub struct LineTree {
     text: Vec<u8>,
 }
 
 impl Model for LineTree {
-    ghost use Rattle.std.specs.Prelude.{◌≡◌, true, is_some, unwrap_or};
-    ghost use Rattle.serde_json.specs.Data.{Data, null};
+    ghost use Rattle.std.specs.Prelude.{◌≡◌, List, ℕ, true, is_some};
     ghost use Rattle.ev_script.specs.Members.{tree_of};
 
-    ghost Value = { Data };
+    ghost Value = { List ℕ };
 
-    ghost view = { λ l. unwrap_or (tree_of l.text.items) null };
+    ghost view = { λ l. l.text.items };
 
     ghost invariant = { λ l. is_some (tree_of l.text.items) ≡ true };
 }
@@ -30,11 +29,10 @@ impl LineTree {
     ///
     /// # Errors
     /// `AllocError` where there is no memory for the text.
-    pub fn new(alloc: Global, text: &[u8], tree: &Value) -> Result<LineTree, AllocError>
-        requires text { tree_of text.now ≡ Some (view tree.now) }
-        ensures { IfOk result (λ kept. kept ≡ view tree.now) }
+    pub fn new(alloc: Global, text: &[u8]) -> Result<LineTree, AllocError>
+        requires { IsSome (tree_of text.now) }
+        ensures { IfOk result (λ kept. kept ≡ text.now) }
     {
-        let _tree = tree;
         Ok(LineTree {
             text: text.to_vec(alloc)?,
         })
@@ -45,7 +43,7 @@ impl LineTree {
     /// # Errors
     /// `AllocError` where there is no memory for it.
     pub fn read(&self, alloc: Global) -> Result<Value, AllocError>
-        ensures { IfOk result (λ tree. view tree ≡ self.now) }
+        ensures { IfOk result (λ tree. view tree ≡ tree_told self.now) }
     {
         match read_tree(alloc, self.text.as_slice())? {
             Some(tree) => Ok(tree),

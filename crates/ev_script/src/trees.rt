@@ -28,12 +28,13 @@ pub struct LineTrees;
 
 impl Forms for LineTrees {
     ghost use Rattle.ev_script.specs.Faults.{plain_lines};
+    ghost use Rattle.ev_script.specs.Members.{tree_told};
 
     type Kept = LineTree;
 
     ghost forms = { plain_lines };
 
-    ghost keeps = { λ profile at tree kept. kept ≡ tree };
+    ghost keeps = { λ profile at tree kept. tree_told kept ≡ tree };
 
     fn read_head(&self, alloc: Global, tree: &Value) -> Result<Option<Settings>, AllocError> {
         read_settings(alloc, tree)
@@ -49,7 +50,7 @@ impl Forms for LineTrees {
     ) -> Result<Option<FormedLine<LineTree>>, AllocError> {
         match read_line(alloc, profile, at, &tree)? {
             Some(line) => Ok(Some(FormedLine {
-                kept: LineTree::new(alloc, text, &tree)?,
+                kept: LineTree::new(alloc, text)?,
                 worker: worker_of(line.actor),
             })),
             None => Ok(None),

@@ -1,5 +1,6 @@
-ghost use Rattle.std.specs.Prelude.{◌≡◌, ◌&&◌, ℕ, [], not, nat_eq, IfOk, OnOk};
+ghost use Rattle.std.specs.Prelude.{◌≡◌, ◌&&◌, ℕ, [], not, nat_eq, map, IfOk, OnOk};
 ghost use Rattle.std.specs.Str.{bytes_eq};
+ghost use Rattle.ev_script.specs.Members.{tree_told};
 ghost use Rattle.serde_json.specs.View.{view};
 ghost use Rattle.ev_expand.specs.Expanding.{IsExpanded};
 ghost use Rattle.indexmap.specs.IndexSet.{contains};
@@ -167,7 +168,7 @@ pub fn expand(
     head: &Value,
     lines: &[LineTree],
 ) -> Result<Vec<u8>, ExpandError>
-    ensures { IsExpanded (tls_rules profile) (view head.now) lines.now result }
+    ensures { IsExpanded (tls_rules profile) (view head.now) (map tree_told lines.now) result }
 {
     expand_with(alloc, profile, Secrets::new(alloc), head, lines)
 }

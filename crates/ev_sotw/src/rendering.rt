@@ -1,4 +1,5 @@
 ghost use Rattle.std.specs.Prelude.{◌≡◌, List, [], ◌∷◌, ◌++◌, map, IfOk, OnOk};
+ghost use Rattle.ev_script.specs.Members.{tree_told};
 ghost use Rattle.ev_sotw.specs.Follows.{FollowsEntries, GoesOnBy};
 ghost use Rattle.ev_sotw.specs.Stated.{Stated, sotw_line};
 ghost use Rattle.ev_sotw.specs.Text.{is_response, version_at, stated_in, sotw_text};
@@ -22,7 +23,7 @@ pub fn render_sotw(
     workers: u32,
     journal: &[Entry],
 ) -> Result<Vec<u8>, AllocError>
-    ensures { IfOk result (λ text. text.items ≡ sotw_text workers (map (stated_in lines.now) journal.now)) }
+    ensures { IfOk result (λ text. text.items ≡ sotw_text workers (map (stated_in (map tree_told lines.now)) journal.now)) }
 {
     let mut text = write_first_line(alloc, Format::Two, workers)?;
     let mut state = SotwState::new(alloc);
@@ -41,9 +42,9 @@ fn push_entry(
     lines: &[LineTree],
     entry: &Entry,
 ) -> Result<(), AllocError>
-    ensures follows { OnOk result (GoesOnBy (stated_in lines.now entry.now) state.old state.new) }
+    ensures follows { OnOk result (GoesOnBy (stated_in (map tree_told lines.now) entry.now) state.old state.new) }
     ensures line { OnOk result ((entries : List Stated) → FollowsEntries entries state.old
-        → text.new.items ≡ text.old.items ++ sotw_line entries (stated_in lines.now entry.now)) }
+        → text.new.items ≡ text.old.items ++ sotw_line entries (stated_in (map tree_told lines.now) entry.now)) }
 {
     let version = version_at(alloc, lines, entry)?;
     let line = state.line(alloc, entry, &version)?;
@@ -52,7 +53,7 @@ fn push_entry(
 
 // The version of the response that an entry answers, and the empty text where it answers none.
 fn version_at(alloc: Global, lines: &[LineTree], entry: &Entry) -> Result<Text, AllocError>
-    ensures { IfOk result (λ version. version ≡ version_at lines.now entry.now) }
+    ensures { IfOk result (λ version. version ≡ version_at (map tree_told lines.now) entry.now) }
 {
     if !is_response(&entry.event) {
         return Text::new(alloc, "");

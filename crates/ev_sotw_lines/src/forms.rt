@@ -16,12 +16,13 @@ pub struct SotwLines;
 
 impl Forms for SotwLines {
     ghost use Rattle.ev_sotw_lines.specs.Lines.{sotw_lines};
+    ghost use Rattle.ev_script.specs.Members.{tree_told};
 
     type Kept = LineTree;
 
     ghost forms = { sotw_lines };
 
-    ghost keeps = { λ profile at tree kept. kept ≡ tree };
+    ghost keeps = { λ profile at tree kept. tree_told kept ≡ tree };
 
     fn read_head(&self, alloc: Global, tree: &Value) -> Result<Option<Settings>, AllocError> {
         LineTrees.read_head(alloc, tree)
@@ -42,7 +43,7 @@ impl Forms for SotwLines {
             return Ok(None);
         }
         Ok(Some(FormedLine {
-            kept: LineTree::new(alloc, text, &tree)?,
+            kept: LineTree::new(alloc, text)?,
             worker: None,
         }))
     }
