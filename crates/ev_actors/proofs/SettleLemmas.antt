@@ -15,7 +15,7 @@ use Rattle.ev_model.proofs.RunLemmas.{world_after-more, length-held}
 use Rattle.ev_model_laws.specs.Kept.{HoldsPublished}
 use Rattle.ev_model_laws.proofs.HeldLemmas.{opens_held}
 use Rattle.ev_worker.specs.Batches.{entries_of}
-use Rattle.ev_worker.specs.Workers.{HasWorker, IsMadeFrom, IsToldBy, StandsFor, WorkerParts}
+use Rattle.ev_worker.specs.Workers.{HasWorker, IsMadeFrom, IsToldBy, IsWorkerIn, WorkerParts}
 use Rattle.ev_worker.specs.declared.lines.BatchLine.{BatchLine}
 use Rattle.ev_actors.specs.Journals.{JournalParts, WorksIn, entries_made, settle_made, with_entries, with_settled, world_behind, world_now}
 use Rattle.ev_actors.specs.Taken.{GoesOn, HasSettled, operations_in}
@@ -86,8 +86,8 @@ pub settles : (before after : JournalParts) (old prepared new : WorkerParts) (at
     → new.number ≡ prepared.number
     → new.lines ≡ []
     → IsMadeFrom new.opened new
-    → ((world : World) → StandsFor prepared world → prepared.number < length world.held → IsToldBy prepared.number closed picture world
-    → StandsFor new (settle prepared.number world).0)
+    → ((world : World) → IsWorkerIn prepared world → prepared.number < length world.held → IsToldBy prepared.number closed picture world
+    → IsWorkerIn new (settle prepared.number world).0)
     → HasSettled at n before after old new
 settles before after old prepared new at n spare closed picture kept works below entered told number lines begins leads =
     let works_on : WorksIn prepared (world_now before) =
@@ -103,7 +103,7 @@ settles before after old prepared new at n spare closed picture kept works below
         begun = new.opened;
         made = begins;
         has =
-            subst (StandsFor new) (sym (world_settled before after prepared at n entered))
+            subst (IsWorkerIn new) (sym (world_settled before after prepared at n entered))
             (leads (world_behind prepared before) (works_on.made.leads before.format (world_now before) works_on.has) fits told);
       };
     }

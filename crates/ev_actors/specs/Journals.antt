@@ -10,7 +10,7 @@ use Rattle.ev_types.specs.declared.events.Event.TheVariants.{Settle}
 use Rattle.ev_types.specs.declared.journals.Format.{Format}
 use Rattle.ev_types.specs.declared.journals.Format.TheVariants.{Two}
 use Rattle.ev_model.specs.World.{World, OpenMember, opening}
-use Rattle.ev_model.specs.Step.{step as machine_step}
+use Rattle.ev_model.specs.Step.{step}
 use Rattle.ev_model.specs.Laws.{Laws}
 use Rattle.ev_model.specs.Runs.{world_after}
 use Rattle.ev_model.specs.Operations.{IsReplay}
@@ -36,11 +36,11 @@ SufficeFor event parts = NumbersSuffice (world_now parts) event
 
 -- the machine's answer there
 abbrev pub answer_now : Actor → Event → JournalParts → Answer
-answer_now actor event parts = (machine_step parts.format (world_now parts) actor event).1
+answer_now actor event parts = (step parts.format (world_now parts) actor event).1
 
 -- an event of an actor, answered as the machine answers it there, as an entry
 abbrev pub entry_made : Actor → ℕ → ℕ → Event → JournalParts → Entry
-entry_made actor at step event parts = record { actor = actor; at = at; step = step; event = event; answer = answer_now actor event parts }
+entry_made actor at n event parts = record { actor = actor; at = at; step = n; event = event; answer = answer_now actor event parts }
 
 -- The worker works in this world: its batch was made on the picture that it holds there and the connections that it has open
 -- there. The world knows nothing of the batch yet.
@@ -59,12 +59,12 @@ world_behind worker parts = world_after parts.format (world_now parts) (entries_
 
 -- the worker's settle after them, answered as the machine answers it
 abbrev pub settle_made : WorkerParts → ℕ → ℕ → JournalParts → Entry
-settle_made worker at step parts = record {
+settle_made worker at n parts = record {
   actor = Worker worker.number;
   at = at;
-  step = step;
+  step = n;
   event = Settle;
-  answer = (machine_step parts.format (world_behind worker parts) (Worker worker.number) Settle).1;
+  answer = (step parts.format (world_behind worker parts) (Worker worker.number) Settle).1;
 }
 
 -- with these entries more
@@ -81,7 +81,7 @@ IsToldBehind worker closed picture parts = IsToldBy worker.number closed picture
 
 -- with the worker's batch and its settle
 abbrev pub with_settled : WorkerParts → ℕ → ℕ → JournalParts → JournalParts
-with_settled worker at step parts = with_entries (entries_made worker ++ settle_made worker at step parts ∷ []) parts
+with_settled worker at n parts = with_entries (entries_made worker ++ settle_made worker at n parts ∷ []) parts
 
 -- nothing was done yet
 abbrev pub nothing_done : ScriptParts → JournalParts

@@ -22,7 +22,8 @@ pub(crate) fn settle<R: Journaled>(
 ) -> Result<(), AllocError>
     requires within { worker.old.number < (R.shows journaled.old).workers }
     requires works { WorksIn worker.old (world_now (R.shows journaled.old)) }
-    ensures settled { OnOk result (HasSettled at step (R.shows journaled.old) (R.shows journaled.new) worker.old worker.new) }
+    ensures settled { OnOk result (HasSettled at step (R.shows journaled.old)
+        (R.shows journaled.new) worker.old worker.new) }
     ensures deferred { R.deferred journaled.new ≡ R.deferred journaled.old }
 {
     worker.prepare()?;
@@ -62,7 +63,8 @@ fn worker_line<R: Journaled>(
     requires working { IsAtWork worker.old.number (world_now (R.shows journaled.old)) worker.old }
     requires own { line.now.actor ≡ by_worker worker.old.number }
     requires allowed { MayMake (R.shows journaled.old).workers line.now.actor line.now.event }
-    ensures worked { OnOk result (HasWorked line.now (R.shows journaled.old) (R.shows journaled.new) worker.old worker.new) }
+    ensures worked { OnOk result (HasWorked line.now (R.shows journaled.old)
+        (R.shows journaled.new) worker.old worker.new) }
     ensures deferred { R.deferred journaled.new ≡ R.deferred journaled.old }
 {
     let joined = join(alloc, worker, line)?;

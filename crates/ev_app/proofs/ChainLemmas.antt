@@ -5,7 +5,7 @@ use Rattle.ev_io.specs.declared.faults.ScriptFault.{ScriptFault}
 use Rattle.ev_io.specs.declared.faults.ScriptFault.TheVariants.{Bad, Read, OutOfMemory as lacks_memory}
 use Rattle.ev_script.specs.Faults.{Input, IsFaultOf}
 use Rattle.ev_chain_lines.specs.Inputs.{MakesChains, IsChainsText}
-use Rattle.ev_chain_lines.specs.Inputs.{TakesInput as TakesChains}
+use Rattle.ev_chain_lines.specs.Inputs.{TakesChains}
 use Rattle.ev_chain_lines.specs.Lines.{chain_lines}
 use Rattle.ev_chain_laws.specs.Laws.{ConnectionsStay, ChainsStay}
 use Rattle.ev_app.specs.declared.commands.Command.TheVariants.{Chains}

@@ -7,7 +7,7 @@ use Rattle.ev_chain_lines.specs.Lines.{chain_lines}
 use Rattle.ev_sotw_lines.specs.Lines.{sotw_lines}
 use Rattle.ev_app.specs.declared.commands.Command.{Command}
 use Rattle.ev_app.specs.declared.commands.Command.TheVariants.{Replay, Run, Audit, Soak, Tls, Dns, Chains, Sotw, Dump}
-use Rattle.ev_secrets.specs.Sealing.{tls_rules}
+use Rattle.ev_tls_secrets.specs.Sealing.{tls_rules}
 use Rattle.ev_dns.specs.Lines.{dns_lines}
 use Rattle.ev_dns.specs.Resolving.{dns_rules}
 use Rattle.ev_app.specs.Expansions.{MakesNoText}

@@ -95,7 +95,8 @@ fn line_of_end(audited: &Audited) -> Option<u32>
 fn dump_text(alloc: Global, audited: &Audited, entries: u32) -> Result<Vec<u8>, AllocError>
     requires legal { finding_of audited.now.format audited.now.script audited.now.rows.items ≡ Legal }
     requires ends { IsTrue (ends_commit audited.now.rows.items entries) }
-    ensures { IfOk result (λ text. IsDump audited.now.format audited.now.script audited.now.rows.items entries text.items) }
+    ensures { IfOk result (λ text. IsDump audited.now.format audited.now.script audited.now.rows.items entries
+        text.items) }
 {
     let registry = state_after(
         alloc,

@@ -2,7 +2,7 @@ ghost use Rattle.std.specs.Prelude.{◌≡◌, IsSome, IfOk, OnOk};
 ghost use Rattle.std.specs.List.{list_any};
 ghost use Rattle.ev_model.specs.World.{World};
 ghost use Rattle.ev_model.specs.Operations.{Operation, is_held_by};
-ghost use Rattle.ev_model.specs.Step.{step as machine_step};
+ghost use Rattle.ev_model.specs.Step.{step};
 ghost use Rattle.ev_operations.specs.Dues.{operation_due};
 ghost use Rattle.ev_run_laws.specs.Drawing.{NumbersSuffice};
 ghost use Rattle.ev_proxy.specs.Proxies.{IsAt, IsKnown};
@@ -27,9 +27,9 @@ pub(crate) fn step_due(
     requires known { IsKnown actor here }
     requires room { (o : Operation) → operation_due script.now actor due ≡ Some o → NumbersSuffice here o.event }
     ensures at { OnOk result ((o : Operation) → operation_due script.now actor due ≡ Some o
-        → IsAt proxy.new (machine_step format here actor o.event).0) }
+        → IsAt proxy.new (step format here actor o.event).0) }
     ensures answer { IfOk result (λ answer. (o : Operation) → operation_due script.now actor due ≡ Some o
-        → answer ≡ (machine_step format here actor o.event).1) }
+        → answer ≡ (step format here actor o.event).1) }
 {
     match due {
         Due::Line(place) => {

@@ -120,7 +120,8 @@ fn is_same_actor(one: Actor, other: Actor) -> bool
 // Whether settles may be left out of the row's actor after the row, where the proxy has taken it.
 fn rests(proxy: &Proxy, format: Format, row: &Row) -> bool
     ensures { (world : World) → IsAt proxy.now world
-        → result ≡ leaves_out format (is_settle_word row.now.op && not (list_any (is_held_by row.now.actor) world.opened)) }
+        → result ≡ leaves_out format (is_settle_word row.now.op
+        && not (list_any (is_held_by row.now.actor) world.opened)) }
 {
     match format {
         Format::One => false,

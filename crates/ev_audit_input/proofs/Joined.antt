@@ -4,7 +4,7 @@ use Rattle.std.proofs.lemmas.List.{take_all, length-take}
 use Rattle.std.proofs.lemmas.Bool.{cases_lt}
 use Rattle.ev_io.specs.declared.faults.LineFault.{LineFault}
 use Rattle.ev_io.specs.Lines.{lines_of, feeds_in}
-use Rattle.ev_io.specs.LineFaults.{StandsAt, HasNoFault as HasNoLineFault, IsSoundUpTo}
+use Rattle.ev_io.specs.LineFaults.{StandsAt, HasNoLineFault, IsSoundUpTo}
 use Rattle.ev_io.specs.LinesState.{LinesState, HasTaken}
 use Rattle.ev_types.specs.Scripts.{ScriptParts}
 use Rattle.ev_types.specs.declared.journals.Format.{Format}

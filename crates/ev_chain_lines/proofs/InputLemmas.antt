@@ -13,14 +13,14 @@ use Rattle.ev_script.specs.declared.read_input.ReadLines.{ReadLines}
 use Rattle.ev_script.specs.Faults.{Input}
 use Rattle.ev_script.specs.Members.{tree_of}
 use Rattle.ev_script.specs.Content.{IsKeptOf}
-use Rattle.ev_script.specs.ReadLines.{AreKept}
+use Rattle.ev_script.specs.ReadLines.{AreLinesKept}
 use Rattle.ev_script.specs.ReadInput.{input_of, IsReadOf, IsAnswer, IsWhole, IsTold, EndsBefore}
 use Rattle.ev_chains.specs.declared.events.ChainEvent.{ChainEvent}
 use Rattle.ev_chains.specs.Events.{seen}
 use Rattle.ev_chains.specs.Steps.{Event}
 use Rattle.ev_chain_lines.specs.Lines.{event_of, chain_lines, events_from, events_behind}
 use Rattle.ev_chain_lines.specs.Texts.{chains_text}
-use Rattle.ev_chain_lines.specs.Inputs.{TakesInput, IsMadeOf, MakesChains}
+use Rattle.ev_chain_lines.specs.Inputs.{TakesChains, IsMadeOf, MakesChains}
 
 -- an event is kept, whatever the profile
 abbrev pub IsEvent : Profile → ℕ → Data → ChainEvent → Type 0
@@ -41,7 +41,7 @@ events_by profile at (text ∷ texts) (event ∷ kept) e h =
     ap (λ (found : Option Event). option_and_then (λ (l : Event). option_map (λ (ls : List Event). l ∷ ls) (events_from texts)) found) here
     ∙ ap (option_map (λ (ls : List Event). seen event ∷ ls)) others
 
-behind_first : (profile : Profile) (texts : List (List ℕ)) (kept : List ChainEvent) → length texts ≡ length kept + 1 → AreKept (IsEvent profile) texts kept → events_behind texts ≡ Some (map seen kept)
+behind_first : (profile : Profile) (texts : List (List ℕ)) (kept : List ChainEvent) → length texts ≡ length kept + 1 → AreLinesKept (IsEvent profile) texts kept → events_behind texts ≡ Some (map seen kept)
 behind_first profile [] kept long are = absurd (omega (arith, long))
 behind_first profile (first ∷ texts) kept long are =
     events_by profile 2 texts kept (omega (arith, long)) (λ i other h.
@@ -61,7 +61,7 @@ whole input read no_audit of = by_end read.journal of.ends
     by_end (Some text) ends = let no : false ≡ true = sym no_audit ∙ ends.begins.audit in cc
 
 -- the bytes taken
-taken_input : (before after : Option (List ℕ)) (state : LinesState) (bytes : List ℕ) → Takes before after bytes → HasTaken state bytes → IsWithin state → (IsTrue state.ended → IsAtEnd after) → TakesInput before after (input_of false state bytes)
+taken_input : (before after : Option (List ℕ)) (state : LinesState) (bytes : List ℕ) → Takes before after bytes → HasTaken state bytes → IsWithin state → (IsTrue state.ended → IsAtEnd after) → TakesChains before after (input_of false state bytes)
 taken_input before after state bytes takes taken within ended = record {
   asked = refl;
   taken = takes;

@@ -31,7 +31,7 @@ IsMadeOf input (Err Read) = HasNoFault chain_lines input × (¬ (IsTrue input.en
 IsMadeOf input (Err OutOfMemory) = ⊤
 
 -- these bytes were taken, at most one more than an input may have, to the end of the source where it gave that; no journal follows
-pub record TakesInput (before after : Option (List ℕ)) (input : Input) : Type 0 where
+pub record TakesChains (before after : Option (List ℕ)) (input : Input) : Type 0 where
   pub asked : input.audit ≡ false
   pub taken : Takes before after input.bytes
   pub at_most : length input.bytes ≤ MAX_INPUT_BYTES + 1
@@ -40,5 +40,5 @@ pub record TakesInput (before after : Option (List ℕ)) (input : Input) : Type 
 -- what is known of a source's bytes before and after, and what is made of the bytes taken in between
 pub record MakesChains (before after : Option (List ℕ)) (result : Result (Vec ℕ Global) ScriptFault) : Type 0 where
   pub input : Input
-  pub takes : TakesInput before after input
+  pub takes : TakesChains before after input
   pub is : IsMadeOf input result

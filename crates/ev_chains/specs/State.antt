@@ -49,16 +49,16 @@ abbrev pub number_of : Row → ℕ
 number_of row = row.number
 
 -- one of these rows has an equal chain
-abbrev pub is_among : List Row → Row → Bool
-is_among rows row = is_some (number_for row.chain rows)
+abbrev pub has_equal_chain : List Row → Row → Bool
+has_equal_chain rows row = is_some (number_for row.chain rows)
 
 -- the numbers of the rows that stay with these
 abbrev pub kept_in : List Row → List Row → List ℕ
-kept_in next rows = map number_of (filter (is_among next) rows)
+kept_in next rows = map number_of (filter (has_equal_chain next) rows)
 
 -- and of the others
 abbrev pub gone_in : List Row → List Row → List ℕ
-gone_in next rows = map number_of (filter (λ row. not (is_among next row)) rows)
+gone_in next rows = map number_of (filter (λ row. not (has_equal_chain next row)) rows)
 
 -- what changes where a listener with these chains is accepted
 abbrev pub changed_by : List Chain → ChainState → Changed

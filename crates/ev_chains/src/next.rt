@@ -30,7 +30,8 @@ pub(crate) fn read_next(
     requires apart { has_clash (map match_of serving.now) ≡ false }
     requires room { made + length (chains_of (view body.now)) < 2 ^ 32 }
     ensures reading { let chains = chains_in (view body.now) in
-        ReadsAs result (judged (rule_told (view body.now)) (record { rows = numbered made serving.now chains; made = made_by made serving.now chains })) }
+        ReadsAs result (judged (rule_told (view body.now))
+        (record { rows = numbered made serving.now chains; made = made_by made serving.now chains })) }
     ensures apart { IfOk result (λ next. has_clash (map match_of next.rows) ≡ false) }
     ensures grows { IfOk result (λ next. made ≤ next.made) }
 {

@@ -18,13 +18,13 @@ use Rattle.ev_tree.specs.Sources.{source_is_limited}
 use Rattle.ev_tree.proofs.Unions.{least_none}
 use Rattle.ev_tree.specs.Floats.{body_text_of}
 use Rattle.ev_cluster_json.specs.Assignments.{rows_of}
-use Rattle.ev_cluster_json.specs.Clusters.{name_of, holds_hosts, asks_hosts, eds_source_of, service_name_of, service_with, service_of, load_assignment_of, is_checked, own_broken, eds_broken, load_assignment_broken, cluster_broken, discovery_of, cluster_of}
+use Rattle.ev_cluster_json.specs.Clusters.{name_of, holds_hosts, asks_hosts, eds_source_of, service_name_of, service_with, service_of, load_assignment_of, is_checked, cluster_own_broken, eds_broken, load_assignment_broken, cluster_broken, discovery_of, cluster_of}
 use Rattle.ev_cluster_json.specs.Made.{name_in, discovery_with, cluster_with, made_rows, made_where}
 use Rattle.ev_cluster_json.proofs.RowsMade.{left_false, right_false, not_false, rows_made}
 
 -- the name of a cluster that breaks neither V3 nor V6
-own_name : (profile : Profile) (tree : Data) → (own_broken profile tree).v3 ≡ false → (own_broken profile tree).v6 ≡ false → is_name (name_of tree) ≡ true
-unfolding own_broken
+own_name : (profile : Profile) (tree : Data) → (cluster_own_broken profile tree).v3 ≡ false → (cluster_own_broken profile tree).v6 ≡ false → is_name (name_of tree) ≡ true
+unfolding cluster_own_broken
 own_name profile tree v3 v6 =
     let wrong = left_false _ _ (left_false _ _ (left_false _ _ (left_false _ _ v6))) in
     by_wrong (is_wrong (text_of (codes "name") tree)) (is_name (name_of tree)) wrong v3
@@ -87,7 +87,7 @@ cluster_made profile tree clear =
 
 -- the rules that the parts break are those of the tree
 pub rules_agree : (profile : Profile) (tree : Data) (by_eds in_cluster : Bool) (own eds hosts joined broken : BrokenRules) → by_eds ≡ asks_hosts profile tree → in_cluster ≡ holds_hosts profile tree
-    → own ≡ own_broken profile tree → eds ≡ eds_broken profile by_eds tree → hosts ≡ broken_where in_cluster (load_assignment_broken profile tree)
+    → own ≡ cluster_own_broken profile tree → eds ≡ eds_broken profile by_eds tree → hosts ≡ broken_where in_cluster (load_assignment_broken profile tree)
     → joined ≡ either_broken eds hosts → broken ≡ either_broken own joined → broken ≡ cluster_broken profile tree
 unfolding cluster_broken
 rules_agree profile tree by_eds in_cluster own eds hosts joined broken asks holds of_own of_eds of_hosts join all =

@@ -86,8 +86,8 @@ is_checked tree = not (length (listed (objects_of (codes "health_checks") tree))
 -- V3, in the one case that shows in the cluster alone: a name that is no name differs from each outer name.
 -- V7, by the own rules alone: the type is neither STATIC nor EDS, or a custom type is given. V11: a connect timeout is given that isn't
 -- positive.
-unfoldable pub own_broken : Profile → Data → BrokenRules
-own_broken profile tree = record none_broken {
+unfoldable pub cluster_own_broken : Profile → Data → BrokenRules
+cluster_own_broken profile tree = record none_broken {
   v3 = not (is_wrong (text_of (codes "name") tree)) && not (is_name (name_of tree));
   v6 =
       is_wrong (text_of (codes "name") tree)
@@ -122,7 +122,7 @@ load_assignment_broken profile tree = either_broken (assignment_broken profile (
 -- What a cluster breaks. The hosts that stand in it are read where its type says so, and passed over else.
 unfoldable pub cluster_broken : Profile → Data → BrokenRules
 cluster_broken profile tree =
-    either_broken (own_broken profile tree)
+    either_broken (cluster_own_broken profile tree)
     (either_broken (eds_broken profile (asks_hosts profile tree) tree) (broken_where (holds_hosts profile tree) (load_assignment_broken profile tree)))
 
 -- ---- the value

@@ -35,7 +35,8 @@ pub fn read_assignment(
 /// The rule by which an assignment is refused is the least of all that it breaks, and where there is none,
 /// it breaks none: a law of the definitions.
 pub fn assignment_rule_is_least()
-    ensures { (profile : Profile) (tree : Data) → IsLeast (rules_of (assignment_broken profile tree)) (least_of (assignment_broken profile tree)) }
+    ensures { (profile : Profile) (tree : Data) → IsLeast (rules_of (assignment_broken profile tree))
+        (least_of (assignment_broken profile tree)) }
 {}
 
 /// The assignment of these rows, if there are few enough. Health results look hosts up in it, so it is indexed.

@@ -49,7 +49,8 @@ pub fn read_cluster(alloc: Global, profile: Profile, value: &Value) -> Result<Cl
 /// The rule by which a cluster is refused is the least of all that it breaks, and where there is none, it
 /// breaks none: a law of the definitions.
 pub fn cluster_rule_is_least()
-    ensures { (profile : Profile) (tree : Data) → IsLeast (rules_of (cluster_broken profile tree)) (least_of (cluster_broken profile tree)) }
+    ensures { (profile : Profile) (tree : Data) → IsLeast (rules_of (cluster_broken profile tree))
+        (least_of (cluster_broken profile tree)) }
 {}
 
 // The name that a cluster's hosts are asked for by.
@@ -79,7 +80,8 @@ fn make_discovery(
     rows: Vec<HostRow>,
     service: &str,
 ) -> Result<Option<Discovery>, AllocError>
-    ensures { IfOk result (λ d. d ≡ discovery_with way.in_cluster way.by_eds rows.items service.now way.limited way.fresh) }
+    ensures { IfOk result (λ d. d ≡ discovery_with way.in_cluster way.by_eds rows.items service.now way.limited
+        way.fresh) }
 {
     if way.in_cluster {
         let rows = make_assignment(alloc, rows)?;

@@ -25,7 +25,8 @@ pub fn add_host(
     rank: u8,
 ) -> Result<u32, AllocError>
     ensures weight { IfOk result (λ weight. weight ≡ weight_of (view host.now)) }
-    ensures gains { OnOk result (GainsOne (host_broken profile) (host_rows profile rank) tally.old tally.new (view host.now)) }
+    ensures gains { OnOk result (GainsOne (host_broken profile) (host_rows profile rank) tally.old tally.new
+        (view host.now)) }
 {
     let HostParts {
         row,
@@ -56,7 +57,8 @@ pub fn add_hosts(
     rank: u8,
 ) -> Result<u64, AllocError>
     ensures weight { IfOk result (λ sum. sum ≡ min (sum_by weight_of (map view hosts.now)) (2 ^ 64 - 1)) }
-    ensures gains { OnOk result (GainsAll (host_broken profile) (host_rows profile rank) tally.old tally.new (map view hosts.now)) }
+    ensures gains { OnOk result (GainsAll (host_broken profile) (host_rows profile rank) tally.old tally.new
+        (map view hosts.now)) }
 {
     let mut sum = 0u64;
     for host in hosts {
@@ -112,7 +114,8 @@ pub fn add_groups(
     profile: Profile,
     groups: &[Value],
 ) -> Result<(), AllocError>
-    ensures { OnOk result (GainsAll (group_broken profile) (made_group profile) tally.old tally.new (map view groups.now)) }
+    ensures { OnOk result (GainsAll (group_broken profile) (made_group profile) tally.old tally.new
+        (map view groups.now)) }
 {
     for group in groups {
         add_group(tally, alloc, profile, group)?;

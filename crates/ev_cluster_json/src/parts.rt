@@ -3,7 +3,7 @@ ghost use Rattle.std.specs.Prelude.{◌≡◌, IfOk};
 ghost use Rattle.serde_json.specs.View.{view};
 ghost use Rattle.ev_tree.specs.Sources.{source_is_limited};
 ghost use Rattle.ev_tree.specs.Broken.{broken_where};
-ghost use Rattle.ev_cluster_json.specs.Clusters.{name_of, type_of, has_custom_type, is_in_cluster, is_by_eds, eds_source_of, service_name_of, load_assignment_of, is_checked, own_broken, eds_broken, load_assignment_broken};
+ghost use Rattle.ev_cluster_json.specs.Clusters.{name_of, type_of, has_custom_type, is_in_cluster, is_by_eds, eds_source_of, service_name_of, load_assignment_of, is_checked, cluster_own_broken, eds_broken, load_assignment_broken};
 ghost use Rattle.ev_cluster_json.specs.Made.{made_rows, made_where};
 
 use crate::groups::inspect_assignment;
@@ -47,7 +47,7 @@ pub fn inspect_own(
     ensures kind { IfOk result (λ h. h.kind ≡ type_of (view cluster.now)) }
     ensures custom { IfOk result (λ h. h.custom ≡ has_custom_type (view cluster.now)) }
     ensures checked { IfOk result (λ h. h.checked ≡ is_checked (view cluster.now)) }
-    ensures broken { IfOk result (λ h. h.broken ≡ own_broken profile (view cluster.now)) }
+    ensures broken { IfOk result (λ h. h.broken ≡ cluster_own_broken profile (view cluster.now)) }
 {
     let name = member::text(alloc, Some(cluster), "name")?;
     let kind = member::enumeration(alloc, Some(cluster), "type", EnumTable::Discovery)?;
@@ -165,8 +165,10 @@ pub fn inspect_hosts(
     cluster: &Value,
     in_cluster: bool,
 ) -> Result<Tally, AllocError>
-    ensures rows { IfOk result (λ t. t.rows.items ≡ made_where profile in_cluster (load_assignment_of (view cluster.now))) }
-    ensures broken { IfOk result (λ t. t.broken ≡ broken_where in_cluster (load_assignment_broken profile (view cluster.now))) }
+    ensures rows { IfOk result (λ t. t.rows.items ≡ made_where profile in_cluster
+        (load_assignment_of (view cluster.now))) }
+    ensures broken { IfOk result (λ t. t.broken ≡ broken_where in_cluster
+        (load_assignment_broken profile (view cluster.now))) }
 {
     if in_cluster {
         return inspect_load_assignment(alloc, profile, cluster);

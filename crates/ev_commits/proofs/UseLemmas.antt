@@ -22,7 +22,7 @@ use Rattle.ev_model_laws.proofs.PictureLemmas.{in_use_is}
 use Rattle.ev_model_laws.proofs.PlaceLemmas.{Runs}
 use Rattle.ev_model_laws.specs.Kept.{numbers_gone}
 use Rattle.ev_run_laws.proofs.InUseLemmas.{runs_use}
-use Rattle.ev_worker.specs.Workers.{SameOpen, StandsFor, WorkerParts}
+use Rattle.ev_worker.specs.Workers.{IsWorkerIn, SameOpen, WorkerParts}
 use Rattle.ev_actors.proofs.SettleLemmas.{held_now}
 use Rattle.ev_actors.proofs.SinceLemmas.{in_kept}
 use Rattle.ev_actors.proofs.WorldLemmas.{after_append}
@@ -62,7 +62,7 @@ own_used worker number opened others same any =
     (second_so (m.worker == worker) (is_open_on number m) found.2)
 
 -- what a worker names is in use in a world that it stands for
-named_used : (worker : WorkerParts) (number : ℕ) (world : World) → worker.number < length world.held → StandsFor worker world
+named_used : (worker : WorkerParts) (number : ℕ) (world : World) → worker.number < length world.held → IsWorkerIn worker world
     → is_named_by worker number ≡ true → is_in_use world number ≡ true
 named_used worker number world within stands named =
     or_so (is_shown number worker.picture.shown) (list_any (λ (m : OpenMember). (m.worker == worker.number) && is_open_on number m) worker.opened)

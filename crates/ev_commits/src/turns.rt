@@ -79,7 +79,8 @@ pub fn settle<R: Threads + Wait + Sync, J: Journaled>(
     ensures settled { IfOk result.1 (λ made. made ≡ true → HasCommitted at step
         (seen_by J.shows gate.now pass) (seen_by J.shows gate.now result.0) worker.old worker.new) }
     ensures left_out { IfOk result.1 (λ made. made ≡ false → IsLeftOut
-        (seen_by J.shows gate.now pass) (seen_by J.shows gate.now result.0) (heard_by J.shows gate.now pass) worker.old worker.new) }
+        (seen_by J.shows gate.now pass) (seen_by J.shows gate.now result.0)
+        (heard_by J.shows gate.now pass) worker.old worker.new) }
     ensures refused { OnErr result.1 (GrowsByOthers (seat_of (by_worker worker.old.number))
         (seen_by J.shows gate.now pass) (seen_by J.shows gate.now result.0)) }
     ensures as_it_was { OnErr result.1 (worker.new ≡ record worker.old { spare = worker.new.spare }) }

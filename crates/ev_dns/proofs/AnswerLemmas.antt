@@ -11,11 +11,11 @@ use Rattle.ev_expand.specs.declared.keys.Key.{Key}
 use Rattle.ev_dns.specs.declared.answers.Answers.{Answers}
 use Rattle.ev_dns.specs.declared.lines.Resolution.{Resolution}
 use Rattle.ev_dns.specs.Lines.{resolution_in}
-use Rattle.ev_dns.specs.Answers.{resolutions_in, is_of, is_answered, success_of, each_once, last_success, is_complete}
+use Rattle.ev_dns.specs.Answers.{resolutions_in, is_of, is_answered, success_of, names_once, last_success, is_complete}
 use Rattle.ev_dns.specs.Known.{has_answer, known_addresses, later_addresses, TakesGiven, has_row, has_all}
 use Rattle.ev_dns.specs.Waiting.{is_named}
 use Rattle.ev_dns.specs.State.{AreAnswers}
-use Rattle.ev_dns.specs.Templates.{rows_of}
+use Rattle.ev_dns.specs.Templates.{template_rows}
 use Rattle.ev_dns.proofs.PairLemmas.{all_same}
 
 pub last-append : {A : Type 0} (o : Option A) (xs ys : List A) → last_or o (xs ++ ys) ≡ last_or (last_or o xs) ys
@@ -40,7 +40,7 @@ any_more name rs (Some r) = list_any-append (is_of name) rs (r ∷ []) ∙ swapp
 resolutions_now : (before : List Data) (line : Data) → resolutions_in (before ++ line ∷ []) ≡ resolutions_in before ++ cons_option (resolution_in line) []
 resolutions_now before line = filter_map-append resolution_in before (line ∷ [])
 
-later_more : (l given : Option (List (List ℕ))) → later_addresses (each_once (unwrap_or l [])) given ≡ each_once (unwrap_or (last_or l (cons_option given [])) [])
+later_more : (l given : Option (List (List ℕ))) → later_addresses (names_once (unwrap_or l [])) given ≡ names_once (unwrap_or (last_or l (cons_option given [])) [])
 later_more l None = refl
 later_more l (Some names) = refl
 
@@ -53,13 +53,13 @@ answered_after : (old new : Answers) (rs : List Resolution) (o : Option Resoluti
 answered_after old new rs None takes name was = ap (λ (a : Answers). has_answer a name) takes ∙ was ∙ sym (any_more name rs None)
 answered_after old new rs (Some r) takes name was = takes.answered name ∙ ap (λ (b : Bool). bytes_eq r.name name || b) was ∙ sym (any_more name rs (Some r))
 
-addresses_after : (old new : Answers) (rs : List Resolution) (o : Option Resolution) → TakesGiven old new o → (name : List ℕ) → known_addresses old name ≡ each_once (unwrap_or (last_success name rs) [])
-    → known_addresses new name ≡ each_once (unwrap_or (last_success name (rs ++ cons_option o [])) [])
+addresses_after : (old new : Answers) (rs : List Resolution) (o : Option Resolution) → TakesGiven old new o → (name : List ℕ) → known_addresses old name ≡ names_once (unwrap_or (last_success name rs) [])
+    → known_addresses new name ≡ names_once (unwrap_or (last_success name (rs ++ cons_option o [])) [])
 addresses_after old new rs None takes name was =
-    ap (λ (a : Answers). known_addresses a name) takes ∙ was ∙ ap (λ (xs : List Resolution). each_once (unwrap_or (last_success name xs) [])) (sym (append-nil rs))
+    ap (λ (a : Answers). known_addresses a name) takes ∙ was ∙ ap (λ (xs : List Resolution). names_once (unwrap_or (last_success name xs) [])) (sym (append-nil rs))
 addresses_after old new rs (Some r) takes name was =
     takes.addresses name ∙ ap (λ (known : List (List ℕ)). later_addresses known (success_of name r)) was ∙ later_more (last_success name rs) (success_of name r)
-    ∙ ap (λ (o : Option (List (List ℕ))). each_once (unwrap_or o [])) (sym (last_more name rs r))
+    ∙ ap (λ (o : Option (List (List ℕ))). names_once (unwrap_or o [])) (sym (last_more name rs r))
 
 -- with the resolution of a line the answers are those in one line more
 pub answers_after : (old new : Answers) (before : List Data) (line : Data) → AreAnswers old before → TakesGiven old new (resolution_in line) → AreAnswers new (before ++ line ∷ [])
@@ -69,13 +69,13 @@ answers_after old new before line are takes =
           answered_after old new (resolutions_in before) (resolution_in line) takes name (are.answered name) ∙ ap (list_any (is_of name)) (sym (resolutions_now before line));
       addresses = λ name.
           addresses_after old new (resolutions_in before) (resolution_in line) takes name (are.addresses name)
-          ∙ ap (λ (rs : List Resolution). each_once (unwrap_or (last_success name rs) [])) (sym (resolutions_now before line));
+          ∙ ap (λ (rs : List Resolution). names_once (unwrap_or (last_success name rs) [])) (sym (resolutions_now before line));
     }
 
 -- ---- what is complete
 
 pub complete_as : (answers : Answers) (lines : List Data) (key : Key) → AreAnswers answers lines → has_all answers key ≡ is_complete lines key
-complete_as answers lines key are = all_same (has_row answers) (λ (row : HostRowParts). is_answered lines row.host.address) (rows_of key) (λ row. are.answered row.host.address)
+complete_as answers lines key are = all_same (has_row answers) (λ (row : HostRowParts). is_answered lines row.host.address) (template_rows key) (λ row. are.answered row.host.address)
 
 -- with a resolution a name is answered by it, or was before
 pub answered_more : (old new : Answers) (o : Option Resolution) → TakesGiven old new o → (name : List ℕ) → has_answer new name ≡ (is_named (option_map (λ (r : Resolution). r.name) o) name || has_answer old name)
@@ -84,7 +84,7 @@ answered_more old new (Some r) takes name = takes.answered name
 
 -- ---- the addresses after a resolution
 
-pub later_given : (b : Bool) (known names : List (List ℕ)) → cond b (each_once names) known ≡ later_addresses known (cond b (Some names) None)
+pub later_given : (b : Bool) (known names : List (List ℕ)) → cond b (names_once names) known ≡ later_addresses known (cond b (Some names) None)
 later_given true known names = refl
 later_given false known names = refl
 

@@ -6,7 +6,7 @@ use Rattle.std.proofs.lemmas.List.{append-nil}
 use Rattle.std.proofs.lemmas.List.Elements.{filter-append}
 use Rattle.indexmap.specs.IndexSet.{insert_key, insert_all}
 use Rattle.ev_types.specs.Same.{bytes_decide}
-use Rattle.ev_dns.specs.Answers.{each_once}
+use Rattle.ev_dns.specs.Answers.{names_once}
 
 -- equal names are the same as another
 same_as : (a b one : List ℕ) → bytes_eq a b ≡ true → bytes_eq one a ≡ bytes_eq one b
@@ -35,17 +35,17 @@ once_at false true one first names is here = rw (any_kept one first names is, he
 once_at false false one first names is here = rw (any_kept one first names is, here) (ap (λ xs. first ∷ xs) (filter-append (λ other. not (bytes_eq other first)) names (one ∷ []) ∙ rw is))
 
 -- one more after the others
-pub once-push : (names : List (List ℕ)) (one : List ℕ) → each_once (names ++ one ∷ []) ≡ insert_key bytes_eq (each_once names) one
+pub once-push : (names : List (List ℕ)) (one : List ℕ) → names_once (names ++ one ∷ []) ≡ insert_key bytes_eq (names_once names) one
 once-push [] one = refl
 once-push (first ∷ names) one =
     ap (λ xs. first ∷ filter (λ other. not (bytes_eq other first)) xs) (once-push names one)
-    ∙ once_at (bytes_eq one first) (list_any (bytes_eq one) (each_once names)) one first (each_once names) refl refl
+    ∙ once_at (bytes_eq one first) (list_any (bytes_eq one) (names_once names)) one first (names_once names) refl refl
 
 -- names that are put after those of a set one after another occur there once
-once_behind : (names more : List (List ℕ)) → insert_all bytes_eq (each_once names) more ≡ each_once (names ++ more)
-once_behind names [] = ap each_once (sym (append-nil names))
+once_behind : (names more : List (List ℕ)) → insert_all bytes_eq (names_once names) more ≡ names_once (names ++ more)
+once_behind names [] = ap names_once (sym (append-nil names))
 once_behind names (one ∷ more) =
-    ap (λ (xs : List (List ℕ)). insert_all bytes_eq xs more) (sym (once-push names one)) ∙ once_behind (names ++ one ∷ []) more ∙ ap each_once (append_assoc names (one ∷ []) more)
+    ap (λ (xs : List (List ℕ)). insert_all bytes_eq xs more) (sym (once-push names one)) ∙ once_behind (names ++ one ∷ []) more ∙ ap names_once (append_assoc names (one ∷ []) more)
 
-pub once_all : (names : List (List ℕ)) → insert_all bytes_eq [] names ≡ each_once names
+pub once_all : (names : List (List ℕ)) → insert_all bytes_eq [] names ≡ names_once names
 once_all names = once_behind [] names

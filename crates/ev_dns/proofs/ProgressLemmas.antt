@@ -14,7 +14,7 @@ use Rattle.ev_dns.specs.declared.places.Places.{Places}
 use Rattle.ev_dns.specs.declared.waiting.Waiting.{Waiting}
 use Rattle.ev_dns.specs.Known.{has_answer, has_row, has_all, stands_under}
 use Rattle.ev_dns.specs.Marking.{is_listed, passes_at}
-use Rattle.ev_dns.specs.Templates.{rows_of, has_name}
+use Rattle.ev_dns.specs.Templates.{template_rows, has_name}
 use Rattle.ev_dns.specs.Waiting.{is_named, complete_at, is_waiting, HavePassed, AreWaiting, Wakes, Advances, AreComplete, EntersComplete}
 use Rattle.ev_dns.proofs.WaitingLemmas.{or_second, any_so, all_so, complete_here}
 
@@ -67,7 +67,7 @@ module _ (old new : Answers) (name : Option (List ℕ)) (gs all others : List Gu
   row_still row h = went.answered row.host.address ∙ or_second (is_named name row.host.address) (has_row old row) h
 
   all_still : (g : Guarded) → has_all old g.key ≡ true → has_all new g.key ≡ true
-  all_still g = all_so (has_row old) (has_row new) row_still (rows_of g.key)
+  all_still g = all_so (has_row old) (has_row new) row_still (template_rows g.key)
 
   complete_still : (n : ℕ) → complete_at old gs n ≡ true → complete_at new all n ≡ true
   complete_still n h =
@@ -86,7 +86,7 @@ module _ (old new : Answers) (name : Option (List ℕ)) (gs all others : List Gu
   still_waiting : (n : ℕ) (g : Guarded) → slice_get all n ≡ Some g → is_listed woken n ≡ false → has_all old g.key ≡ false → is_waiting new after n g.key ≡ true
   still_waiting n g at asleep none =
       any_so (λ (r : HostRowParts). not (has_row old r) && stands_under before.under r.host.address n) (λ (r : HostRowParts). not (has_row new r) && stands_under after r.host.address n)
-      (λ r. by r (has_row old r) refl) (rows_of g.key) (went.was.waits n g (old_place n g at asleep) none)
+      (λ r. by r (has_row old r) refl) (template_rows g.key) (went.was.waits n g (old_place n g at asleep) none)
     where
       here : (r : HostRowParts) (t : Bool) → is_named name r.host.address ≡ t → has_row old r ≡ false → stands_under before.under r.host.address n ≡ true → (not (has_row new r) && stands_under after r.host.address n) ≡ true
       here r true named unanswered stands = absurd (both_ways (is_listed woken n) (went.wakes.taken r.host.address n named stands) asleep)
@@ -125,7 +125,7 @@ module _ (old new : Answers) (name : Option (List ℕ)) (gs all others : List Gu
           let there = complete_there new all n now in
           let none : has_all old there.0.key ≡ false = sym (complete_here old gs n there.0 (old_place n there.0 there.1 asleep)) ∙ was in
           absurd (both_ways (has_all new there.0.key) there.2
-          (open_where (has_row new) (λ (r : HostRowParts). stands_under after r.host.address n) (rows_of there.0.key) (still_waiting n there.0 there.1 asleep none)))
+          (open_where (has_row new) (λ (r : HostRowParts). stands_under after r.host.address n) (template_rows there.0.key) (still_waiting n there.0 there.1 asleep none)))
 
   joined : (w f c : Bool) → (w ≡ true → c ≡ true) → (f ≡ true → c ≡ true) → (c ≡ true → w ≡ false → f ≡ true) → (w || f) ≡ c
   joined true f c still sound whole = sym (still refl)
@@ -169,10 +169,10 @@ module _ (old new : Answers) (name : Option (List ℕ)) (gs all others : List Gu
 pub passed_still : (old new : Answers) (name : Option (List ℕ)) (gs all others : List Guarded) (before after : List ℕ) → ((other : List ℕ) → has_answer new other ≡ (is_named name other || has_answer old other))
     → IsExtended gs all others → length before ≡ length gs → ((n : ℕ) → get_or after n 0 ≡ get_or before n 0) → HavePassed old gs before → HavePassed new all after
 passed_still old new name gs all others before after answered e counted same had n g at =
-    ap (λ (m : ℕ). list_all (has_row new) (take m (rows_of g.key))) (same n) ∙ by (cases_lt n (length gs))
+    ap (λ (m : ℕ). list_all (has_row new) (take m (template_rows g.key))) (same n) ∙ by (cases_lt n (length gs))
   where
-    by : (n < length gs) ⊎ (length gs ≤ n) → list_all (has_row new) (take (get_or before n 0) (rows_of g.key)) ≡ true
+    by : (n < length gs) ⊎ (length gs ≤ n) → list_all (has_row new) (take (get_or before n 0) (template_rows g.key)) ≡ true
     by (inl within) =
-        all_so (has_row old) (has_row new) (λ row h. answered row.host.address ∙ or_second (is_named name row.host.address) (has_row old row) h) (take (get_or before n 0) (rows_of g.key))
+        all_so (has_row old) (has_row new) (λ row h. answered row.host.address ∙ or_second (is_named name row.host.address) (has_row old row) h) (take (get_or before n 0) (template_rows g.key))
         (had n g (sym (first_get gs e.more n within) ∙ ap (λ (xs : List Guarded). slice_get xs n) (sym e.grown) ∙ at))
-    by (inr past) = let none : get_or before n 0 ≡ 0 = get_or_past before n 0 (omega (arith, past, counted)) in ap (λ (m : ℕ). list_all (has_row new) (take m (rows_of g.key))) none
+    by (inr past) = let none : get_or before n 0 ≡ 0 = get_or_past before n 0 (omega (arith, past, counted)) in ap (λ (m : ℕ). list_all (has_row new) (take m (template_rows g.key))) none

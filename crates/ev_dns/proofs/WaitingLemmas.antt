@@ -14,7 +14,7 @@ use Rattle.ev_dns.specs.declared.complete.Complete.{Complete}
 use Rattle.ev_dns.specs.declared.places.Places.{Places}
 use Rattle.ev_dns.specs.Known.{has_row, has_all, places_under, stands_under, Enters, EntersAll, Leaves, KeepsUnder}
 use Rattle.ev_dns.specs.Marking.{is_listed, passes_at}
-use Rattle.ev_dns.specs.Templates.{rows_of, has_name}
+use Rattle.ev_dns.specs.Templates.{template_rows, has_name}
 use Rattle.ev_dns.specs.Waiting.{complete_at, is_waiting, HavePassed, Wakes, Advances, AdvancesOne, EntersComplete}
 
 pub some_same : {A : Type 0} (x y : A) → Some x ≡ Some y → x ≡ y
@@ -120,15 +120,15 @@ set_at (x ∷ xs) (suc i) v (suc n) = one (set_at xs i v n)
     one (inr here) = inr (ap suc here.0, here.1)
 
 -- the count of one place is set
-pub passed_set : (answers : Answers) (gs : List Guarded) (place count : ℕ) (g : Guarded) (old : List ℕ) → slice_get gs place ≡ Some g → list_all (has_row answers) (take count (rows_of g.key)) ≡ true
+pub passed_set : (answers : Answers) (gs : List Guarded) (place count : ℕ) (g : Guarded) (old : List ℕ) → slice_get gs place ≡ Some g → list_all (has_row answers) (take count (template_rows g.key)) ≡ true
     → HavePassed answers gs old → HavePassed answers gs (set old place count)
 passed_set answers gs place count g old at passes had n x here = by (set_at old place count n)
   where
-    by : (get_or (set old place count) n 0 ≡ get_or old n 0) ⊎ ((n ≡ place) × (get_or (set old place count) n 0 ≡ count)) → list_all (has_row answers) (take (get_or (set old place count) n 0) (rows_of x.key)) ≡ true
-    by (inl same) = ap (λ (m : ℕ). list_all (has_row answers) (take m (rows_of x.key))) same ∙ had n x here
+    by : (get_or (set old place count) n 0 ≡ get_or old n 0) ⊎ ((n ≡ place) × (get_or (set old place count) n 0 ≡ count)) → list_all (has_row answers) (take (get_or (set old place count) n 0) (template_rows x.key)) ≡ true
+    by (inl same) = ap (λ (m : ℕ). list_all (has_row answers) (take m (template_rows x.key))) same ∙ had n x here
     by (inr one) =
         let own : x ≡ g = some_same x g (sym here ∙ ap (slice_get gs) one.0 ∙ at) in
-        ap₂ (λ (m : ℕ) (y : Guarded). list_all (has_row answers) (take m (rows_of y.key))) one.1 own ∙ passes
+        ap₂ (λ (m : ℕ) (y : Guarded). list_all (has_row answers) (take m (template_rows y.key))) one.1 own ∙ passes
 
 pub complete_here : (answers : Answers) (gs : List Guarded) (n : ℕ) (g : Guarded) → slice_get gs n ≡ Some g → complete_at answers gs n ≡ has_all answers g.key
 complete_here answers gs n g at = ap (λ (o : Option Guarded). unwrap_or (option_map (λ (x : Guarded). has_all answers x.key) o) false) at
@@ -149,21 +149,21 @@ only_place place n h = (numbers_decide place n).0 (sym (or_none (nat_eq place n)
 
 -- a place that isn't complete is put under the first name that it still waits for
 pub advances_waiting : (answers : Answers) (gs : List Guarded) (place count : ℕ) (g : Guarded) (row : HostRowParts) (before after : Places) (done : List ℕ) → slice_get gs place ≡ Some g
-    → slice_get (rows_of g.key) count ≡ Some row → has_row answers row ≡ false → Enters before after row.host.address place → AdvancesOne answers gs place before after done done
+    → slice_get (template_rows g.key) count ≡ Some row → has_row answers row ≡ false → Enters before after row.host.address place → AdvancesOne answers gs place before after done done
 advances_waiting answers gs place count g row before after done at next lacks enters = record {
   kept = stands_still before after row.host.address place enters;
   waits = λ x here none. ap (λ (y : Guarded). is_waiting answers after place y.key) (some_same x g (sym here ∙ at))
-      ∙ found_any (λ (r : HostRowParts). not (has_row answers r) && stands_under after r.host.address place) (rows_of g.key) count row next
+      ∙ found_any (λ (r : HostRowParts). not (has_row answers r) && stands_under after r.host.address place) (template_rows g.key) count row next
       (ap₂ (λ (a b : Bool). not a && b) lacks (stands_own before after row.host.address place enters));
   finished = λ n. nothing_more (is_listed done n) (is_listed (place ∷ []) n) (complete_at answers gs n)
-      (λ same. ap (complete_at answers gs) (sym (only_place place n same)) ∙ complete_here answers gs place g at ∙ lacks_all (has_row answers) (rows_of g.key) count row next lacks);
+      (λ same. ap (complete_at answers gs) (sym (only_place place n same)) ∙ complete_here answers gs place g at ∙ lacks_all (has_row answers) (template_rows g.key) count row next lacks);
 }
 
 -- a place that is complete is finished
 pub advances_finished : (answers : Answers) (gs : List Guarded) (place count : ℕ) (g : Guarded) (under : Places) (old new : List ℕ) → slice_get gs place ≡ Some g
-    → length (rows_of g.key) ≤ count → list_all (has_row answers) (take count (rows_of g.key)) ≡ true → new ≡ old ++ place ∷ [] → AdvancesOne answers gs place under under old new
+    → length (template_rows g.key) ≤ count → list_all (has_row answers) (take count (template_rows g.key)) ≡ true → new ≡ old ++ place ∷ [] → AdvancesOne answers gs place under under old new
 advances_finished answers gs place count g under old new at past passes put =
-    let whole : has_all answers g.key ≡ true = ap (list_all (has_row answers)) (sym (take_all count (rows_of g.key) past)) ∙ passes in
+    let whole : has_all answers g.key ≡ true = ap (list_all (has_row answers)) (sym (take_all count (template_rows g.key) past)) ∙ passes in
     record {
       kept = λ b n stands. stands;
       waits = λ x here none. absurd (both (has_all answers x.key) (ap (λ (y : Guarded). has_all answers y.key) (some_same x g (sym here ∙ at)) ∙ whole) none);
@@ -210,7 +210,7 @@ advances_more answers gs places i place before mid after old new below is so_far
     by : (n : ℕ) (g : Guarded) → slice_get gs n ≡ Some g → has_all answers g.key ≡ false → (t : Bool) → is_listed (take i places) n ≡ t → (t || is_listed (place ∷ []) n) ≡ true → is_waiting answers after n g.key ≡ true
     by n g here none true has h =
         any_so (λ (r : HostRowParts). not (has_row answers r) && stands_under mid r.host.address n) (λ (r : HostRowParts). not (has_row answers r) && stands_under after r.host.address n)
-        (λ r. and_so (not (has_row answers r)) (stands_under mid r.host.address n) (stands_under after r.host.address n) (one.kept r.host.address n)) (rows_of g.key) (so_far.waits n g here has none)
+        (λ r. and_so (not (has_row answers r)) (stands_under mid r.host.address n) (stands_under after r.host.address n) (one.kept r.host.address n)) (template_rows g.key) (so_far.waits n g here has none)
     by n g here none false has h =
         let same : place ≡ n = only_place place n h in
         ap (λ (m : ℕ). is_waiting answers after m g.key) (sym same) ∙ one.waits g (ap (slice_get gs) same ∙ here) none

@@ -7,7 +7,7 @@ use Rattle.ev_types.specs.Hosts.{HostRowParts}
 use Rattle.ev_expand.specs.declared.keys.Key.{Key}
 use Rattle.ev_dns.specs.declared.lines.Resolution.{Resolution}
 use Rattle.ev_dns.specs.Lines.{resolution_in}
-use Rattle.ev_dns.specs.Templates.{rows_of}
+use Rattle.ev_dns.specs.Templates.{template_rows}
 
 -- the resolutions in these lines
 abbrev pub resolutions_in : List Data → List Resolution
@@ -26,9 +26,9 @@ abbrev pub success_of : List ℕ → Resolution → Option (List (List ℕ))
 success_of name resolution = if is_of name resolution then resolution.addresses else None
 
 -- each of these once, in the order of first appearance
-abbrev pub each_once : List (List ℕ) → List (List ℕ)
-each_once [] = []
-each_once (first ∷ others) = first ∷ filter (λ other. not (bytes_eq other first)) (each_once others)
+abbrev pub names_once : List (List ℕ) → List (List ℕ)
+names_once [] = []
+names_once (first ∷ others) = first ∷ filter (λ other. not (bytes_eq other first)) (names_once others)
 
 -- what the last success among these gives for the name
 abbrev pub last_success : List ℕ → List Resolution → Option (List (List ℕ))
@@ -36,8 +36,8 @@ last_success name resolutions = last_or None (filter_map (λ resolution. success
 
 -- the addresses of a name: those of its last success, or none
 abbrev pub addresses_of : List Data → List ℕ → List (List ℕ)
-addresses_of lines name = each_once (unwrap_or (last_success name (resolutions_in lines)) [])
+addresses_of lines name = names_once (unwrap_or (last_success name (resolutions_in lines)) [])
 
 -- each host name of the template was answered
 abbrev pub is_complete : List Data → Key → Bool
-is_complete lines key = list_all (λ (row : HostRowParts). is_answered lines row.host.address) (rows_of key)
+is_complete lines key = list_all (λ (row : HostRowParts). is_answered lines row.host.address) (template_rows key)

@@ -4,7 +4,7 @@ use Rattle.serde_json.specs.Data.{Data, number, unsigned, string, array, object,
 use Rattle.serde_json.specs.View.{items_of}
 use Rattle.ev_types.specs.Hosts.{HostRowParts}
 use Rattle.ev_expand.specs.declared.keys.Key.{Key}
-use Rattle.ev_dns.specs.Templates.{rows_of}
+use Rattle.ev_dns.specs.Templates.{template_rows}
 
 -- the row with this address in place of its host name
 abbrev pub with_address : HostRowParts → List ℕ → HostRowParts
@@ -17,7 +17,7 @@ resolved_rows addresses rows =
 
 -- the hosts of a template, where names have these addresses
 abbrev pub hosts_with : (List ℕ → List (List ℕ)) → Key → List HostRowParts
-hosts_with addresses key = resolved_rows addresses (rows_of key)
+hosts_with addresses key = resolved_rows addresses (template_rows key)
 
 -- ---- endpoints
 

@@ -10,10 +10,10 @@ use Rattle.ev_expand.specs.Guarding.{Guarded}
 use Rattle.ev_dns.specs.declared.answers.Answers.{Answers}
 use Rattle.ev_dns.specs.declared.lines.Resolution.{Resolution}
 use Rattle.ev_dns.specs.declared.places.Places.{Places}
-use Rattle.ev_dns.specs.Answers.{each_once, is_of, success_of}
+use Rattle.ev_dns.specs.Answers.{is_of, names_once, success_of}
 use Rattle.ev_dns.specs.Hosts.{hosts_with, endpoints_tree}
 use Rattle.ev_dns.specs.Marking.{is_listed}
-use Rattle.ev_dns.specs.Templates.{rows_of, has_name}
+use Rattle.ev_dns.specs.Templates.{template_rows, has_name}
 
 -- the name was answered
 abbrev pub has_answer : Answers → List ℕ → Bool
@@ -35,7 +35,7 @@ GivesOne old new name addresses = (other : List ℕ) → known_addresses new oth
 -- the addresses after what a resolution says: where it says nothing of them, those of before
 abbrev pub later_addresses : List (List ℕ) → Option (List (List ℕ)) → List (List ℕ)
 later_addresses before None = before
-later_addresses before (Some addresses) = each_once addresses
+later_addresses before (Some addresses) = names_once addresses
 
 -- these take a resolution
 pub record Takes (old new : Answers) (resolution : Resolution) : Type 0 where
@@ -54,7 +54,7 @@ has_row answers row = has_answer answers row.host.address
 
 -- all host names of the template were answered
 abbrev pub has_all : Answers → Key → Bool
-has_all answers key = list_all (has_row answers) (rows_of key)
+has_all answers key = list_all (has_row answers) (template_rows key)
 
 -- ---- what is due
 

@@ -18,8 +18,8 @@ use Rattle.ev_dns.specs.Answers.{addresses_of, is_complete}
 use Rattle.ev_dns.specs.Hosts.{hosts_with, endpoints_tree}
 
 -- the hosts of a template after these lines
-abbrev pub hosts_of : List Data → Key → List HostRowParts
-hosts_of lines key = hosts_with (addresses_of lines) key
+abbrev pub resolved_hosts : List Data → Key → List HostRowParts
+resolved_hosts lines key = hosts_with (addresses_of lines) key
 
 -- the line has a guarded resource of the key
 abbrev pub has_guarded : Profile → Data → Key → Bool
@@ -52,7 +52,7 @@ dns_rules profile = record {
   guard = by_names profile;
   is_written = is_written;
   is_due = is_due profile;
-  endpoints_of = λ lines g. Some (endpoints_tree (hosts_of lines g.key));
+  endpoints_of = λ lines g. Some (endpoints_tree (resolved_hosts lines g.key));
 }
 
 -- the text of a script's header and lines, which are read in this profile

@@ -88,9 +88,9 @@ rows_in (Eds service limited fresh) = []
 rows_in Elsewhere = []
 
 -- the hosts of a template: their addresses are host names
-abbrev pub rows_of : Key → List HostRowParts
-rows_of key = rows_in key.cluster.discovery
+abbrev pub template_rows : Key → List HostRowParts
+template_rows key = rows_in key.cluster.discovery
 
 -- a host of the template has this name
 abbrev pub has_name : List ℕ → Key → Bool
-has_name name key = list_any (λ (row : HostRowParts). bytes_eq row.host.address name) (rows_of key)
+has_name name key = list_any (λ (row : HostRowParts). bytes_eq row.host.address name) (template_rows key)

@@ -13,7 +13,7 @@ use Rattle.ev_dns.specs.declared.places.Places.{Places}
 use Rattle.ev_dns.specs.declared.waiting.Waiting.{Waiting}
 use Rattle.ev_dns.specs.Known.{has_row, has_all, places_under, stands_under, KeepsUnder}
 use Rattle.ev_dns.specs.Marking.{Gains, is_listed, passes_at}
-use Rattle.ev_dns.specs.Templates.{rows_of, has_name}
+use Rattle.ev_dns.specs.Templates.{template_rows, has_name}
 
 -- there is a name, and it is this one
 abbrev pub is_named : Option (List ℕ) → List ℕ → Bool
@@ -30,12 +30,12 @@ complete_at answers guarded place = passes_at (λ g. has_all answers g.key) guar
 abbrev pub is_waiting : Answers → Places → ℕ → Key → Bool
 is_waiting answers under place key = list_any
     (λ (row : HostRowParts). not (has_row answers row) && stands_under under row.host.address place)
-    (rows_of key)
+    (template_rows key)
 
 -- as many hosts of each place as are counted, from the first on, were answered
 abbrev pub HavePassed : Answers → List Guarded → List ℕ → Type 0
 HavePassed answers guarded passed = (place : ℕ) (g : Guarded) → slice_get guarded place ≡ Some g
-    → list_all (has_row answers) (take (slice_index passed place) (rows_of g.key)) ≡ true
+    → list_all (has_row answers) (take (slice_index passed place) (template_rows g.key)) ≡ true
 
 -- the same is counted for each place
 abbrev pub CountsAs : List ℕ → List ℕ → Type 0

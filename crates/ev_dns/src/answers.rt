@@ -2,7 +2,7 @@ ghost use Rattle.std.specs.Prelude.{◌≡◌, ℕ, [], List, false, true, take,
 ghost use Rattle.std.specs.List.{list_all};
 ghost use Rattle.std.specs.Str.{bytes_eq};
 ghost use Rattle.indexmap.specs.IndexSet.{insert_all};
-ghost use Rattle.ev_dns.specs.Answers.{each_once};
+ghost use Rattle.ev_dns.specs.Answers.{names_once};
 ghost use Rattle.ev_dns.specs.Known.{AnswersOne, GivesOne, Takes, has_answer, has_row, known_addresses};
 
 use crate::lines::Resolution;
@@ -85,7 +85,7 @@ impl Answers {
 
 // Each of these names once, in the order of first appearance.
 fn each_once(alloc: Global, names: Seq<Name>) -> Result<IndexSet<Name>, AllocError>
-    ensures { IfOk result (λ set. set.keys ≡ each_once names) }
+    ensures { IfOk result (λ set. set.keys ≡ names_once names) }
 {
     let mut set = IndexSet::new(alloc);
     put_once(&mut set, names)?;

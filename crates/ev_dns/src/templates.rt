@@ -7,7 +7,7 @@ ghost use Rattle.ev_wire.specs.Bodies.{breaks_v3, differs, is_of_type, resource_
 ghost use Rattle.ev_wire.specs.Responses.{ttl_of};
 ghost use Rattle.ev_expand.specs.Guarding.{body_in};
 ghost use Rattle.ev_expand.specs.Keys.{key_with};
-ghost use Rattle.ev_dns.specs.Templates.{body_key, breaks_own, is_strict_dns, is_template, rows_of, static_body, template_key};
+ghost use Rattle.ev_dns.specs.Templates.{body_key, breaks_own, is_strict_dns, is_template, static_body, template_key, template_rows};
 
 use crate::sockets::has_sockets;
 use ev_cluster_json::read_cluster;
@@ -168,7 +168,7 @@ fn differs(name: &str, own: Found<&str>) -> bool
 
 // The hosts of a template: their addresses are host names.
 pub(crate) fn rows_of(key: &Key) -> &[HostRow]
-    ensures { result.now ≡ rows_of key.now }
+    ensures { result.now ≡ template_rows key.now }
 {
     match &key.cluster.discovery {
         Discovery::Static(assignment) => assignment.rows(),

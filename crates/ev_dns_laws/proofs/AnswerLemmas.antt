@@ -15,11 +15,11 @@ use Rattle.ev_model_laws.proofs.AnyLemmas.{any_first}
 use Rattle.ev_expand.specs.declared.keys.Key.{Key}
 use Rattle.ev_dns.specs.declared.lines.Resolution.{Resolution}
 use Rattle.ev_dns.specs.Lines.{resolution_in}
-use Rattle.ev_dns.specs.Answers.{addresses_of, each_once, is_answered, is_complete, is_of, last_success, resolutions_in, success_of}
+use Rattle.ev_dns.specs.Answers.{addresses_of, is_answered, is_complete, is_of, last_success, names_once, resolutions_in, success_of}
 use Rattle.ev_dns.specs.Hosts.{resolved_rows, with_address}
-use Rattle.ev_dns.specs.Resolving.{answers_name, answers_one, hosts_of}
+use Rattle.ev_dns.specs.Resolving.{answers_name, answers_one, resolved_hosts}
 use Rattle.ev_dns_laws.proofs.ListLemmas.{taken_parts}
-use Rattle.ev_dns.specs.Templates.{rows_of}
+use Rattle.ev_dns.specs.Templates.{template_rows}
 
 -- ---- one line more
 
@@ -32,7 +32,7 @@ abbrev AnswersNone : Option Resolution → List HostRowParts → Type 0
 AnswersNone None rows = Unit {0}
 AnswersNone (Some resolution) rows = list_any (λ (row : HostRowParts). bytes_eq row.host.address resolution.name) rows ≡ false
 
-answers_none : (found : Option Resolution) (key : Key) → answers_one found key ≡ false → AnswersNone found (rows_of key)
+answers_none : (found : Option Resolution) (key : Key) → answers_one found key ≡ false → AnswersNone found (template_rows key)
 answers_none None key h = tt
 answers_none (Some resolution) key h = h
 
@@ -59,7 +59,7 @@ record SaysNothing (before after : List Data) (name : List ℕ) : Type 0 where
 nothing_more : (before : List Data) (line : Data) (name : List ℕ) → resolution_in line ≡ None → SaysNothing before (before ++ line ∷ []) name
 nothing_more before line name is =
     let same : resolutions_in (before ++ line ∷ []) ≡ resolutions_in before = more_resolutions before line None is ∙ append-nil (resolutions_in before) in
-    record { answered = ap (list_any (is_of name)) same; addresses = ap (λ rs. each_once (unwrap_or (last_success name rs) [])) same }
+    record { answered = ap (list_any (is_of name)) same; addresses = ap (λ rs. names_once (unwrap_or (last_success name rs) [])) same }
 
 other_more : (before : List Data) (line : Data) (name : List ℕ) (r : Resolution) → resolution_in line ≡ Some r → is_of name r ≡ false
     → SaysNothing before (before ++ line ∷ []) name
@@ -67,8 +67,8 @@ other_more before line name r is none =
     let more : resolutions_in (before ++ line ∷ []) ≡ resolutions_in before ++ r ∷ [] = more_resolutions before line (Some r) is in
     record {
       answered = ap (list_any (is_of name)) more ∙ answered_same name (resolutions_in before) r none;
-      addresses = ap (λ rs. each_once (unwrap_or (last_success name rs) [])) more
-          ∙ ap (λ found. each_once (unwrap_or found [])) (success_same name (resolutions_in before) r none);
+      addresses = ap (λ rs. names_once (unwrap_or (last_success name rs) [])) more
+          ∙ ap (λ found. names_once (unwrap_or found [])) (success_same name (resolutions_in before) r none);
     }
 
 -- of none of these rows
@@ -98,16 +98,16 @@ all_resolved before after (row ∷ rows) none =
 -- what is known of a template is the same after the line
 pub record StaysKnown (before after : List Data) (key : Key) : Type 0 where
   pub complete : is_complete after key ≡ is_complete before key
-  pub hosts : hosts_of after key ≡ hosts_of before key
+  pub hosts : resolved_hosts after key ≡ resolved_hosts before key
 
 -- where the line answers none of its names
 pub stays_known : (before : List Data) (line : Data) (key : Key) → answers_name line key ≡ false → StaysKnown before (before ++ line ∷ []) key
 stays_known before line key h =
-    let none : SaysNoneOf before (before ++ line ∷ []) (rows_of key) =
-    none_of before line (resolution_in line) (rows_of key) refl (answers_none (resolution_in line) key h) in
+    let none : SaysNoneOf before (before ++ line ∷ []) (template_rows key) =
+    none_of before line (resolution_in line) (template_rows key) refl (answers_none (resolution_in line) key h) in
     record {
-      complete = all_answered before (before ++ line ∷ []) (rows_of key) none;
-      hosts = all_resolved before (before ++ line ∷ []) (rows_of key) none;
+      complete = all_answered before (before ++ line ∷ []) (template_rows key) none;
+      hosts = all_resolved before (before ++ line ∷ []) (template_rows key) none;
     }
 
 -- ---- lines more
@@ -124,7 +124,7 @@ rows_answered lines more (row ∷ rows) h =
     (rows_answered lines more rows (second_so (is_answered lines name) (list_all (λ (r : HostRowParts). is_answered lines r.host.address) rows) h))
 
 pub complete_more : (lines more : List Data) (key : Key) → is_complete lines key ≡ true → is_complete (lines ++ more) key ≡ true
-complete_more lines more key h = rows_answered lines more (rows_of key) h
+complete_more lines more key h = rows_answered lines more (template_rows key) h
 
 -- what is complete by the first lines is so by more of them
 pub complete_later : (lines : List Data) (n m : ℕ) (key : Key) → n ≤ m → is_complete (take n lines) key ≡ true → is_complete (take m lines) key ≡ true

@@ -13,7 +13,7 @@ use Rattle.ev_expand.specs.Guarding.{Guarded}
 use Rattle.ev_expand_laws.proofs.FrontLemmas.{IsFrontAt, front_at, up_to_at}
 use Rattle.ev_expand_laws.proofs.ListLemmas.{some_same}
 use Rattle.ev_dns.specs.Answers.{is_complete}
-use Rattle.ev_dns.specs.Resolving.{answers_name, has_guarded, hosts_of, is_due}
+use Rattle.ev_dns.specs.Resolving.{answers_name, has_guarded, is_due, resolved_hosts}
 use Rattle.ev_dns_laws.proofs.AnswerLemmas.{StaysKnown, stays_known}
 
 -- there is a prefix at each line
@@ -36,7 +36,7 @@ pub record IsDueLast (profile : Profile) (lines : List Data) (n : ℕ) (g : Guar
   pub there : slice_get (fronts lines) index ≡ Some front
   pub due : is_due profile front g ≡ true
   pub guarded : was_guarded profile (take (index + 1) lines) g.key ≡ true
-  pub hosts : hosts_of (take n lines) g.key ≡ hosts_of (take (index + 1) lines) g.key
+  pub hosts : resolved_hosts (take n lines) g.key ≡ resolved_hosts (take (index + 1) lines) g.key
   pub quiet : (i : ℕ) (later : Front) → index < i → i < n → slice_get (fronts lines) i ≡ Some later
       → (has_guarded profile later.line g.key ≡ false) × (is_due profile later g ≡ false)
 
@@ -120,7 +120,7 @@ module _ (profile : Profile) (lines : List Data) (g : Guarded) where
         there = last.there;
         due = last.due;
         guarded = last.guarded;
-        hosts = sym (ap (λ ls. hosts_of ls g.key) all) ∙ quiet.known.hosts ∙ ap (λ ls. hosts_of ls g.key) at.before ∙ last.hosts;
+        hosts = sym (ap (λ ls. resolved_hosts ls g.key) all) ∙ quiet.known.hosts ∙ ap (λ ls. resolved_hosts ls g.key) at.before ∙ last.hosts;
         quiet = more_quiet n front there last due quiet.unguarded;
       }
 

@@ -46,11 +46,11 @@ use Rattle.ev_expand.specs.Fronts.{up_to}
 use Rattle.ev_expand.specs.Guarding.{Guarded, body_in, clusters_in, each_once, guarded_by, guarded_in, guarded_of, guarded_same}
 use Rattle.ev_expand_laws.proofs.ListLemmas.{in_flat, in_found, in_get}
 use Rattle.ev_dns.specs.declared.lines.Resolution.{Resolution}
-use Rattle.ev_dns.specs.Answers.{addresses_of, each_once as once_each, is_of, last_success, resolutions_in, success_of}
+use Rattle.ev_dns.specs.Answers.{addresses_of, is_of, last_success, names_once, resolutions_in, success_of}
 use Rattle.ev_dns.specs.Hosts.{with_address}
 use Rattle.ev_dns.specs.Lines.{addresses_at, all_names, given_addresses, resolution_in, resolution_of}
-use Rattle.ev_dns.specs.Resolving.{hosts_of as hosts_by}
-use Rattle.ev_dns.specs.Templates.{by_names, rows_in, rows_of as template_rows, static_body}
+use Rattle.ev_dns.specs.Resolving.{resolved_hosts}
+use Rattle.ev_dns.specs.Templates.{by_names, rows_in, static_body, template_rows}
 use Rattle.ev_dns_laws.proofs.EndpointLemmas.{IsGoodHost, item_reads}
 use Rattle.ev_dns_laws.proofs.GuardLemmas.{template_reads}
 use Rattle.ev_dns_laws.proofs.LastLemmas.{ReadsHosts}
@@ -292,13 +292,13 @@ found_each : {X Y : Type 0} (P : Y → Type 0) (f : X → Option Y) (xs : List X
 found_each P f xs each =
     each_in P (filter_map f xs) (λ y is. let found = in_found f xs y is in subst (λ o. IfSome o P) found.2 (each found.0 found.1))
 
-once_named : (names : List (List ℕ)) → AreNames names → AreNames (once_each names)
+once_named : (names : List (List ℕ)) → AreNames names → AreNames (names_once names)
 once_named [] each = tt
 once_named (first ∷ others) each =
     let test : List ℕ → Bool = λ other. not (bytes_eq other first) in (
       each.0,
-      each_in IsName (filter test (once_each others))
-          (λ name is. at_in IsName name (once_each others) (once_named others each.1) (in_filter test name (once_each others) is).0),
+      each_in IsName (filter test (names_once others))
+          (λ name is. at_in IsName name (names_once others) (once_named others each.1) (in_filter test name (names_once others) is).0),
     )
 
 last_if : {X : Type 0} (P : X → Type 0) (first : Option X) (xs : List X) → IfSome first P → ByRecursion P xs → IfSome (last_or first xs) P
@@ -323,7 +323,7 @@ known_named lines name =
     found_each AreNames (success_of name) (resolutions_in lines) (λ r is. success_named name r (at_in SaysNames r (resolutions_in lines) said is)) in
     by (last_success name (resolutions_in lines)) (last_if AreNames None (filter_map (success_of name) (resolutions_in lines)) tt successes)
   where
-    by : (found : Option (List (List ℕ))) → IfSome found AreNames → AreNames (once_each (unwrap_or found []))
+    by : (found : Option (List (List ℕ))) → IfSome found AreNames → AreNames (names_once (unwrap_or found []))
     by None h = tt
     by (Some names) h = once_named names h
 
@@ -335,7 +335,7 @@ row_hosts row (address ∷ addresses) good each = (
 )
 
 -- the hosts of a template are good
-all_hosts : (lines : List Data) (key : Key) → ByRecursion IsGoodRow (template_rows key) → ByRecursion IsGoodHost (hosts_by lines key)
+all_hosts : (lines : List Data) (key : Key) → ByRecursion IsGoodRow (template_rows key) → ByRecursion IsGoodHost (resolved_hosts lines key)
 all_hosts lines key good =
     each_flat IsGoodHost (λ (row : HostRowParts). map (with_address row) (addresses_of lines row.host.address)) (template_rows key)
     (each_in (λ (row : HostRowParts). ByRecursion IsGoodHost (map (with_address row) (addresses_of lines row.host.address))) (template_rows key)
@@ -365,4 +365,4 @@ guarded_good profile lines place g there =
 -- so the endpoints that are written of a place are read as its hosts
 pub hosts_read : (profile : Profile) (lines : List Data) (place : ℕ) (g : Guarded) → place < ITEM_LIMIT → ReadsHosts profile lines place g
 hosts_read profile lines place g small index front version at there =
-    item_reads profile version place (hosts_by (up_to front) g.key) small (all_hosts (up_to front) g.key (guarded_good profile (up_to front) place g there))
+    item_reads profile version place (resolved_hosts (up_to front) g.key) small (all_hosts (up_to front) g.key (guarded_good profile (up_to front) place g there))

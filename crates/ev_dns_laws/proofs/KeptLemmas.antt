@@ -32,7 +32,7 @@ use Rattle.ev_expand_laws.proofs.FollowLemmas.{names_given}
 use Rattle.ev_expand_laws.proofs.ReadLemmas.{following_names}
 use Rattle.ev_expand_laws.proofs.ListLemmas.{found_in, get_in, map_in}
 use Rattle.ev_dns.specs.Hosts.{endpoints_tree}
-use Rattle.ev_dns.specs.Resolving.{dns_rules, hosts_of, is_due}
+use Rattle.ev_dns.specs.Resolving.{dns_rules, is_due, resolved_hosts}
 use Rattle.ev_dns_laws.specs.LastAnswers.{name_of_place}
 use Rattle.ev_dns_laws.proofs.PlaceLemmas.{among_due, due_once, parts_of}
 use Rattle.ev_dns_laws.proofs.TextLemmas.{due_response}
@@ -120,7 +120,7 @@ module _ (profile : Profile) (front : Front) where
       (ap (λ names. is_among live.name names && not (nat_le 1 (length (items_named live.name (due_response profile front).items)))) nothing_removed)))
 
   entry_at : ℕ → Guarded → Data
-  entry_at place g = endpoints_entry (decimal (place_of front)) (name_of_place place) (endpoints_tree (hosts_of (up_to front) g.key))
+  entry_at place g = endpoints_entry (decimal (place_of front)) (name_of_place place) (endpoints_tree (resolved_hosts (up_to front) g.key))
 
   one_name : (place : ℕ) (g : Guarded) → (item_of profile Eds (entry_at place g)).name ≡ name_of_place place
   unfolding entry_at
@@ -132,7 +132,7 @@ module _ (profile : Profile) (front : Front) where
   -- what is due of a watched place is kept
   pub due_kept : (place : ℕ) (g : Guarded) (lives : List Live) (versions : List KeptVersion) (content : Content) → slice_get (guarded_at (dns_rules profile) front) place ≡ Some g
       → is_due profile front g ≡ true → place < ITEM_LIMIT → length (guarded_at (dns_rules profile) front) ≤ ITEM_LIMIT
-      → (item_of profile Eds (endpoints_entry (decimal (place_of front)) (name_of_place place) (endpoints_tree (hosts_of (up_to front) g.key)))).body ≡ Good content
+      → (item_of profile Eds (endpoints_entry (decimal (place_of front)) (name_of_place place) (endpoints_tree (resolved_hosts (up_to front) g.key)))).body ≡ Good content
       → is_watched lives Eds (name_of_place place) ≡ true → Keeps (due_response profile front) lives versions (name_of_place place) content
   unfolding entry_at
   due_kept place g lives versions content there due below few good watched =

@@ -60,7 +60,7 @@ use Rattle.ev_expand_laws.proofs.OrderLemmas.{line_in}
 use Rattle.ev_expand_laws.proofs.SaidPlaceLemmas.{said_in}
 use Rattle.ev_dns.specs.Answers.{is_complete}
 use Rattle.ev_dns.specs.Hosts.{endpoints_tree}
-use Rattle.ev_dns.specs.Resolving.{dns_rules, has_guarded, hosts_of, is_due}
+use Rattle.ev_dns.specs.Resolving.{dns_rules, has_guarded, is_due, resolved_hosts}
 use Rattle.ev_dns.specs.Templates.{by_names}
 use Rattle.ev_dns_laws.specs.LastAnswers.{HasLastAnswers, IsLastEntry, answered_script, name_of_place}
 use Rattle.ev_dns_laws.proofs.AnswerLemmas.{complete_later}
@@ -124,7 +124,7 @@ none_told kind name arrivals h = ap (λ (rest : List Arrived). last_or None (map
 abbrev pub ReadsHosts : Profile → List Data → ℕ → Guarded → Type 0
 ReadsHosts profile lines place g =
     (index : ℕ) (front : Front) (version : List ℕ) → slice_get (fronts lines) index ≡ Some front → slice_get (guarded_at (dns_rules profile) front) place ≡ Some g
-    → (item_of profile Eds (endpoints_entry version (name_of_place place) (endpoints_tree (hosts_of (up_to front) g.key)))).body ≡ Good (an_assignment (hosts_of (up_to front) g.key))
+    → (item_of profile Eds (endpoints_entry version (name_of_place place) (endpoints_tree (resolved_hosts (up_to front) g.key)))).body ≡ Good (an_assignment (resolved_hosts (up_to front) g.key))
 
 module _ (trees : ScriptTrees) (format : Format) (journal : List Entry) (kept : IsScript (answered_script trees)) (run : IsRunOf format (answered_script trees) journal)
     (unused : first_use trees.header.profile (codes "dns/") (lines_in trees) ≡ None) (few : length (guarded_by (by_names trees.header.profile) (lines_in trees)) < ITEM_LIMIT)
@@ -311,13 +311,13 @@ module _ (trees : ScriptTrees) (format : Format) (journal : List Entry) (kept : 
 
     -- after it the place has the hosts of the lines up to its line
     record HasHosts (n : ℕ) : Type 0 where
-      value : value_of (world n) Eds name ≡ Some (an_assignment (hosts_of (up_to due.front) g.key))
+      value : value_of (world n) Eds name ≡ Some (an_assignment (resolved_hosts (up_to due.front) g.key))
       told_of : is_told (world n) Eds name ≡ true
       last_of : last_told (world n).arrivals Eds name ≡ Some (world done.place).made
 
     hosts_there : watched (done.place + 1) ≡ true → HasHosts (done.place + 1)
     hosts_there h =
-        let content : Content = an_assignment (hosts_of (up_to due.front) g.key) in
+        let content : Content = an_assignment (resolved_hosts (up_to due.front) g.key) in
         let before : World = world done.place in
         let keeps : Keeps (due_response profile due.front) (lives_of before) before.versions name content =
         due_kept profile due.front place g (lives_of before) before.versions content early due.due (omega (arith, slice_get_within (guarded_by (by_names profile) lines) place g there, few)) fewer
@@ -445,6 +445,6 @@ module _ (trees : ScriptTrees) (format : Format) (journal : List Entry) (kept : 
                 ∙ or_right (not d.fresh) (nat_le live.number (world (done due).place).made) (not_above live.number (world (done due).place).made before)
                 ∙ sym complete;
             hosts = λ is.
-                now.value ∙ ap (λ ls. Some (an_assignment (hosts_of ls g.key))) (up_to_at lines due.index due.front due.there)
+                now.value ∙ ap (λ ls. Some (an_assignment (resolved_hosts ls g.key))) (up_to_at lines due.index due.front due.there)
                 ∙ ap (λ rows. Some (an_assignment rows)) (sym due.hosts);
           }

@@ -21,7 +21,7 @@ use Rattle.ev_expand_laws.proofs.CountLemmas.{places_same}
 use Rattle.ev_expand_laws.proofs.ListLemmas.{back_get, got, in_kept, map_in, some_same}
 use Rattle.ev_expand_laws.proofs.DueLemmas.{guarded_stays}
 use Rattle.ev_dns.specs.Hosts.{endpoints_tree}
-use Rattle.ev_dns.specs.Resolving.{dns_rules, hosts_of, is_due}
+use Rattle.ev_dns.specs.Resolving.{dns_rules, is_due, resolved_hosts}
 use Rattle.ev_dns.specs.Templates.{by_names}
 use Rattle.ev_dns_laws.specs.LastAnswers.{name_of_place}
 use Rattle.ev_dns_laws.proofs.DueLemmas.{was_guarded}
@@ -63,7 +63,7 @@ guarded_fewer profile lines n =
 
 -- what is due of a place
 abbrev pub parts_of : Front → ℕ × Guarded → DueParts
-parts_of front p = record { place = p.0; endpoints = Some (endpoints_tree (hosts_of (up_to front) p.1.key)) }
+parts_of front p = record { place = p.0; endpoints = Some (endpoints_tree (resolved_hosts (up_to front) p.1.key)) }
 
 in_enum : {X : Type 0} (m : ℕ) (xs : List X) (i : ℕ) (x : X) → slice_get xs i ≡ Some x → IsIn (m + i, x) (enumerate_from m xs)
 in_enum m [] i x h = absurd (cc)

@@ -10,7 +10,7 @@ use Rattle.ev_expand.specs.Expanding.{guarded_at}
 use Rattle.ev_expand_laws.specs.Scripts.{IsShallow, AreShallowAt}
 use Rattle.ev_expand_laws.proofs.DepthLemmas.{items_within}
 use Rattle.ev_dns.specs.Hosts.{group_tree, endpoints_tree}
-use Rattle.ev_dns.specs.Resolving.{hosts_of, dns_rules}
+use Rattle.ev_dns.specs.Resolving.{resolved_hosts, dns_rules}
 
 group_depth : (row : HostRowParts) → depth (group_tree row) ≤ 6
 group_depth row = omega arith
@@ -26,4 +26,4 @@ endpoints_shallow rows =
 -- at each line those of all templates are shallow
 pub lines_shallow : (profile : Profile) (lines : List Data) → All (AreShallowAt (dns_rules profile)) (fronts lines)
 lines_shallow profile lines k front h i g less =
-    endpoints_shallow (hosts_of (up_to (get_or (fronts lines) k front)) (get_or (guarded_at (dns_rules profile) (get_or (fronts lines) k front)) i g).key)
+    endpoints_shallow (resolved_hosts (up_to (get_or (fronts lines) k front)) (get_or (guarded_at (dns_rules profile) (get_or (fronts lines) k front)) i g).key)

@@ -21,7 +21,7 @@ use Rattle.ev_expand.specs.Guarding.{Guarded, guarded_by, private_name}
 use Rattle.ev_expand.specs.Private.{first_use}
 use Rattle.ev_expand_laws.specs.Said.{expanded_script, given_lines, lines_in}
 use Rattle.ev_dns.specs.Answers.{is_complete}
-use Rattle.ev_dns.specs.Resolving.{dns_rules, hosts_of}
+use Rattle.ev_dns.specs.Resolving.{dns_rules, resolved_hosts}
 use Rattle.ev_dns.specs.Templates.{by_names}
 
 -- the script that the command writes
@@ -58,7 +58,7 @@ pub record HasLastAnswers (world : World) (lines : List Data) (place : ℕ) (key
       → Contains (lives_of world) live → Contains (dependencies_of live.content) d → is_dependency Eds (name_of_place place) d ≡ true
       → has_word world.arrivals live.number d ≡ is_complete lines key
   pub hosts : is_complete lines key ≡ true
-      → value_of world Eds (name_of_place place) ≡ Some (an_assignment (hosts_of lines key))
+      → value_of world Eds (name_of_place place) ≡ Some (an_assignment (resolved_hosts lines key))
 
 -- this holds for each place that is watched, after an entry which leaves the stream open and is its input line's last
 abbrev pub AreLastAnswers : Format → ScriptTrees → List Entry → Type 0

@@ -35,9 +35,11 @@ use std::alloc::Global;
 /// lines and more.
 pub fn resolve(alloc: Global, trees: &ScriptTrees) -> Result<Vec<u8>, ExpandError>
     requires read { (input : Input) × IsTreesAnswer dns_lines input (Ok trees.now) }
-    ensures expanded { IsExpanded (dns_rules trees.now.header.profile) (view trees.now.head) (lines_in trees.now) result }
+    ensures expanded { IsExpanded (dns_rules trees.now.header.profile) (view trees.now.head)
+        (lines_in trees.now) result }
     ensures sound { IfOk result (λ text. HasNoFault plain_lines (input_of_text text.items)) }
-    ensures script { IfOk result (λ text. script_of false text.items ≡ Some (expanded_script (dns_rules trees.now.header.profile) trees.now)) }
+    ensures script { IfOk result (λ text. script_of false text.items
+        ≡ Some (expanded_script (dns_rules trees.now.header.profile) trees.now)) }
     ensures kept { OnOk result (IsScript (expanded_script (dns_rules trees.now.header.profile) trees.now)) }
 {
     expand(alloc, trees.header.profile, &trees.head, &trees.lines)

@@ -17,7 +17,7 @@ use Rattle.std.proofs.lemmas.Map.Entries.{none_past_head}
 use Rattle.std.proofs.lemmas.Map.Keys.{IsDistinct-from_sorted}
 use Rattle.ev_model.specs.Sorted.{put_by}
 use Rattle.ev_drain.specs.declared.notes.Note.{Note}
-use Rattle.ev_drain.specs.Retired.{Retired, comes_before, is_numbered, has_row, is_dead_row, dead_of, is_dead_in}
+use Rattle.ev_drain.specs.Retired.{Retired, row_before, is_numbered, has_row, is_dead_row, dead_of, is_dead_in}
 use Rattle.ev_drain.specs.Notes.{row_of, rows_of, is_dead_note}
 use Rattle.ev_types.specs.declared.journals.Format.{Format}
 use Rattle.ev_model.specs.World.{OpenMember}
@@ -57,14 +57,14 @@ of_row {B} f g same n (e ∷ es) = by (is_at (nat_cmp n) e.0) (e.0 == n) (same_n
 
 -- a new entry is a row put in its place
 pub put_rows : (k : ℕ) (v : Note) (es : List (ℕ × Note)) → is_some (lookup (is_at (nat_cmp k)) es) ≡ false
-    → rows_of (insert_entry nat_cmp es k v) ≡ put_by comes_before (row_of (k, v)) (rows_of es)
+    → rows_of (insert_entry nat_cmp es k v) ≡ put_by row_before (row_of (k, v)) (rows_of es)
 put_rows k v [] h = refl
 put_rows k v (e ∷ es) h = by (nat_cmp k e.0) h (put_rows k v es)
   where
     by : (r : Ordering) → is_some (cond (is_eq r) (Some e.1) (lookup (is_at (nat_cmp k)) es)) ≡ false
-        → (is_some (lookup (is_at (nat_cmp k)) es) ≡ false → rows_of (insert_entry nat_cmp es k v) ≡ put_by comes_before (row_of (k, v)) (rows_of es))
+        → (is_some (lookup (is_at (nat_cmp k)) es) ≡ false → rows_of (insert_entry nat_cmp es k v) ≡ put_by row_before (row_of (k, v)) (rows_of es))
         → map row_of (match_ordering r ((k, v) ∷ e ∷ es) ((e.0, v) ∷ es) (e ∷ insert_entry nat_cmp es k v))
-        ≡ cond (is_le r) (row_of (k, v) ∷ row_of e ∷ rows_of es) (row_of e ∷ put_by comes_before (row_of (k, v)) (rows_of es))
+        ≡ cond (is_le r) (row_of (k, v) ∷ row_of e ∷ rows_of es) (row_of e ∷ put_by row_before (row_of (k, v)) (rows_of es))
     by Less none rest = refl
     by Equal none rest = absurd (true≢false none)
     by Greater none rest = ap (λ rs. row_of e ∷ rs) (rest none)

@@ -17,7 +17,7 @@ use Rattle.ev_model.specs.Signals.{is_draining}
 use Rattle.ev_model.specs.Sorted.{put_by}
 use Rattle.ev_ledger.proofs.OrderLemmas.{any_put}
 use Rattle.ev_drain.specs.declared.notes.Note.{Note}
-use Rattle.ev_drain.specs.Retired.{Retired, comes_before, is_numbered, is_draining_listener, is_waiting, newly_retired, numbers_waiting, marked, retired_status}
+use Rattle.ev_drain.specs.Retired.{Retired, row_before, is_numbered, is_draining_listener, is_waiting, newly_retired, numbers_waiting, marked, retired_status}
 use Rattle.ev_drain.specs.Waiters.{WaitersKept, numbers_under, without_number, HaveWaiters}
 use Rattle.ev_drain.specs.Notes.{row_of, rows_of, is_waiting_note, marked_note, is_waiting_among, marked_among}
 use Rattle.ev_drain.proofs.WorldLemmas.{any_mapped, number_left, number_own}
@@ -91,10 +91,10 @@ others_wait old new one rows entered had n k h =
     ap (has_number k) (entered n) ∙ had_before k (numbers_under old n) (cond (is_waiting n one) (one.number ∷ []) []) (had n k h)
 
 -- and the row does too
-pub retired_waits : (old new : WaitersKept) (one : Retired) (rows : List Retired) → Entered old new one → HaveWaiters old rows → HaveWaiters new (put_by comes_before one rows)
+pub retired_waits : (old new : WaitersKept) (one : Retired) (rows : List Retired) → Entered old new one → HaveWaiters old rows → HaveWaiters new (put_by row_before one rows)
 retired_waits old new one rows entered had n k h =
     by (is_waiting n one) (is_numbered k one) refl refl
-    (sym (any_put comes_before (λ r. is_waiting n r && is_numbered k r) one rows) ∙ sym (any_waiter n k (put_by comes_before one rows)) ∙ h)
+    (sym (any_put row_before (λ r. is_waiting n r && is_numbered k r) one rows) ∙ sym (any_waiter n k (put_by row_before one rows)) ∙ h)
   where
     others : list_any (λ r. is_waiting n r && is_numbered k r) rows ≡ true → has_number k (numbers_under new n) ≡ true
     others h' = others_wait old new one rows entered had n k (any_waiter n k rows ∙ h')

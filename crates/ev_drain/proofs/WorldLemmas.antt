@@ -25,12 +25,12 @@ use Rattle.ev_model.specs.Sorted.{put_by, sorted_by}
 use Rattle.ev_model.specs.Picture.{has_number}
 use Rattle.ev_model.specs.Dead.{is_dead, is_dead_at, is_open_on, waits_for_timer, numbers_in_use}
 use Rattle.ev_model.specs.Publishing.{ascending, dead_numbers}
-use Rattle.ev_ledger.specs.Members.{comes_before as member_before}
+use Rattle.ev_ledger.specs.Members.{member_before}
 use Rattle.ev_ledger.proofs.OrderLemmas.{IsOrder, any_sorted, filter_sorted, put_put, any_put}
 use Rattle.ev_ledger.proofs.PlaceLemmas.{le_order}
-use Rattle.ev_drain.specs.Retired.{Retired, comes_before, is_numbered, is_retired, retired_in, dead_of, is_dead_row, StandsFor, is_waiting, marked, has_row, newly_retired, retired_status}
+use Rattle.ev_drain.specs.Retired.{Retired, row_before, is_numbered, is_retired, retired_in, dead_of, is_dead_row, HasRetired, is_waiting, marked, has_row, newly_retired, retired_status}
 
-number_order : IsOrder comes_before
+number_order : IsOrder row_before
 number_order = le_order (λ (a b : Retired). nat_cmp a.number b.number) (on_total (λ (r : Retired). r.number) nat_cmp_total)
 
 -- a map that keeps the order may be made before or after a sort
@@ -98,7 +98,7 @@ dead_same format shown opened world shows opens row =
 
 -- the dead rows of a drain are those of the world that it stands for
 pub dead_stands : (format : Format) (shown : ℕ → Bool) (drain : List Retired) (opened : List OpenMember) (world : World)
-    → StandsFor drain world.rows world.expired → opened ≡ sorted_by member_before world.opened
+    → HasRetired drain world.rows world.expired → opened ≡ sorted_by member_before world.opened
     → ((n : ℕ) → shown n ≡ has_number n (numbers_in_use world)) → dead_of format shown opened drain ≡ dead_numbers format world
 dead_stands format shown drain opened world stands holds shows =
     let dead : Retired → Bool = is_dead_row format shown opened in
@@ -106,8 +106,8 @@ dead_stands format shown drain opened world stands holds shows =
     let opens : (n : ℕ) → list_any (is_open_on n) opened ≡ list_any (is_open_on n) world.opened =
     λ n. ap (list_any (is_open_on n)) holds ∙ any_sorted member_before (is_open_on n) world.opened in
     ap (λ rs. map (λ (r : Retired). r.number) (filter dead rs)) stands
-    ∙ ap (map (λ (r : Retired). r.number)) (filter_sorted comes_before number_order dead (map retired (filter is_retired world.rows)))
-    ∙ sorted_mapped comes_before nat_le (λ (r : Retired). r.number) (λ x y. le_same x.number y.number) (filter dead (map retired (filter is_retired world.rows)))
+    ∙ ap (map (λ (r : Retired). r.number)) (filter_sorted row_before number_order dead (map retired (filter is_retired world.rows)))
+    ∙ sorted_mapped row_before nat_le (λ (r : Retired). r.number) (λ x y. le_same x.number y.number) (filter dead (map retired (filter is_retired world.rows)))
     ∙ ap (λ rs. ascending (map (λ (r : Retired). r.number) rs)) (filter_mapped dead retired (filter is_retired world.rows))
     ∙ ap ascending (mapped_twice (λ (r : Retired). r.number) retired (filter (λ row. dead (retired row)) (filter is_retired world.rows)))
     ∙ ap (λ rs. ascending (map (λ (r : GenRow). r.number) rs))
@@ -155,15 +155,15 @@ number_left k n (m ∷ es) apart = by (m == n) refl (number_left k n es apart)
     by false at rest = ap (λ b. (m == k) || b) rest
 
 -- a row that is taken out of the drain, and of the world with its mark
-pub remove_stands : (n : ℕ) (drain : List Retired) (rows : List GenRow) (expired : List ℕ) → StandsFor drain rows expired
-    → StandsFor (filter (λ r. not (is_numbered n r)) drain) (filter (λ row. not (row.number == n)) rows) (filter (λ m. not (m == n)) expired)
+pub remove_stands : (n : ℕ) (drain : List Retired) (rows : List GenRow) (expired : List ℕ) → HasRetired drain rows expired
+    → HasRetired (filter (λ r. not (is_numbered n r)) drain) (filter (λ row. not (row.number == n)) rows) (filter (λ m. not (m == n)) expired)
 remove_stands n drain rows expired stands =
     let stays : GenRow → Bool = λ row. not (row.number == n) in
     let left : Retired → Bool = λ r. not (is_numbered n r) in
     let marks : List ℕ = filter (λ m. not (m == n)) expired in
     ap (filter left) stands
-    ∙ filter_sorted comes_before number_order left (map (retired_in expired) (filter is_retired rows))
-    ∙ ap (sorted_by comes_before) (filter_mapped left (retired_in expired) (filter is_retired rows)
+    ∙ filter_sorted row_before number_order left (map (retired_in expired) (filter is_retired rows))
+    ∙ ap (sorted_by row_before) (filter_mapped left (retired_in expired) (filter is_retired rows)
     ∙ mapped_left stays (retired_in expired) (retired_in marks)
     (λ row h. ap (λ b. record { kind = row.kind; number = row.number; name = row.name; status = row.status; expired = b }) (number_left row.number n expired h))
     (filter is_retired rows)
@@ -171,11 +171,11 @@ remove_stands n drain rows expired stands =
     ∙ sym (filter_both stays is_retired (λ row. is_retired row && stays row) (λ row. and_turned (stays row) (is_retired row)) rows)))
 
 -- a listener of the name waits in the drain exactly where one does in the world
-pub waiting_stands : (name : List ℕ) (drain : List Retired) (rows : List GenRow) (expired : List ℕ) → StandsFor drain rows expired
+pub waiting_stands : (name : List ℕ) (drain : List Retired) (rows : List GenRow) (expired : List ℕ) → HasRetired drain rows expired
     → list_any (is_waiting name) drain ≡ list_any (is_unexpired expired name) rows
 waiting_stands name drain rows expired stands =
     ap (list_any (is_waiting name)) stands
-    ∙ any_sorted comes_before (is_waiting name) (map (retired_in expired) (filter is_retired rows))
+    ∙ any_sorted row_before (is_waiting name) (map (retired_in expired) (filter is_retired rows))
     ∙ any_mapped (is_waiting name) (retired_in expired) (filter is_retired rows)
     ∙ any_both is_retired (λ row. is_waiting name (retired_in expired row)) (is_unexpired expired name)
     (λ row. by (is_row_of Lds name row) row.status (has_number row.number expired)) rows
@@ -218,7 +218,7 @@ apart_numbers : (a n : ℕ) → (a == n) ≡ false → is_le (nat_cmp a n) ≡ n
 apart_numbers a n h = grind (arith, nat_tests)
 
 -- rows none of which has a number are apart from one that has
-apart_rows : (one : Retired) (rs : List Retired) → list_any (is_numbered one.number) rs ≡ false → AllByRecursion (λ a. comes_before a one ≡ not (comes_before one a)) rs
+apart_rows : (one : Retired) (rs : List Retired) → list_any (is_numbered one.number) rs ≡ false → AllByRecursion (λ a. row_before a one ≡ not (row_before one a)) rs
 apart_rows one [] h = tt
 apart_rows one (r ∷ rs) h =
     let parts = or_parts (is_numbered one.number r) (list_any (is_numbered one.number) rs) h in
@@ -247,21 +247,21 @@ now_retired row dropped after =
 
 -- a live row of the world that drains now, or was dropped, and is noted
 pub retire_stands : (row : GenRow) (dropped : Bool) (drain : List Retired) (before after : List GenRow) (expired : List ℕ)
-    → StandsFor drain (before ++ row ∷ after) expired → is_live row.status ≡ true → has_row drain row.number ≡ false → has_number row.number expired ≡ false
-    → StandsFor (put_by comes_before (newly_retired row.kind row.number row.name dropped) drain) (before ++ record row { status = retired_status dropped } ∷ after) expired
+    → HasRetired drain (before ++ row ∷ after) expired → is_live row.status ≡ true → has_row drain row.number ≡ false → has_number row.number expired ≡ false
+    → HasRetired (put_by row_before (newly_retired row.kind row.number row.name dropped) drain) (before ++ record row { status = retired_status dropped } ∷ after) expired
 retire_stands row dropped drain before after expired stands live absent unmarked =
     let one : Retired = newly_retired row.kind row.number row.name dropped in
     let others : List Retired = retired_around expired before after in
     let was : map (retired_in expired) (filter is_retired (before ++ row ∷ after)) ≡ others =
     split_retired expired before (row ∷ after) ∙ ap (λ rs. map (retired_in expired) (filter is_retired before) ++ map (retired_in expired) rs) (live_gone row after live) in
     let none : list_any (is_numbered row.number) others ≡ false =
-    sym (any_sorted comes_before (is_numbered row.number) others) ∙ ap (λ rs. list_any (is_numbered row.number) (sorted_by comes_before rs)) (sym was)
+    sym (any_sorted row_before (is_numbered row.number) others) ∙ ap (λ rs. list_any (is_numbered row.number) (sorted_by row_before rs)) (sym was)
     ∙ ap (list_any (is_numbered row.number)) (sym stands) ∙ absent in
-    ap (put_by comes_before one) (stands ∙ ap (sorted_by comes_before) was)
-    ∙ sym (sorted_middle comes_before number_order one (map (retired_in expired) (filter is_retired before)) (map (retired_in expired) (filter is_retired after))
+    ap (put_by row_before one) (stands ∙ ap (sorted_by row_before) was)
+    ∙ sym (sorted_middle row_before number_order one (map (retired_in expired) (filter is_retired before)) (map (retired_in expired) (filter is_retired after))
     (apart_rows one (map (retired_in expired) (filter is_retired before)) (any_first (is_numbered row.number) (map (retired_in expired) (filter is_retired before)) (map (retired_in expired) (filter is_retired after)) none)))
-    ∙ ap (λ b. sorted_by comes_before (map (retired_in expired) (filter is_retired before) ++ record one { expired = b } ∷ map (retired_in expired) (filter is_retired after))) (sym unmarked)
-    ∙ sym (ap (sorted_by comes_before) (split_retired expired before (record row { status = retired_status dropped } ∷ after)
+    ∙ ap (λ b. sorted_by row_before (map (retired_in expired) (filter is_retired before) ++ record one { expired = b } ∷ map (retired_in expired) (filter is_retired after))) (sym unmarked)
+    ∙ sym (ap (sorted_by row_before) (split_retired expired before (record row { status = retired_status dropped } ∷ after)
     ∙ ap (λ rs. map (retired_in expired) (filter is_retired before) ++ map (retired_in expired) rs) (now_retired row dropped after)))
 
 -- no two elements have one number
@@ -355,17 +355,17 @@ marked_either false false = refl
 
 -- the drain timeout of a name marks in the drain what it marks in the world
 pub expire_stands : (name : List ℕ) (drain : List Retired) (rows : List GenRow) (expired : List ℕ) → Distinct (λ (r : Retired). r.number) drain
-    → StandsFor drain rows expired → StandsFor (map (marked name) drain) rows (expired ++ unexpired expired name rows)
+    → HasRetired drain rows expired → HasRetired (map (marked name) drain) rows (expired ++ unexpired expired name rows)
 expire_stands name drain rows expired distinct stands =
     let kept : List GenRow = filter is_retired rows in
     let marks : List ℕ = unexpired expired name rows in
     let apart : Distinct (λ (r : GenRow). r.number) kept =
-    mapped_distinct expired kept (sorted_distinct (λ (r : Retired). r.number) comes_before (map (retired_in expired) kept) (subst (Distinct (λ (r : Retired). r.number)) stands distinct)) in
+    mapped_distinct expired kept (sorted_distinct (λ (r : Retired). r.number) row_before (map (retired_in expired) kept) (subst (Distinct (λ (r : Retired). r.number)) stands distinct)) in
     let same : marks ≡ map (λ (r : GenRow). r.number) (filter (is_unexpired expired name) kept) =
     ap (map (λ (r : GenRow). r.number)) (sym (filter_both is_retired (is_unexpired expired name) (is_unexpired expired name) (unexpired_retired expired name) rows)) in
     ap (map (marked name)) stands
-    ∙ sorted_mapped comes_before comes_before (marked name) (λ x y. refl) (map (retired_in expired) kept)
-    ∙ ap (sorted_by comes_before) (mapped_twice (marked name) (retired_in expired) kept
+    ∙ sorted_mapped row_before row_before (marked name) (λ x y. refl) (map (retired_in expired) kept)
+    ∙ ap (sorted_by row_before) (mapped_twice (marked name) (retired_in expired) kept
     ∙ mapped_same (λ row. marked name (retired_in expired row)) (retired_in (expired ++ marks)) kept
     (all_so (λ z. list_any (λ (y : GenRow). y.number == z.number) (filter (is_unexpired expired name) kept) ≡ is_unexpired expired name z)
     (λ z. marked name (retired_in expired z) ≡ retired_in (expired ++ marks) z)

@@ -36,12 +36,12 @@ newly_retired kind number name dropped =
     record { kind = kind; number = number; name = name; status = retired_status dropped; expired = false }
 
 -- the first is not above the second by number
-abbrev pub comes_before : Retired → Retired → Bool
-comes_before one other = is_le (nat_cmp one.number other.number)
+abbrev pub row_before : Retired → Retired → Bool
+row_before one other = is_le (nat_cmp one.number other.number)
 
 -- the rows with one more, in the order of their numbers
 abbrev pub with_row : Retired → List Retired → List Retired
-with_row row rows = put_by comes_before row rows
+with_row row rows = put_by row_before row rows
 
 -- the row has this number
 abbrev pub is_numbered : ℕ → Retired → Bool
@@ -100,8 +100,8 @@ retired_in expired row =
 
 -- the retired rows of the world, in the order of their numbers
 abbrev pub retired_of : List ℕ → List GenRow → List Retired
-retired_of expired rows = sorted_by comes_before (map (retired_in expired) (filter is_retired rows))
+retired_of expired rows = sorted_by row_before (map (retired_in expired) (filter is_retired rows))
 
 -- a drain has exactly the retired ones of these rows, with these marks
-abbrev pub StandsFor : List Retired → List GenRow → List ℕ → Type 0
-StandsFor drain rows expired = drain ≡ retired_of expired rows
+abbrev pub HasRetired : List Retired → List GenRow → List ℕ → Type 0
+HasRetired drain rows expired = drain ≡ retired_of expired rows

@@ -10,12 +10,12 @@ use Rattle.ev_model.specs.Picture.{has_number}
 use Rattle.ev_model.specs.Signals.{is_unexpired, unexpired}
 use Rattle.ev_model.specs.Dead.{numbers_in_use}
 use Rattle.ev_model.specs.Publishing.{dead_numbers}
-use Rattle.ev_ledger.specs.Members.{StandsFor as HasOpened}
-use Rattle.ev_drain.specs.Retired.{Retired, retired_status, StandsFor}
+use Rattle.ev_ledger.specs.Members.{HasOpened}
+use Rattle.ev_drain.specs.Retired.{HasRetired, Retired, retired_status}
 
 -- whatever rows and marks a drain stands for, this is the answer of the question about them
 abbrev pub IsAnswerOf : {A : Type 0} → (List GenRow → List ℕ → A) → List Retired → A → Type 0
-IsAnswerOf question drain answer = (rows : List GenRow) (expired : List ℕ) → StandsFor drain rows expired → answer ≡ question rows expired
+IsAnswerOf question drain answer = (rows : List GenRow) (expired : List ℕ) → HasRetired drain rows expired → answer ≡ question rows expired
 
 -- a draining listener of this name is among the rows, whose drain timeout hasn't come
 abbrev pub has_unexpired : List ℕ → List GenRow → List ℕ → Bool
@@ -25,22 +25,22 @@ has_unexpired name rows expired = list_any (is_unexpired expired name) rows
 -- and name and without a mark, is retired.
 abbrev pub Retires : Kind → ℕ → List ℕ → Bool → List Retired → List Retired → Type 0
 Retires kind number name dropped drain left =
-    (row : GenRow) (before : List GenRow) (after : List GenRow) (expired : List ℕ) → StandsFor drain (before ++ row ∷ after) expired
+    (row : GenRow) (before : List GenRow) (after : List GenRow) (expired : List ℕ) → HasRetired drain (before ++ row ∷ after) expired
     → is_live row.status ≡ true → row.kind ≡ kind → row.number ≡ number → row.name ≡ name → has_number number expired ≡ false
-    → StandsFor left (before ++ record row { status = retired_status dropped } ∷ after) expired
+    → HasRetired left (before ++ record row { status = retired_status dropped } ∷ after) expired
 
 -- whatever rows and marks the first drain stands for, the second stands for the same rows, with marks for those for which the drain timeout of this name comes
 abbrev pub Expires : List ℕ → List Retired → List Retired → Type 0
 Expires name drain left =
-    (rows : List GenRow) (expired : List ℕ) → StandsFor drain rows expired → StandsFor left rows (expired ++ unexpired expired name rows)
+    (rows : List GenRow) (expired : List ℕ) → HasRetired drain rows expired → HasRetired left rows (expired ++ unexpired expired name rows)
 
 -- whatever rows and marks the first drain stands for, the second stands for the others of them than those of this number
 abbrev pub Removes : ℕ → List Retired → List Retired → Type 0
-Removes number drain left = (rows : List GenRow) (expired : List ℕ) → StandsFor drain rows expired
-    → StandsFor left (filter (λ (row : GenRow). not (row.number == number)) rows) (filter (λ n. not (n == number)) expired)
+Removes number drain left = (rows : List GenRow) (expired : List ℕ) → HasRetired drain rows expired
+    → HasRetired left (filter (λ (row : GenRow). not (row.number == number)) rows) (filter (λ n. not (n == number)) expired)
 
 -- these are the numbers of the dead generations of whatever world this drain, this ledger and this test of what is shown stand for
 abbrev pub AreDeadNumbers : Format → (ℕ → Bool) → List OpenMember → List Retired → List ℕ → Type 0
 AreDeadNumbers format shown ledger drain dead =
-    (world : World) → StandsFor drain world.rows world.expired → HasOpened ledger world.opened
+    (world : World) → HasRetired drain world.rows world.expired → HasOpened ledger world.opened
     → ((n : ℕ) → shown n ≡ has_number n (numbers_in_use world)) → dead ≡ dead_numbers format world

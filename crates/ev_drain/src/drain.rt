@@ -1,7 +1,7 @@
 ghost use Rattle.std.specs.Prelude.{◌≡◌, ℕ, false, not, [], filter, map, OnOk, OnErr, IfOk};
 ghost use Rattle.std.specs.List.{list_any};
 ghost use Rattle.ev_drain.specs.Notes.{row_of};
-ghost use Rattle.ev_drain.specs.Retired.{newly_retired, is_numbered, has_row, kind_of_row, is_expired, is_waiting, numbers_waiting, marked, dead_of, is_dead_in, retired_status, with_row, StandsFor};
+ghost use Rattle.ev_drain.specs.Retired.{newly_retired, is_numbered, has_row, kind_of_row, is_expired, is_waiting, numbers_waiting, marked, dead_of, is_dead_in, retired_status, with_row, HasRetired};
 ghost use Rattle.ev_drain.specs.Waiters.{AreAmong};
 ghost use Rattle.ev_drain.specs.Worlds.{AreDeadNumbers, Expires, IsAnswerOf, Removes, Retires, has_unexpired};
 
@@ -41,7 +41,7 @@ impl Drain {
     /// No generation drains. It takes no memory.
     pub fn new(alloc: Global) -> Drain
         ensures empty { result ≡ [] }
-        ensures world { StandsFor result [] [] }
+        ensures world { HasRetired result [] [] }
     {
         Drain {
             notes: BTreeMap::new(alloc),

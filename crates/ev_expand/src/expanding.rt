@@ -94,7 +94,8 @@ pub trait Expansion {
         requires event { event.now ≡ event_of (rules profile).guard.profile (view line.now) }
         requires places { ArePlaces (rules profile).guard (view line.now) (guarded_so_far numbers.now) items.now }
         ensures due { TellsDue (rules profile) (is_behind profile) self.old numbers.now (view line.now) result }
-        ensures behind { TakesLine (rules profile) (is_behind profile) self.old self.new numbers.now (view line.now) result };
+        ensures behind { TakesLine (rules profile) (is_behind profile) self.old self.new numbers.now
+            (view line.now) result };
 }
 
 /// The lines of an input after the first are fewer.

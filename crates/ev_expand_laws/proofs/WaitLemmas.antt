@@ -24,7 +24,7 @@ use Rattle.ev_tree.specs.Sources.{source_broken, any_source_broken, source_broke
 use Rattle.ev_tree.proofs.Unions.{least_none}
 use Rattle.ev_cluster_json.specs.declared.parts.TheConstants.{STATIC, LOGICAL_DNS, EDS}
 use Rattle.ev_cluster_json.specs.Assignments.{rows_of}
-use Rattle.ev_cluster_json.specs.Clusters.{name_of, type_of, is_static, is_eds, has_custom_type, is_in_cluster, is_by_eds, holds_hosts, asks_hosts, eds_of, eds_source_of, service_name_of, service_with, service_of, load_assignment_of, is_checked, own_broken, eds_broken, load_assignment_broken, cluster_broken, discovery_of, cluster_of, cluster_reading}
+use Rattle.ev_cluster_json.specs.Clusters.{name_of, type_of, is_static, is_eds, has_custom_type, is_in_cluster, is_by_eds, holds_hosts, asks_hosts, eds_of, eds_source_of, service_name_of, service_with, service_of, load_assignment_of, is_checked, cluster_own_broken, eds_broken, load_assignment_broken, cluster_broken, discovery_of, cluster_of, cluster_reading}
 use Rattle.ev_cluster_json.proofs.RowsMade.{left_false, right_false, not_false}
 use Rattle.ev_expand.specs.Editing.{without, with_value}
 use Rattle.ev_expand.specs.Guarding.{waiting_config, stripped_body, waiting_body}
@@ -278,7 +278,7 @@ pub record HasSoundFields (tree : Data) : Type 0 where
   pub checks : is_wrong (objects_of (codes "health_checks") tree) ≡ false
 
 clear_sound : (profile : Profile) (tree : Data) → cluster_broken profile tree ≡ none_broken → has_custom_type tree ≡ false → HasSoundFields tree
-unfolding cluster_broken own_broken
+unfolding cluster_broken cluster_own_broken
 clear_sound profile tree clear none =
     let v6 = left_false _ _ (ap (λ (b : BrokenRules). b.v6) clear) in
     record {
@@ -304,8 +304,8 @@ types_right Own = refl
 types_right Envoy = refl
 
 waits_own : (profile : Profile) (name : List ℕ) (body tree : Data) → is_object body ≡ true → KeepsFields tree (waiting_body name body) → HasSoundFields tree
-    → own_broken profile (waiting_body name body) ≡ none_broken
-unfolding own_broken
+    → cluster_own_broken profile (waiting_body name body) ≡ none_broken
+unfolding cluster_own_broken
 waits_own profile name body tree is keeps sound =
     let made : Data = waiting_body name body in
     let text : text_of (codes "name") made ≡ text_of (codes "name") tree = text_by (codes "name") tree made (keeps.fields (codes "name") keeps_name) in
@@ -369,7 +369,7 @@ judged_ok (Some rule) value other h = absurd (cc)
 
 -- by this project's own rules a cluster has the type STATIC or EDS, and no custom type
 pub own_types : (tree : Data) (cluster : Cluster) → cluster_reading Own tree ≡ Ok cluster → ((is_static tree || is_eds tree) ≡ true) × (has_custom_type tree ≡ false)
-unfolding cluster_broken own_broken
+unfolding cluster_broken cluster_own_broken
 own_types tree cluster reads =
     let parts = judged_ok (least_of (cluster_broken Own tree)) (cluster_of Own tree) cluster reads in
     let clear : cluster_broken Own tree ≡ none_broken = least_none (cluster_broken Own tree) parts.0 in

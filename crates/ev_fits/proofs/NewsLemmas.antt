@@ -19,7 +19,7 @@ use Rattle.ev_model_laws.specs.Kept.{HoldsPublished}
 use Rattle.ev_model_laws.proofs.BatchLemmas.{settle_not_batched}
 use Rattle.ev_model_laws.proofs.HeldLemmas.{opens_held, step-held}
 use Rattle.ev_worker.specs.Batches.{entries_of, entry_of}
-use Rattle.ev_worker.specs.Workers.{HasWorker, SameOpen, StandsFor, WorkerParts}
+use Rattle.ev_worker.specs.Workers.{HasWorker, IsWorkerIn, SameOpen, WorkerParts}
 use Rattle.ev_worker.specs.declared.lines.BatchLine.{BatchLine}
 use Rattle.ev_actors.specs.Journals.{JournalParts, WorksIn, entries_made, settle_made, with_entries, world_now}
 use Rattle.ev_actors.specs.Resting.{IsBehind, SettlesForNews, is_settle_by, rests_after}
@@ -139,8 +139,8 @@ settle_brings : (at n : ℕ) (before after : JournalParts) (old new : WorkerPart
     → SameOpen old.number [] (world_now committed.turn).opened → IsBehind old.number (world_now committed.turn)
 settle_brings at n before after old new committed works learns none shut =
     let turn : JournalParts = committed.turn in
-    let stands : StandsFor old (world_now turn) =
-    subst (λ (lines : List BatchLine). StandsFor old (world_after Two (world_now turn) (entries_of old.number old.picture lines))) none
+    let stands : IsWorkerIn old (world_now turn) =
+    subst (λ (lines : List BatchLine). IsWorkerIn old (world_after Two (world_now turn) (entries_of old.number old.picture lines))) none
     (works.made.leads Two (world_now turn) works.has) in
     let newer : old.picture.version < version_shown after = learns (none, λ connection. stands.has connection ∙ sym (shut connection)) in
     let held : version_held (world_now turn) old.number ≡ old.picture.version = ap (λ (p : Picture). p.version) works.has.holds in

@@ -15,7 +15,7 @@ use Rattle.ev_model.specs.Operations.{Deed, Operation, deeds_from, is_held_by, o
 use Rattle.ev_model_laws.proofs.DeedLemmas.{ops, rest_after}
 use Rattle.ev_model_laws.proofs.OperationLists.{IsIn, any_none, each_append}
 use Rattle.ev_worker.specs.Batches.{entries_of}
-use Rattle.ev_worker.specs.Workers.{HasWorker, IsMadeFrom, StandsFor, WorkerParts}
+use Rattle.ev_worker.specs.Workers.{HasWorker, IsMadeFrom, IsWorkerIn, WorkerParts}
 use Rattle.ev_worker.specs.declared.lines.BatchLine.{BatchLine}
 use Rattle.ev_actors.specs.Journals.{JournalParts, WorksIn, entries_made, settle_made, world_now}
 use Rattle.ev_actors.specs.Working.{operation_made, operations_made}
@@ -46,8 +46,8 @@ none_held number opened none = any_none (is_held_by (Worker number)) opened (λ 
 idle_rests : (worker : WorkerParts) (number : ℕ) (world : World) → worker.number ≡ number → WorksIn worker world → IsIdle worker
     → list_any (is_held_by (Worker number)) world.opened ≡ false
 idle_rests worker number world is works idle =
-    let stands : StandsFor worker world =
-    subst (λ (lines : List BatchLine). StandsFor worker (world_after Two world (entries_of worker.number worker.picture lines))) idle.0
+    let stands : IsWorkerIn worker world =
+    subst (λ (lines : List BatchLine). IsWorkerIn worker (world_after Two world (entries_of worker.number worker.picture lines))) idle.0
     (works.made.leads Two world works.has) in
     none_held number world.opened
     (λ connection.

@@ -12,7 +12,7 @@ use Rattle.ev_generations.specs.Tables.{row_in}
 use Rattle.ev_generations.proofs.TableLemmas.{number-row_in}
 use Rattle.ev_indexes.specs.declared.state.State.{State}
 use Rattle.ev_indexes.specs.Indexes.{IsIndexed}
-use Rattle.ev_indexes.specs.Worlds.{rows_of_kind, StandsFor}
+use Rattle.ev_indexes.specs.Worlds.{HasRows, rows_of_kind}
 use Rattle.ev_indexes.specs.Shown.{cluster_shown, cluster_at, first_of, listener_shown, cluster_shown_in, listener_shown_in}
 use Rattle.ev_indexes.proofs.RowLemmas.{found-of_kind, all-at}
 use Rattle.ev_indexes.proofs.ShownLemmas.{cluster-world, listener-world}
@@ -33,7 +33,7 @@ kept-of_kind kind n row (r ∷ rows) at own = by (nat_eq n r.number) refl (kind_
     by false e true f h rest = (λ i. cond (e i) (Some r) (row_in n (rows_of_kind kind rows))) ∙ rest h
     by false e false f h rest = rest h
 
-module _ (s : State) (world : World) (stands : StandsFor s world) (x : IsIndexed s) (n : ℕ) where
+module _ (s : State) (world : World) (stands : HasRows s world) (x : IsIndexed s) (n : ℕ) where
   -- what is seen of a row of the state is what is seen of the world's row of its number, where nothing is seen of rows of other kinds
   one-world : {A : Type 0} (own all : Option GenRow → Option A) → own None ≡ None → all None ≡ None
       → ((r : GenRow) → kind_same r.kind s.kind ≡ false → all (Some r) ≡ None)

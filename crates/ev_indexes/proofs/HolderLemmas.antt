@@ -18,7 +18,7 @@ use Rattle.ev_indexes.specs.declared.state.State.{State}
 use Rattle.ev_indexes.specs.Addresses.{listens_at, lives_numbered, lives_listed}
 use Rattle.ev_indexes.specs.Indexes.{IsIndexed, holds, numbers_where}
 use Rattle.ev_indexes.specs.Reads.{holders_in, holders_of}
-use Rattle.ev_indexes.specs.Worlds.{rows_of_kind, StandsFor}
+use Rattle.ev_indexes.specs.Worlds.{HasRows, rows_of_kind}
 use Rattle.ev_indexes.proofs.WhereLemmas.{own-rows}
 
 found_all : (test : GenRow → Bool) (full rows : List GenRow) → AllByRecursion (λ (r : GenRow). row_in r.number full ≡ Some r) rows
@@ -61,7 +61,7 @@ module _ (s : State) (x : IsIndexed s) (address : Host) where
   holders-rows = ap (lives_numbered s.table.rows) (x.holders address) ∙ ap (map live_of) (found_all (holds address) s.table.rows s.table.rows (own-rows s.table.rows x.table.apart))
 
   -- and of listeners those of the world
-  pub holders-world : (world : World) → s.kind ≡ Lds → StandsFor s world → holders_in s.table.rows address ≡ holders_of world address
+  pub holders-world : (world : World) → s.kind ≡ Lds → HasRows s world → holders_in s.table.rows address ≡ holders_of world address
   holders-world world lds stands =
       ap (λ (rows : List GenRow). holders_in rows address) (stands.rows ∙ (λ i. rows_of_kind (lds i) world.rows))
       ∙ among_holders address world.rows stands.sound.typed

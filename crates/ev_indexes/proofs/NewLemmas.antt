@@ -7,12 +7,12 @@ use Rattle.ev_endpoints.specs.Results.{result_in}
 use Rattle.ev_generations.specs.Tables.{IsTable, row_in}
 use Rattle.ev_indexes.specs.declared.state.State.{State}
 use Rattle.ev_indexes.specs.Addresses.{numbers_at}
-use Rattle.ev_indexes.specs.Due.{is_among}
+use Rattle.ev_indexes.specs.Due.{is_one_of}
 use Rattle.ev_indexes.specs.Standings.{standing_in}
 use Rattle.ev_indexes.specs.Watched.{watch_in}
 use Rattle.ev_indexes.specs.Ready.{is_due_at}
 use Rattle.ev_indexes.specs.Indexes.{IsIndexed, serves, warms, waits, holds, numbers_where}
-use Rattle.ev_indexes.specs.Worlds.{StandsFor}
+use Rattle.ev_indexes.specs.Worlds.{HasRows}
 
 empty_table : (made : ℕ) → IsTable (record { rows = []; made = made })
 unfolding IsDistinct
@@ -30,11 +30,11 @@ module _ (s : State) (rows : s.table.rows ≡ []) (names : s.names ≡ []) (watc
     unlimited = λ q. (λ i. (watch_in (watches i) q).unlimited) ∙ (λ i. numbers_where (waits q false) (sym rows i));
     limited = λ q. (λ i. (watch_in (watches i) q).limited) ∙ (λ i. numbers_where (waits q true) (sym rows i));
     holders = λ a. (λ i. numbers_at (addresses i) a) ∙ (λ i. numbers_where (holds a) (sym rows i));
-    due = λ n. (λ i. is_among (due i) n) ∙ (λ i. is_due_at s.watches s.results n (sym rows i));
+    due = λ n. (λ i. is_one_of (due i) n) ∙ (λ i. is_due_at s.watches s.results n (sym rows i));
     drawn = λ n h above. (λ i. result_in (results i) n h);
   }
 
-  pub stands-new : (workers : ℕ) (node : List ℕ) → StandsFor s (opening workers node)
+  pub stands-new : (workers : ℕ) (node : List ℕ) → HasRows s (opening workers node)
   stands-new workers node = record {
     sound = record { table = empty_table 0; typed = tt; named = tt; heard = λ n h above. refl };
     rows = rows;

@@ -22,7 +22,7 @@ use Rattle.ev_indexes.specs.Standings.{standing_in}
 use Rattle.ev_indexes.specs.Indexes.{IsIndexed, serves, warms, numbers_where}
 use Rattle.ev_indexes.specs.Newest.{is_live_as, newest_in, later_of_two, later_number, found_in}
 use Rattle.ev_indexes.specs.Reads.{live_rows}
-use Rattle.ev_indexes.specs.Worlds.{rows_of_kind, StandsFor}
+use Rattle.ev_indexes.specs.Worlds.{HasRows, rows_of_kind}
 use Rattle.ev_indexes.proofs.RowLemmas.{any-some, any_agrees, all_then}
 use Rattle.ev_indexes.proofs.ShownLemmas.{all_left}
 use Rattle.ev_indexes.proofs.WhereLemmas.{own-rows}
@@ -200,7 +200,7 @@ named-world kind name (row ∷ rows) = by (kind_same row.kind kind) refl (is_liv
 pub newest-found : (s : State) (name : List ℕ) → IsIndexed s → newest_in s.table.rows name ≡ found_in s.table.rows (later_number (standing_in s.names name))
 newest-found s name x = newest-rows s.table.rows name x.table.apart (standing_in s.names name).active (standing_in s.names name).warming (x.active name) (x.warming name)
 
-pub newest-world : (s : State) (world : World) (name : List ℕ) → StandsFor s world → newest_in s.table.rows name ≡ newest_of (lives_of world) s.kind name
+pub newest-world : (s : State) (world : World) (name : List ℕ) → HasRows s world → newest_in s.table.rows name ≡ newest_of (lives_of world) s.kind name
 newest-world s world name stands = (λ i. newest_in (stands.rows i) name) ∙ sym (ap latest (named-world s.kind name world.rows))
 
 -- a name is found to be live where a row passes the test
@@ -217,7 +217,7 @@ come-found s name x standing e =
     (λ i. is_some (e i).active || not (is_some (e i).warming))
     ∙ (λ i. some-listed (serves name) s.table.rows (standing_in s.names name).active (x.active name) i || not (some-listed (warms name) s.table.rows (standing_in s.names name).warming (x.warming name) i))
 
-module _ (s : State) (world : World) (name : List ℕ) (x : IsIndexed s) (stands : StandsFor s world) where
+module _ (s : State) (world : World) (name : List ℕ) (x : IsIndexed s) (stands : HasRows s world) where
   -- a test of the rows of a name
   any-named : (test : RowStatus → Bool) → list_any (λ (row : GenRow). is_row_of s.kind name row && test row.status) world.rows ≡ list_any (λ (row : GenRow). test row.status && bytes_eq row.name name) s.table.rows
   any-named test =

@@ -23,7 +23,7 @@ use Rattle.ev_indexes.specs.Watched.{unwatched, watch_in, has_watcher, watchers_
 use Rattle.ev_indexes.specs.Needs.{is_need}
 use Rattle.ev_indexes.specs.Indexes.{IsIndexed, depends_on, waits, numbers_waiting, numbers_where}
 use Rattle.ev_indexes.specs.Reads.{live_rows, names_needed, names_watched, awaits_in, is_waiting_in, is_one_waiting, is_timeout_due}
-use Rattle.ev_indexes.specs.Worlds.{needs_of, rows_of_kind, StandsFor}
+use Rattle.ev_indexes.specs.Worlds.{HasRows, needs_of, rows_of_kind}
 use Rattle.ev_indexes.proofs.RowLemmas.{any_agrees, all_then}
 use Rattle.ev_indexes.proofs.NameLemmas.{same-names, sorted-in_order, among-watched, among_watched}
 use Rattle.ev_indexes.proofs.PlaceLemmas.{dependency-kinds}
@@ -53,7 +53,7 @@ any-lives test (row ∷ rows) = by (is_live row.status) (any-lives test rows)
     by true h = ap (λ t. test row.content || t) h
     by false h = h
 
-module _ (s : State) (world : World) (stands : StandsFor s world) (rowed : is_by_name s.kind ≡ false) (name : List ℕ) where
+module _ (s : State) (world : World) (stands : HasRows s world) (rowed : is_by_name s.kind ≡ false) (name : List ℕ) where
   -- a test that rows pass only where they depend on the name is the same over the world
   any-dependent : (f g : GenRow → Bool) → ((r : GenRow) → f r ≡ true → has_dependency (needs_of s.kind) name r.content ≡ true)
       → ((r : GenRow) → content_kind r.content ≡ s.kind → f r ≡ g r) → list_any f world.rows ≡ list_any g s.table.rows
@@ -110,7 +110,7 @@ lives-world kind (row ∷ rows) = by (kind_same row.kind kind) refl (is_live row
         rest ∙ (λ i. cond (sym e i) (live_of row ∷ filter (λ (live : Live). kind_same live.kind kind) (map live_of (live_rows rows))) (filter (λ (live : Live). kind_same live.kind kind) (map live_of (live_rows rows))))
     by false e false f rest = rest
 
-pub names-world : (s : State) (world : World) → StandsFor s world → is_by_name s.kind ≡ false → names_watched s.table.rows ≡ watched_of world (needs_of s.kind)
+pub names-world : (s : State) (world : World) → HasRows s world → is_by_name s.kind ≡ false → names_watched s.table.rows ≡ watched_of world (needs_of s.kind)
 names-world s world stands rowed =
     same-names (names_watched s.table.rows) (watched_of world (needs_of s.kind)) (sorted-in_order (names_needed s.table.rows))
     (sorted-in_order (flat_map (λ (live : Live). names_awaited (needs_of s.kind) (dependencies_of live.content)) (lives_of world)))

@@ -8,7 +8,7 @@ use Rattle.ev_model.specs.World.{World, Arrived, HealthResult}
 use Rattle.ev_model.specs.Warming.{last_told, last_timed, value_by, has_result, is_healthy}
 use Rattle.ev_generations.specs.Tables.{GenerationsParts, IsTable}
 use Rattle.ev_indexes.specs.declared.state.State.{State}
-use Rattle.ev_indexes.specs.Worlds.{needs_of, rows_of_kind, IsSound, StandsFor}
+use Rattle.ev_indexes.specs.Worlds.{needs_of, rows_of_kind, IsSound, HasRows}
 
 -- the worlds have the same generations and numbers, the same that came for names, and the same results
 pub record SameSeen (before after : World) : Type 0 where
@@ -27,7 +27,7 @@ seen-sound before after seen sound = record {
 }
 
 -- a state that stands for a world stands for every one that has the same rows, numbers, arrivals and results
-pub seen-stands : (s : State) (before after : World) → SameSeen before after → StandsFor s before → StandsFor s after
+pub seen-stands : (s : State) (before after : World) → SameSeen before after → HasRows s before → HasRows s after
 seen-stands s before after seen stands = record {
   sound = seen-sound before after seen stands.sound;
   rows = stands.rows ∙ ap (rows_of_kind s.kind) (sym seen.rows);

@@ -28,7 +28,7 @@ use Rattle.ev_indexes.specs.Standings.{standing_in}
 use Rattle.ev_indexes.specs.Indexes.{IsIndexed, serves, numbers_where}
 use Rattle.ev_indexes.specs.Reads.{active_by_name, chain_in, cluster_in, clusters_in, listener_in, listeners_in, routing_in}
 use Rattle.ev_indexes.specs.Watched.{WatchesKept}
-use Rattle.ev_indexes.specs.Worlds.{needs_of, StandsFor}
+use Rattle.ev_indexes.specs.Worlds.{HasRows, needs_of}
 use Rattle.ev_indexes.proofs.RowLemmas.{filter-rows_of_kind, filter_agrees, all_then, both_all}
 use Rattle.ev_indexes.proofs.SortLemmas.{by_key, sorted_by-same}
 use Rattle.ev_indexes.proofs.SoundLemmas.{contents-of}
@@ -100,7 +100,7 @@ pub names-map : {A : Type 0} (f : GenRow → A) (name : A → List ℕ) → ((r 
 names-map f name same [] = refl
 names-map f name same (row ∷ rows) = λ i. same row i ∷ names-map f name same rows i
 
-module _ (s : State) (world : World) (stands : StandsFor s world) (x : IsIndexed s) where
+module _ (s : State) (world : World) (stands : HasRows s world) (x : IsIndexed s) where
   -- the active rows of the state are the active rows of its kind
   pub active-world : active_by_name s.table.rows ≡ active_rows world.rows s.kind
   active-world =
@@ -164,7 +164,7 @@ flat_map_agrees : {A : Type 0} (f g : GenRow → List A) (rows : List GenRow) �
 flat_map_agrees f g [] all = refl
 flat_map_agrees f g (row ∷ rows) all = λ i. all.0 i ++ flat_map_agrees f g rows all.1 i
 
-module _ (s : State) (world : World) (stands : StandsFor s world) (x : IsIndexed s) (lds : s.kind ≡ Lds) where
+module _ (s : State) (world : World) (stands : HasRows s world) (x : IsIndexed s) (lds : s.kind ≡ Lds) where
   pub listener-world : (r : GenRow) → listener_in s.watches r r.content ≡ served_listener world.arrivals r r.content
   listener-world r = by r.content
     where

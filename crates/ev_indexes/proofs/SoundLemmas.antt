@@ -16,7 +16,7 @@ use Rattle.ev_model.specs.Rows.{with_statuses, replaced_status, new_row, rows_wi
 use Rattle.ev_generations.specs.Tables.{is_number, row_in, numbers_of}
 use Rattle.ev_generations.proofs.TableLemmas.{numbers_of-with_statuses, row_in-with_statuses}
 use Rattle.ev_indexes.specs.declared.state.State.{State}
-use Rattle.ev_indexes.specs.Worlds.{rows_of_kind, IsSound, StandsFor}
+use Rattle.ev_indexes.specs.Worlds.{rows_of_kind, IsSound, HasRows}
 use Rattle.ev_indexes.proofs.WhereLemmas.{row_with, flipped}
 
 -- what doesn't look at statuses holds of rows with other ones
@@ -39,7 +39,7 @@ all-rows_of_kind P Q kind f (row ∷ rows) all = by (kind_same row.kind kind) re
     by false e rest = rest
 
 -- the rows of a state that stands for a world have contents of its kind
-pub contents-of : (s : State) (world : World) → StandsFor s world → AllByRecursion (λ (r : GenRow). content_kind r.content ≡ s.kind) s.table.rows
+pub contents-of : (s : State) (world : World) → HasRows s world → AllByRecursion (λ (r : GenRow). content_kind r.content ≡ s.kind) s.table.rows
 contents-of s world stands =
     subst (AllByRecursion (λ (r : GenRow). content_kind r.content ≡ s.kind)) (sym stands.rows)
     (all-rows_of_kind (λ (r : GenRow). content_kind r.content ≡ r.kind) (λ (r : GenRow). content_kind r.content ≡ s.kind) s.kind (λ r typed own. typed ∙ own) world.rows stands.sound.typed)

@@ -12,7 +12,7 @@ use Rattle.ev_types.specs.declared.rows.GenRow.{GenRow}
 use Rattle.ev_model.specs.Watching.{Dependency, dependencies_of}
 use Rattle.ev_generations.specs.Tables.{row_in, numbers_of}
 use Rattle.ev_indexes.specs.declared.state.State.{State}
-use Rattle.ev_indexes.specs.Due.{is_among, has_number}
+use Rattle.ev_indexes.specs.Due.{is_one_of, has_number}
 use Rattle.ev_indexes.specs.Watched.{watch_in, has_watcher, watchers_of, is_last, with_last, watched_for, unwatched_for, watched_less, numbers_without, is_other}
 use Rattle.ev_indexes.specs.Needs.{is_needed, is_need, is_needed_so}
 use Rattle.ev_indexes.specs.Indexes.{IsIndexed, depends_on, waits, numbers_where, numbers_waiting, passes}
@@ -72,11 +72,11 @@ any-depends name rows = any-either (depends_on name) (waits name false) (waits n
 
 -- a number among those that wait is that of a row that depends on the name
 pub among-waiting : (name : List ℕ) (rows : List GenRow) (number : ℕ)
-    → is_among (numbers_waiting rows name) number ≡ (is_among (numbers_where (waits name false) rows) number || is_among (numbers_where (waits name true) rows) number)
+    → is_one_of (numbers_waiting rows name) number ≡ (is_one_of (numbers_where (waits name false) rows) number || is_one_of (numbers_where (waits name true) rows) number)
 among-waiting name rows number = list_any-append (nat_eq number) (numbers_where (waits name false) rows) (numbers_where (waits name true) rows)
 
 -- the number of a row that depends on the name is among them
-pub among-depends : (name : List ℕ) (n : ℕ) (row : GenRow) (rows : List GenRow) → row_in n rows ≡ Some row → depends_on name row ≡ true → is_among (numbers_waiting rows name) n ≡ true
+pub among-depends : (name : List ℕ) (n : ℕ) (row : GenRow) (rows : List GenRow) → row_in n rows ≡ Some row → depends_on name row ≡ true → is_one_of (numbers_waiting rows name) n ≡ true
 among-depends name n row rows found depends =
     among-waiting name rows n ∙ by (waits name false row) refl (waits name true row) refl (sym (depends_on-waits name row) ∙ depends)
   where
@@ -85,9 +85,9 @@ among-depends name n row rows found depends =
     late false = refl
 
     by : (a : Bool) → waits name false row ≡ a → (b : Bool) → waits name true row ≡ b → (a || b) ≡ true
-        → (is_among (numbers_where (waits name false) rows) n || is_among (numbers_where (waits name true) rows) n) ≡ true
-    by true e b f h = ap (λ t. t || is_among (numbers_where (waits name true) rows) n) (among-where (waits name false) n row rows found e)
-    by false e true f h = (λ i. is_among (numbers_where (waits name false) rows) n || among-where (waits name true) n row rows found f i) ∙ late (is_among (numbers_where (waits name false) rows) n)
+        → (is_one_of (numbers_where (waits name false) rows) n || is_one_of (numbers_where (waits name true) rows) n) ≡ true
+    by true e b f h = ap (λ t. t || is_one_of (numbers_where (waits name true) rows) n) (among-where (waits name false) n row rows found e)
+    by false e true f h = (λ i. is_one_of (numbers_where (waits name false) rows) n || among-where (waits name true) n row rows found f i) ∙ late (is_one_of (numbers_where (waits name false) rows) n)
     by false e false f h = absurd (true≢false (sym h))
 
 -- what an index has of a name
@@ -138,10 +138,10 @@ pub with_last-twice : (n : ℕ) (xs : List ℕ) → with_last n (with_last n xs)
 with_last-twice n xs = λ i. cond (is_last-with_last n xs i) (with_last n xs) (with_last n xs ++ n ∷ [])
 
 -- a number that isn't among these isn't their last
-pub with_last-far : (n : ℕ) (xs : List ℕ) → is_among xs n ≡ false → with_last n xs ≡ xs ++ n ∷ []
+pub with_last-far : (n : ℕ) (xs : List ℕ) → is_one_of xs n ≡ false → with_last n xs ≡ xs ++ n ∷ []
 with_last-far n xs away = λ i. cond (far xs away i) xs (xs ++ n ∷ [])
   where
-    far : (ys : List ℕ) → is_among ys n ≡ false → is_last n ys ≡ false
+    far : (ys : List ℕ) → is_one_of ys n ≡ false → is_last n ys ≡ false
     far [] h = refl
     far (y ∷ ys) h = by (is_last n (y ∷ ys)) refl
       where

@@ -9,7 +9,7 @@ use Rattle.ev_model.specs.Rows.{with_statuses}
 use Rattle.ev_types.specs.declared.rows.GenRow.{GenRow}
 use Rattle.ev_generations.specs.Tables.{row_in, numbers_of, with_status}
 use Rattle.ev_generations.proofs.TableLemmas.{with_status-absent}
-use Rattle.ev_indexes.specs.Due.{is_among}
+use Rattle.ev_indexes.specs.Due.{is_one_of}
 use Rattle.ev_indexes.specs.Watched.{numbers_without}
 use Rattle.ev_indexes.specs.Indexes.{numbers_where, passes}
 
@@ -19,18 +19,18 @@ row_with status row = record row { status = status }
 
 -- a row that is found and passes has its number among those that pass
 pub among-where : (test : GenRow → Bool) (number : ℕ) (row : GenRow) (rows : List GenRow) → row_in number rows ≡ Some row → test row ≡ true
-    → is_among (numbers_where test rows) number ≡ true
+    → is_one_of (numbers_where test rows) number ≡ true
 among-where test number row [] found passes = cc
 among-where test number row (other ∷ rows) found passes = by (nat_eq number other.number) refl (test other) refl found (among-where test number row rows)
   where
     by : (b : Bool) → nat_eq number other.number ≡ b → (t : Bool) → test other ≡ t → cond b (Some other) (row_in number rows) ≡ Some row
-        → (row_in number rows ≡ Some row → test row ≡ true → is_among (numbers_where test rows) number ≡ true)
-        → is_among (numbers_of (cond t (other ∷ filter test rows) (filter test rows))) number ≡ true
-    by true here true e at rest = ap (λ b. b || is_among (numbers_where test rows) number) here
+        → (row_in number rows ≡ Some row → test row ≡ true → is_one_of (numbers_where test rows) number ≡ true)
+        → is_one_of (numbers_of (cond t (other ∷ filter test rows) (filter test rows))) number ≡ true
+    by true here true e at rest = ap (λ b. b || is_one_of (numbers_where test rows) number) here
     by true here false e at rest =
         let same : other ≡ row = cc in
         absurd (true≢false (sym passes ∙ ap test (sym same) ∙ e))
-    by false here true e at rest = (λ i. here i || is_among (numbers_where test rows) number) ∙ rest at passes
+    by false here true e at rest = (λ i. here i || is_one_of (numbers_where test rows) number) ∙ rest at passes
     by false here false e at rest = rest at passes
 
 -- where the row of this number no longer passes with its new status, its number is left out
@@ -166,7 +166,7 @@ where-some test (row ∷ rows) any none = by (test row) any none (where-some tes
     by false a n rest = rest a n
 
 -- the number that is the only one leaves nothing
-pub without-one : (number : ℕ) (o : Option ℕ) → is_among (option_to_list o) number ≡ true → numbers_without number (option_to_list o) ≡ []
+pub without-one : (number : ℕ) (o : Option ℕ) → is_one_of (option_to_list o) number ≡ true → numbers_without number (option_to_list o) ≡ []
 without-one number None here = refl
 without-one number (Some n) here = by (nat_eq number n) here
   where
@@ -189,50 +189,50 @@ flipped a b = by (nat_eq a b) refl
     by false e = sym (ne_eqb b a (λ h. eqb-false a b e (sym h)))
 
 -- no row has the number
-far_of : (number : ℕ) (test : GenRow → Bool) (rows : List GenRow) → AllByRecursion (λ y. nat_eq number y ≡ false) (numbers_of rows) → is_among (numbers_where test rows) number ≡ false
+far_of : (number : ℕ) (test : GenRow → Bool) (rows : List GenRow) → AllByRecursion (λ y. nat_eq number y ≡ false) (numbers_of rows) → is_one_of (numbers_where test rows) number ≡ false
 far_of number test [] all = refl
 far_of number test (row ∷ rows) all = by (test row) (far_of number test rows all.1)
   where
-    by : (t : Bool) → is_among (numbers_where test rows) number ≡ false → is_among (numbers_of (cond t (row ∷ filter test rows) (filter test rows))) number ≡ false
-    by true rest = (λ i. all.0 i || is_among (numbers_where test rows) number) ∙ rest
+    by : (t : Bool) → is_one_of (numbers_where test rows) number ≡ false → is_one_of (numbers_of (cond t (row ∷ filter test rows) (filter test rows))) number ≡ false
+    by true rest = (λ i. all.0 i || is_one_of (numbers_where test rows) number) ∙ rest
     by false rest = rest
 
 -- of rows with different numbers those that pass are those whose number is among theirs
 pub where-members : (test : GenRow → Bool) (rows : List GenRow) → IsDistinct nat_eq (numbers_of rows)
-    → AllByRecursion (λ (r : GenRow). is_among (numbers_where test rows) r.number ≡ test r) rows
+    → AllByRecursion (λ (r : GenRow). is_one_of (numbers_where test rows) r.number ≡ test r) rows
 where-members test [] apart = tt
 where-members test (row ∷ rows) apart =
     (first (test row), more (test row) rows (IsDistinct-head nat_eq row.number (numbers_of rows) apart) (where-members test rows (IsDistinct-tail nat_eq row.number (numbers_of rows) apart)))
   where
-    first : (t : Bool) → is_among (numbers_of (cond t (row ∷ filter test rows) (filter test rows))) row.number ≡ t
-    first true = ap (λ b. b || is_among (numbers_where test rows) row.number) (eq-eqb row.number row.number refl)
+    first : (t : Bool) → is_one_of (numbers_of (cond t (row ∷ filter test rows) (filter test rows))) row.number ≡ t
+    first true = ap (λ b. b || is_one_of (numbers_where test rows) row.number) (eq-eqb row.number row.number refl)
     first false = far_of row.number test rows (IsDistinct-head nat_eq row.number (numbers_of rows) apart)
 
-    one : (t : Bool) (r : GenRow) → nat_eq row.number r.number ≡ false → is_among (numbers_where test rows) r.number ≡ test r
-        → is_among (numbers_of (cond t (row ∷ filter test rows) (filter test rows))) r.number ≡ test r
-    one true r away h = (λ i. (flipped r.number row.number ∙ away) i || is_among (numbers_where test rows) r.number) ∙ h
+    one : (t : Bool) (r : GenRow) → nat_eq row.number r.number ≡ false → is_one_of (numbers_where test rows) r.number ≡ test r
+        → is_one_of (numbers_of (cond t (row ∷ filter test rows) (filter test rows))) r.number ≡ test r
+    one true r away h = (λ i. (flipped r.number row.number ∙ away) i || is_one_of (numbers_where test rows) r.number) ∙ h
     one false r away h = h
 
-    more : (t : Bool) (rs : List GenRow) → AllByRecursion (λ y. nat_eq row.number y ≡ false) (numbers_of rs) → AllByRecursion (λ (r : GenRow). is_among (numbers_where test rows) r.number ≡ test r) rs
-        → AllByRecursion (λ (r : GenRow). is_among (numbers_of (cond t (row ∷ filter test rows) (filter test rows))) r.number ≡ test r) rs
+    more : (t : Bool) (rs : List GenRow) → AllByRecursion (λ y. nat_eq row.number y ≡ false) (numbers_of rs) → AllByRecursion (λ (r : GenRow). is_one_of (numbers_where test rows) r.number ≡ test r) rs
+        → AllByRecursion (λ (r : GenRow). is_one_of (numbers_of (cond t (row ∷ filter test rows) (filter test rows))) r.number ≡ test r) rs
     more t [] far all = tt
     more t (r ∷ rs) far all = (one t r far.0 all.0, more t rs far.1 all.1)
 
 -- a number among those that pass has a row, which passes
-pub found-where : (test : GenRow → Bool) (number : ℕ) (rows : List GenRow) → IsDistinct nat_eq (numbers_of rows) → is_among (numbers_where test rows) number ≡ true
+pub found-where : (test : GenRow → Bool) (number : ℕ) (rows : List GenRow) → IsDistinct nat_eq (numbers_of rows) → is_one_of (numbers_where test rows) number ≡ true
     → (row : GenRow) × (row_in number rows ≡ Some row) × (test row ≡ true)
 found-where test number [] apart here = absurd (true≢false (sym here))
 found-where test number (other ∷ rows) apart here =
     by (nat_eq number other.number) refl (test other) refl here (found-where test number rows (IsDistinct-tail nat_eq other.number (numbers_of rows) apart))
   where
-    by : (b : Bool) → nat_eq number other.number ≡ b → (t : Bool) → test other ≡ t → is_among (numbers_of (cond t (other ∷ filter test rows) (filter test rows))) number ≡ true
-        → (is_among (numbers_where test rows) number ≡ true → (row : GenRow) × (row_in number rows ≡ Some row) × (test row ≡ true))
+    by : (b : Bool) → nat_eq number other.number ≡ b → (t : Bool) → test other ≡ t → is_one_of (numbers_of (cond t (other ∷ filter test rows) (filter test rows))) number ≡ true
+        → (is_one_of (numbers_where test rows) number ≡ true → (row : GenRow) × (row_in number rows ≡ Some row) × (test row ≡ true))
         → (row : GenRow) × (cond b (Some other) (row_in number rows) ≡ Some row) × (test row ≡ true)
     by true e true f h rest = (other, refl, f)
     by true e false f h rest =
-        absurd (true≢false (sym h ∙ (λ i. is_among (numbers_where test rows) (eqb-true number other.number e i))
+        absurd (true≢false (sym h ∙ (λ i. is_one_of (numbers_where test rows) (eqb-true number other.number e i))
         ∙ far_of other.number test rows (IsDistinct-head nat_eq other.number (numbers_of rows) apart)))
-    by false e true f h rest = rest ((λ i. sym e i || is_among (numbers_where test rows) number) ∙ h)
+    by false e true f h rest = rest ((λ i. sym e i || is_one_of (numbers_where test rows) number) ∙ h)
     by false e false f h rest = rest h
 
 -- a row that is found and passes
@@ -275,7 +275,7 @@ all-found number row (other ∷ rows) found apart = by (nat_eq number other.numb
     by false e at rest = (λ h. absurd (true≢false (sym h ∙ e)), rest at (IsDistinct-tail nat_eq other.number (numbers_of rows) apart))
 
 -- an option with the number is that number
-pub only : (number : ℕ) (o : Option ℕ) → is_among (option_to_list o) number ≡ true → o ≡ Some number
+pub only : (number : ℕ) (o : Option ℕ) → is_one_of (option_to_list o) number ≡ true → o ≡ Some number
 only number None here = absurd (true≢false (sym here))
 only number (Some n) here = by (nat_eq number n) refl here
   where
@@ -301,10 +301,10 @@ own-rows (row ∷ rows) apart = (
     more (r ∷ rs) far all = ((λ i. cond ((flipped r.number row.number ∙ far.0) i) (Some row) (row_in r.number rows)) ∙ all.0, more rs far.1 all.1)
 
 -- of rows with different numbers a number is among those that pass where its row passes
-pub among-row : (test : GenRow → Bool) (n : ℕ) (rows : List GenRow) → IsDistinct nat_eq (numbers_of rows) → is_among (numbers_where test rows) n ≡ passes test (row_in n rows)
-among-row test n rows apart = by (row_in n rows) refl (is_among (numbers_where test rows) n) refl
+pub among-row : (test : GenRow → Bool) (n : ℕ) (rows : List GenRow) → IsDistinct nat_eq (numbers_of rows) → is_one_of (numbers_where test rows) n ≡ passes test (row_in n rows)
+among-row test n rows apart = by (row_in n rows) refl (is_one_of (numbers_where test rows) n) refl
   where
-    over : (row : GenRow) → row_in n rows ≡ Some row → (t : Bool) → test row ≡ t → (b : Bool) → is_among (numbers_where test rows) n ≡ b → b ≡ t
+    over : (row : GenRow) → row_in n rows ≡ Some row → (t : Bool) → test row ≡ t → (b : Bool) → is_one_of (numbers_where test rows) n ≡ b → b ≡ t
     over row found true e b f = sym f ∙ among-where test n row rows found e
     over row found false e true f =
         let there = found-where test n rows apart f in
@@ -315,13 +315,13 @@ among-row test n rows apart = by (row_in n rows) refl (is_among (numbers_where t
         some_same h = cc
     over row found false e false f = refl
 
-    none : row_in n rows ≡ None → (b : Bool) → is_among (numbers_where test rows) n ≡ b → b ≡ false
+    none : row_in n rows ≡ None → (b : Bool) → is_one_of (numbers_where test rows) n ≡ b → b ≡ false
     none gone true f =
         let there = found-where test n rows apart f in
         let clash : Some there.0 ≡ None = sym there.1 ∙ gone in
         cc
     none gone false f = refl
 
-    by : (o : Option GenRow) → row_in n rows ≡ o → (b : Bool) → is_among (numbers_where test rows) n ≡ b → is_among (numbers_where test rows) n ≡ passes test o
+    by : (o : Option GenRow) → row_in n rows ≡ o → (b : Bool) → is_one_of (numbers_where test rows) n ≡ b → is_one_of (numbers_where test rows) n ≡ passes test o
     by None e b f = f ∙ none e b f
     by (Some row) e b f = f ∙ over row e (test row) refl b f

@@ -21,7 +21,7 @@ use Rattle.ev_generations.specs.Tables.{row_in}
 use Rattle.ev_indexes.specs.declared.state.State.{State}
 use Rattle.ev_indexes.specs.Watched.{WatchesKept, watch_in}
 use Rattle.ev_indexes.specs.Ready.{has_answer_in, discovered_in, assignment_in, are_results_in, is_answered_in, is_ready_in}
-use Rattle.ev_indexes.specs.Worlds.{needs_of, rows_of_kind, StandsFor}
+use Rattle.ev_indexes.specs.Worlds.{HasRows, needs_of, rows_of_kind}
 use Rattle.ev_indexes.proofs.DependencyLemmas.{all-each}
 use Rattle.ev_indexes.proofs.PlaceLemmas.{dependency-kinds}
 
@@ -64,7 +64,7 @@ module _ (kind : Kind) (watches : WatchesKept) (arrivals : List Arrived) (values
   hosts-by (a_listener listener) k = refl
   hosts-by (routes table) k = refl
 
-module _ (s : State) (world : World) (stands : StandsFor s world) where
+module _ (s : State) (world : World) (stands : HasRows s world) where
   answered : (number : ℕ) (content : Content) → content_kind content ≡ s.kind → is_answered_in s.watches number content ≡ is_answered_by world.arrivals number content
   answered number content k =
       all-each (λ (d : Dependency). d.kind ≡ needs_of (content_kind content)) (has_answer_in s.watches number) (has_answer world.arrivals number) one (dependencies_of content) (dependency-kinds content)

@@ -3,8 +3,8 @@ use Rattle.std.specs.Prelude.{ℕ, Bool, true, false, nat_eq, List, [], ◌∷�
 use Rattle.std.specs.List.{list_any}
 
 -- the number is among these
-abbrev pub is_among : List ℕ → ℕ → Bool
-is_among numbers number = list_any (nat_eq number) numbers
+abbrev pub is_one_of : List ℕ → ℕ → Bool
+is_one_of numbers number = list_any (nat_eq number) numbers
 
 -- there is a number
 abbrev pub has_number : List ℕ → Bool

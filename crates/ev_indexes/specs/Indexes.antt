@@ -11,7 +11,7 @@ use Rattle.ev_model.specs.Watching.{dependencies_of}
 use Rattle.ev_endpoints.specs.Results.{result_in}
 use Rattle.ev_generations.specs.Tables.{IsTable, numbers_of}
 use Rattle.ev_indexes.specs.Addresses.{numbers_at, listens_at}
-use Rattle.ev_indexes.specs.Due.{is_among}
+use Rattle.ev_indexes.specs.Due.{is_one_of}
 use Rattle.ev_indexes.specs.Standings.{standing_in}
 use Rattle.ev_indexes.specs.Watched.{WatchesKept, watch_in}
 use Rattle.ev_indexes.specs.Needs.{is_needed, is_needed_so}
@@ -75,5 +75,5 @@ pub record IsIndexed (s : State) : Type 0 where
   pub unlimited : (name : List ℕ) → (watch_in s.watches name).unlimited ≡ numbers_where (waits name false) s.table.rows
   pub limited : (name : List ℕ) → (watch_in s.watches name).limited ≡ numbers_where (waits name true) s.table.rows
   pub holders : (address : Host) → numbers_at s.addresses address ≡ numbers_where (holds address) s.table.rows
-  pub due : (number : ℕ) → is_among s.due number ≡ is_due_at s.watches s.results number s.table.rows
+  pub due : (number : ℕ) → is_one_of s.due number ≡ is_due_at s.watches s.results number s.table.rows
   pub drawn : (number : ℕ) (host : Host) → s.table.made < number → result_in s.results number host ≡ None

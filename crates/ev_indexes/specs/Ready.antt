@@ -15,7 +15,7 @@ use Rattle.ev_model.specs.Watching.{Dependency, dependencies_of}
 use Rattle.ev_model.specs.Warming.{counts_for, rows_in, is_checked}
 use Rattle.ev_endpoints.specs.Results.{ResultsKept, result_in}
 use Rattle.ev_generations.specs.Tables.{row_in}
-use Rattle.ev_indexes.specs.Due.{is_among}
+use Rattle.ev_indexes.specs.Due.{is_one_of}
 use Rattle.ev_indexes.specs.Watched.{WatchesKept, watch_in}
 
 -- the generation of this number was told of what it depends on
@@ -79,4 +79,4 @@ is_due_at watches results number rows = is_due_found watches results (row_in num
 -- of these numbers those are due whose rows are due, and of all others those that were
 abbrev pub Refreshes : WatchesKept → ResultsKept → List GenRow → List ℕ → List ℕ → List ℕ → Type 0
 Refreshes watches results rows numbers old new =
-    (number : ℕ) → is_among new number ≡ (if is_among numbers number then is_due_at watches results number rows else is_among old number)
+    (number : ℕ) → is_one_of new number ≡ (if is_one_of numbers number then is_due_at watches results number rows else is_one_of old number)

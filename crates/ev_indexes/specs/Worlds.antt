@@ -37,7 +37,7 @@ pub record IsSound (world : World) : Type 0 where
 
 -- the state has what the world has of its kind: the rows, what came for each name, and the results of each of its rows; how many numbers
 -- were drawn is not of one kind, and the state's table says only that no row has a greater number than the last that it knows of
-pub record StandsFor (s : State) (world : World) : Type 0 where
+pub record HasRows (s : State) (world : World) : Type 0 where
   pub sound : IsSound world
   pub rows : s.table.rows ≡ rows_of_kind s.kind world.rows
   pub told : (name : List ℕ) → (watch_in s.watches name).told ≡ last_told world.arrivals (needs_of s.kind) name
@@ -48,7 +48,7 @@ pub record StandsFor (s : State) (world : World) : Type 0 where
 
 -- it is so in every world that the state stands for
 abbrev pub InWorlds : State → (World → Type 0) → Type 0
-InWorlds s Said = (world : World) → StandsFor s world → Said world
+InWorlds s Said = (world : World) → HasRows s world → Said world
 
 -- where the state is of this kind, it is so in every world that it stands for
 abbrev pub InWorldsOf : Kind → State → (World → Type 0) → Type 0
@@ -56,4 +56,4 @@ InWorldsOf kind s Said = s.kind ≡ kind → InWorlds s Said
 
 -- where rows of the state's kind wait for names, it is so in every world that it stands for, of the kind of these names
 abbrev pub InWorldsWatching : State → (World → Kind → Type 0) → Type 0
-InWorldsWatching s Said = (world : World) → is_by_name s.kind ≡ false → StandsFor s world → Said world (needs_of s.kind)
+InWorldsWatching s Said = (world : World) → is_by_name s.kind ≡ false → HasRows s world → Said world (needs_of s.kind)

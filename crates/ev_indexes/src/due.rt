@@ -2,7 +2,7 @@
 //! when it is added; nothing counts waits.
 
 ghost use Rattle.std.specs.Prelude.{◌≡◌, ◌||◌, ◌&&◌, not, true, if◌then◌else◌, ◌+◌, length, ℕ, [], nat_eq, IfSome, IfNone, OnOk, OnErr};
-ghost use Rattle.ev_indexes.specs.Due.{is_among};
+ghost use Rattle.ev_indexes.specs.Due.{is_one_of};
 
 use ev_types::{Gen, TryCopy};
 use indexmap::IndexSet;
@@ -35,7 +35,7 @@ impl Due {
 
     /// One of those that are due.
     pub fn first(&self) -> Option<Gen>
-        ensures some { IfSome result (λ number. is_among self.now number ≡ true) }
+        ensures some { IfSome result (λ number. is_one_of self.now number ≡ true) }
         ensures none { IfNone result (self.now ≡ []) }
     {
         self.numbers.first().copied()
@@ -43,7 +43,7 @@ impl Due {
 
     /// One more is due. Out of memory, the same are due as before.
     pub fn put(&mut self, number: Gen) -> Result<(), AllocError>
-        ensures ok { OnOk result ((n : ℕ) → is_among self.new n ≡ (nat_eq number n || is_among self.old n)) }
+        ensures ok { OnOk result ((n : ℕ) → is_one_of self.new n ≡ (nat_eq number n || is_one_of self.old n)) }
         ensures err { OnErr result (self.new ≡ self.old) }
     {
         let Ok(_) = self.numbers.insert(number) else {
@@ -54,8 +54,8 @@ impl Due {
 
     /// One is no longer due.
     pub fn leave(&mut self, number: Gen)
-        ensures left { (n : ℕ) → is_among self.new n ≡ (not (nat_eq number n) && is_among self.old n) }
-        ensures count { length self.new + (if is_among self.old number then 1 else 0) ≡ length self.old }
+        ensures left { (n : ℕ) → is_one_of self.new n ≡ (not (nat_eq number n) && is_one_of self.old n) }
+        ensures count { length self.new + (if is_one_of self.old number then 1 else 0) ≡ length self.old }
     {
         self.numbers.swap_remove(&number);
     }

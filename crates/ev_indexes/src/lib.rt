@@ -4,7 +4,7 @@
 //!
 //! Each index equals a search of the rows (`IsIndexed`), and a question costs look-ups in place of the search. What shows or
 //! lists all goes over the table once and sorts by name. What is said of a world is said of every one that the state stands
-//! for (`StandsFor`).
+//! for (`HasRows`).
 #![tactic(auto)]
 
 mod addresses;

@@ -1,6 +1,6 @@
 ghost use Rattle.std.specs.Prelude.{◌≡◌, ◌<◌, ℕ, List};
 ghost use Rattle.ev_model.specs.World.{opening};
-ghost use Rattle.ev_indexes.specs.Worlds.{StandsFor};
+ghost use Rattle.ev_indexes.specs.Worlds.{HasRows};
 ghost use Rattle.ev_indexes.specs.Indexes.{IsIndexed};
 
 use crate::{Addresses, Due, Names, Watches};
@@ -27,7 +27,7 @@ impl State {
         ensures kind { result.kind ≡ kind }
         ensures indexed { IsIndexed result }
         ensures made { result.table.made ≡ 0 }
-        ensures stands { (workers : ℕ) (node : List ℕ) → StandsFor result (opening workers node) }
+        ensures stands { (workers : ℕ) (node : List ℕ) → HasRows result (opening workers node) }
     {
         State {
             kind,

@@ -5,14 +5,14 @@ use Rattle.std.proofs.Math.Seq.{take-append-add}
 use Rattle.std.proofs.lemmas.Bool.{cases_lt}
 use Rattle.ev_io.specs.declared.limits.TheConstants.{MAX_LINE_BYTES, MAX_LINES, MAX_INPUT_BYTES}
 use Rattle.ev_io.specs.Lines.{lines_of, feeds_in, HasNoFeed, IsClosed}
-use Rattle.ev_io.specs.LineFaults.{IsTooLong, HasNoFault, IsSoundUpTo}
+use Rattle.ev_io.specs.LineFaults.{IsTooLong, HasNoLineFault, IsSoundUpTo}
 use Rattle.ev_io.proofs.LineLemmas.{feeds_in-append, feeds_in-none, feeds_in-closed}
 
 -- further bytes make no fault before them
 pub sound-append : (bytes more : List ℕ) (n : ℕ) → n ≤ length bytes → IsSoundUpTo bytes n → IsSoundUpTo (bytes ++ more) n
 sound-append bytes more n within sound = λ place below. here place below (sound place below)
   where
-    here : (place : ℕ) → place < n → HasNoFault bytes place → HasNoFault (bytes ++ more) place
+    here : (place : ℕ) → place < n → HasNoLineFault bytes place → HasNoLineFault (bytes ++ more) place
     here place below (small, few, short) = (
       small,
       (λ many. few (subst (λ (xs : List ℕ). MAX_LINES ≤ feeds_in xs) (take-append-le place bytes more (omega arith)) many)),
@@ -54,7 +54,7 @@ long_at_limit front pending none = (
 )
 
 -- a pending byte of the next line without a fault
-sound_at : (front pending : List ℕ) (n : ℕ) → IsClosed front → HasNoFeed pending n → length (lines_of front) < MAX_LINES → length front + n < MAX_INPUT_BYTES → ¬ (IsTooLong (front ++ pending) (length front + n)) → HasNoFault (front ++ pending) (length front + n)
+sound_at : (front pending : List ℕ) (n : ℕ) → IsClosed front → HasNoFeed pending n → length (lines_of front) < MAX_LINES → length front + n < MAX_INPUT_BYTES → ¬ (IsTooLong (front ++ pending) (length front + n)) → HasNoLineFault (front ++ pending) (length front + n)
 sound_at front pending n closed none few small short = (
   (λ large. absurd (omega (arith, large))),
   (λ many. absurd (omega (arith, many, feeds_before front pending n closed none))),
@@ -65,20 +65,20 @@ sound_at front pending n closed none few small short = (
 pub sound_further : (front pending : List ℕ) (n : ℕ) → IsClosed front → IsSoundUpTo (front ++ pending) (length front) → HasNoFeed pending n → n ≤ MAX_LINE_BYTES → (0 < n → length (lines_of front) < MAX_LINES) → length front + n ≤ MAX_INPUT_BYTES → IsSoundUpTo (front ++ pending) (length front + n)
 sound_further front pending n closed sound none short few small = λ place below. here place below (cases_lt place (length front))
   where
-    here : (place : ℕ) → place < length front + n → (place < length front) ⊎ (length front ≤ place) → HasNoFault (front ++ pending) place
+    here : (place : ℕ) → place < length front + n → (place < length front) ⊎ (length front ≤ place) → HasNoLineFault (front ++ pending) place
     here place below (inl early) = sound place early
     here place below (inr late) =
         let same : length front + (place - length front) ≡ place = omega arith in
-        subst (λ (i : ℕ). HasNoFault (front ++ pending) i) same
+        subst (λ (i : ℕ). HasNoLineFault (front ++ pending) i) same
         (sound_at front pending (place - length front) closed (λ k l. none k (omega arith)) (few (omega arith)) (omega arith) (short_within front pending (place - length front) closed (omega arith)))
 
 -- and in the line feed after them
 pub sound_with_feed : (front pending : List ℕ) (n : ℕ) → IsClosed front → IsSoundUpTo (front ++ pending) (length front) → HasNoFeed pending n → get_or pending n 0 ≡ 10 → n ≤ MAX_LINE_BYTES → length (lines_of front) < MAX_LINES → length front + n < MAX_INPUT_BYTES → IsSoundUpTo (front ++ pending) (length front + n + 1)
 sound_with_feed front pending n closed sound none feed short few small = λ place below. here place below (cases_lt place (length front + n))
   where
-    here : (place : ℕ) → place < length front + n + 1 → (place < length front + n) ⊎ (length front + n ≤ place) → HasNoFault (front ++ pending) place
+    here : (place : ℕ) → place < length front + n + 1 → (place < length front + n) ⊎ (length front + n ≤ place) → HasNoLineFault (front ++ pending) place
     here place below (inl early) = sound_further front pending n closed sound none short (λ _. few) (omega arith) place early
     here place below (inr late) =
         let same : length front + n ≡ place = omega arith in
-        subst (λ (i : ℕ). HasNoFault (front ++ pending) i) same
+        subst (λ (i : ℕ). HasNoLineFault (front ++ pending) i) same
         (sound_at front pending n closed none few small (short_at_feed front pending n feed))

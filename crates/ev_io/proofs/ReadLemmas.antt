@@ -6,7 +6,7 @@ use Rattle.ev_io.specs.declared.limits.TheConstants.{MAX_LINE_BYTES, MAX_LINES, 
 use Rattle.ev_io.specs.declared.faults.LineFault.{LineFault}
 use Rattle.ev_io.specs.declared.faults.LineFault.TheVariants.{TooLong, TooMany, TooLarge}
 use Rattle.ev_io.specs.Lines.{lines_of, feeds_in, HasNoFeed, IsClosed}
-use Rattle.ev_io.specs.LineFaults.{IsSoundUpTo, IsFirstFault, StandsAt}
+use Rattle.ev_io.specs.LineFaults.{IsSoundUpTo, IsFirstLineFault, StandsAt}
 use Rattle.ev_io.specs.Found.{Ends, IsLine, IsLarge, IsMany, IsLong}
 use Rattle.ev_io.specs.LinesState.{LinesState, FindsNext, HasTaken}
 use Rattle.ev_io.specs.ReadLine.{IsUnfinished, GivesLine, ReachesEnd}
@@ -186,7 +186,7 @@ reaches_end old mid bytes h ended none given untold =
     }
 
 -- a fault at a pending byte, with no line feed before it
-first_at : (mid : LinesState) (bytes : List ℕ) (fault : LineFault) (n : ℕ) (h : HasTaken mid bytes) → IsClosed h.front → n < length mid.pending → HasNoFeed mid.pending n → n ≤ MAX_LINE_BYTES → (0 < n → mid.given < MAX_LINES) → length h.front + n ≤ MAX_INPUT_BYTES → (feeds_in (take (length h.front + n) (h.front ++ mid.pending)) ≡ mid.given → StandsAt (h.front ++ mid.pending) (length h.front + n) fault) → (place : ℕ) × IsFirstFault bytes place fault × (feeds_in (take place bytes) ≡ mid.given)
+first_at : (mid : LinesState) (bytes : List ℕ) (fault : LineFault) (n : ℕ) (h : HasTaken mid bytes) → IsClosed h.front → n < length mid.pending → HasNoFeed mid.pending n → n ≤ MAX_LINE_BYTES → (0 < n → mid.given < MAX_LINES) → length h.front + n ≤ MAX_INPUT_BYTES → (feeds_in (take (length h.front + n) (h.front ++ mid.pending)) ≡ mid.given → StandsAt (h.front ++ mid.pending) (length h.front + n) fault) → (place : ℕ) × IsFirstLineFault bytes place fault × (feeds_in (take place bytes) ≡ mid.given)
 first_at mid bytes fault n h closed below none short few small stands =
     let feeds : feeds_in (take (length h.front + n) (h.front ++ mid.pending)) ≡ mid.given = feeds_before h.front mid.pending n closed none ∙ sym h.lines in
     let sound : IsSoundUpTo (h.front ++ mid.pending) (length h.front) = subst (λ (xs : List ℕ). IsSoundUpTo xs (length h.front)) h.parts h.sound in (
@@ -199,7 +199,7 @@ first_at mid bytes fault n h closed below none short few small stands =
       ap (λ (xs : List ℕ). feeds_in (take (length h.front + n) xs)) h.parts ∙ feeds,
     )
 
-pub too_large : (mid : LinesState) (bytes : List ℕ) → HasTaken mid bytes → IsLarge mid.taken mid.given mid.pending → (place : ℕ) × IsFirstFault bytes place TooLarge × (feeds_in (take place bytes) ≡ mid.given)
+pub too_large : (mid : LinesState) (bytes : List ℕ) → HasTaken mid bytes → IsLarge mid.taken mid.given mid.pending → (place : ℕ) × IsFirstLineFault bytes place TooLarge × (feeds_in (take place bytes) ≡ mid.given)
 too_large mid bytes h large =
     let places : length h.front + length mid.pending ≡ mid.taken = front_length mid bytes h in
     first_at mid bytes TooLarge (MAX_INPUT_BYTES + length mid.pending - mid.taken) h
@@ -210,7 +210,7 @@ too_large mid bytes h large =
     few some (inl below) = below
     few some (inr none) = absurd (omega arith)
 
-pub too_many : (mid : LinesState) (bytes : List ℕ) → HasTaken mid bytes → IsMany mid.taken mid.given mid.pending → (place : ℕ) × IsFirstFault bytes place TooMany × (feeds_in (take place bytes) ≡ mid.given)
+pub too_many : (mid : LinesState) (bytes : List ℕ) → HasTaken mid bytes → IsMany mid.taken mid.given mid.pending → (place : ℕ) × IsFirstLineFault bytes place TooMany × (feeds_in (take place bytes) ≡ mid.given)
 too_many mid bytes h many =
     let places : length h.front + length mid.pending ≡ mid.taken = front_length mid bytes h in
     first_at mid bytes TooMany 0 h
@@ -218,7 +218,7 @@ too_many mid bytes h many =
     many.here (λ k below. absurd (omega arith)) (omega arith) (λ some. absurd (omega arith)) (omega (arith, places, many.small))
     (λ feeds. ((λ large. absurd (omega (arith, places, many.small, large))), omega (arith, feeds, many.many)))
 
-pub too_long : (mid : LinesState) (bytes : List ℕ) → HasTaken mid bytes → IsLong mid.taken mid.given mid.pending → (place : ℕ) × IsFirstFault bytes place TooLong × (feeds_in (take place bytes) ≡ mid.given)
+pub too_long : (mid : LinesState) (bytes : List ℕ) → HasTaken mid bytes → IsLong mid.taken mid.given mid.pending → (place : ℕ) × IsFirstLineFault bytes place TooLong × (feeds_in (take place bytes) ≡ mid.given)
 too_long mid bytes h long =
     let places : length h.front + length mid.pending ≡ mid.taken = front_length mid bytes h in
     first_at mid bytes TooLong MAX_LINE_BYTES h

@@ -26,15 +26,15 @@ StandsAt bytes place Failed = ⊥
 StandsAt bytes place OutOfMemory = ⊥
 
 -- there is no fault at the byte
-abbrev pub HasNoFault : List ℕ → ℕ → Type 0
-HasNoFault bytes place = (¬ (IsTooLarge place)) × (¬ (IsTooMany bytes place)) × (¬ (IsTooLong bytes place))
+abbrev pub HasNoLineFault : List ℕ → ℕ → Type 0
+HasNoLineFault bytes place = (¬ (IsTooLarge place)) × (¬ (IsTooMany bytes place)) × (¬ (IsTooLong bytes place))
 
 -- there is no fault at any of the first n bytes
 abbrev pub IsSoundUpTo : List ℕ → ℕ → Type 0
-IsSoundUpTo bytes n = (place : ℕ) → place < n → HasNoFault bytes place
+IsSoundUpTo bytes n = (place : ℕ) → place < n → HasNoLineFault bytes place
 
 -- the first fault of the bytes, and where it is
-pub record IsFirstFault (bytes : List ℕ) (place : ℕ) (fault : LineFault) : Type 0 where
+pub record IsFirstLineFault (bytes : List ℕ) (place : ℕ) (fault : LineFault) : Type 0 where
   pub within : place < length bytes
   pub stands : StandsAt bytes place fault
   pub first : IsSoundUpTo bytes place

@@ -7,7 +7,7 @@ use Rattle.ev_io.specs.declared.faults.LineEnd.{LineEnd}
 use Rattle.ev_io.specs.declared.faults.LineEnd.TheVariants.{Line, End}
 use Rattle.ev_io.specs.Outside.{Rose, Takes}
 use Rattle.ev_io.specs.Lines.{lines_of, feeds_in}
-use Rattle.ev_io.specs.LineFaults.{IsSoundUpTo, IsFirstFault}
+use Rattle.ev_io.specs.LineFaults.{IsSoundUpTo, IsFirstLineFault}
 use Rattle.ev_io.specs.LinesState.{LinesState, HasTaken}
 
 -- of these bytes each line that is closed was given, there is no fault in them, and they go on
@@ -33,7 +33,7 @@ pub record ReachesEnd (old new : LinesState) (all : List ℕ) : Type 0 where
 
 -- the first fault is in the line after those given, and is reported from now on
 pub record TellsFault (old new : LinesState) (all : List ℕ) (fault : LineFault) : Type 0 where
-  pub first : (place : ℕ) × IsFirstFault all place fault × (feeds_in (take place all) ≡ new.given)
+  pub first : (place : ℕ) × IsFirstLineFault all place fault × (feeds_in (take place all) ≡ new.given)
   pub number : new.given ≡ old.given
   pub told : new.told ≡ Some fault
 

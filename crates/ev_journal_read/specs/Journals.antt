@@ -8,7 +8,7 @@ use Rattle.ev_io.specs.declared.faults.LineFault.TheVariants as limit
 use Rattle.ev_io.specs.declared.faults.ScriptFault.{ScriptFault}
 use Rattle.ev_io.specs.declared.faults.ScriptFault.TheVariants.{Bad, Read, OutOfMemory}
 use Rattle.ev_io.specs.Lines.{lines_of, feeds_in}
-use Rattle.ev_io.specs.LineFaults.{IsSoundUpTo, IsFirstFault}
+use Rattle.ev_io.specs.LineFaults.{IsSoundUpTo, IsFirstLineFault}
 use Rattle.ev_io.specs.LinesState.{LinesState, HasTaken}
 use Rattle.ev_io.specs.ReadLine.{IsUnfinished}
 use Rattle.ev_types.specs.declared.journals.Format.{Format}
@@ -129,7 +129,7 @@ pub record IsPastLimit (workers : ℕ) (first : List ℕ) (old new : LinesState)
   pub journal : IsJournalTo workers first (given_between old new bytes) format rows end
   pub fault : LineFault
   pub place : ℕ
-  pub stands : IsFirstFault bytes place fault
+  pub stands : IsFirstLineFault bytes place fault
   pub behind : feeds_in (take place bytes) ≡ new.given
   pub here : line ≡ new.given + 1
   pub numbered : LimitNumber fault kind

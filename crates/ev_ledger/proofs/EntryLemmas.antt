@@ -22,7 +22,7 @@ use Rattle.ev_model.specs.World.{OpenMember}
 use Rattle.ev_model.specs.Sorted.{put_by}
 use Rattle.ev_model.specs.Dead.{is_open_on, is_forwarded_to}
 use Rattle.ev_model.specs.Connections.{is_member, is_open, closed}
-use Rattle.ev_ledger.specs.Members.{AreApart, comes_before, count_of, held_of, is_of_worker, connection_of, on_in}
+use Rattle.ev_ledger.specs.Members.{AreApart, member_before, count_of, held_of, is_of_worker, connection_of, on_in}
 use Rattle.ev_ledger.specs.Entries.{key_order, member_of, members_of, weight, is_at_worker, held_at}
 use Rattle.ev_ledger.proofs.PlaceLemmas.{same_place, closed_leaves}
 
@@ -55,14 +55,14 @@ found_on w c (e ∷ es) = by (is_at (key_order (w, c)) e.0) (is_member w c (memb
 
 -- a new entry is a connection put in its place
 pub put_members : (k : ℕ × ℕ) (v : ℕ × Option ℕ) (es : List ((ℕ × ℕ) × (ℕ × Option ℕ))) → is_some (lookup (is_at (key_order k)) es) ≡ false
-    → members_of (insert_entry key_order es k v) ≡ put_by comes_before (member_of (k, v)) (members_of es)
+    → members_of (insert_entry key_order es k v) ≡ put_by member_before (member_of (k, v)) (members_of es)
 put_members k v [] h = refl
 put_members k v (e ∷ es) h = by (key_order k e.0) h (put_members k v es)
   where
     by : (r : Ordering) → is_some (cond (is_eq r) (Some e.1) (lookup (is_at (key_order k)) es)) ≡ false
-        → (is_some (lookup (is_at (key_order k)) es) ≡ false → members_of (insert_entry key_order es k v) ≡ put_by comes_before (member_of (k, v)) (members_of es))
+        → (is_some (lookup (is_at (key_order k)) es) ≡ false → members_of (insert_entry key_order es k v) ≡ put_by member_before (member_of (k, v)) (members_of es))
         → map member_of (match_ordering r ((k, v) ∷ e ∷ es) ((e.0, v) ∷ es) (e ∷ insert_entry key_order es k v))
-        ≡ cond (is_le r) (member_of (k, v) ∷ member_of e ∷ members_of es) (member_of e ∷ put_by comes_before (member_of (k, v)) (members_of es))
+        ≡ cond (is_le r) (member_of (k, v) ∷ member_of e ∷ members_of es) (member_of e ∷ put_by member_before (member_of (k, v)) (members_of es))
     by Less none rest = refl
     by Equal none rest = absurd (true≢false none)
     by Greater none rest = ap (λ ms. member_of e ∷ ms) (rest none)

@@ -4,7 +4,7 @@ use Rattle.std.specs.List.{list_any}
 use Rattle.std.specs.Option.{is_some}
 use Rattle.std.specs.Map.Iter.{TakesFirst}
 use Rattle.ev_model.specs.World.{OpenMember}
-use Rattle.ev_ledger.specs.Members.{is_of_worker, comes_before, StandsFor}
+use Rattle.ev_ledger.specs.Members.{is_of_worker, member_before, HasOpened}
 use Rattle.ev_ledger.specs.Entries.{is_at_worker, members_of}
 use Rattle.ev_ledger.proofs.OrderLemmas.{any_sorted}
 
@@ -36,5 +36,5 @@ pub any_members : (worker : ℕ) (es : List ((ℕ × ℕ) × (ℕ × Option ℕ)
 any_members worker [] = refl
 any_members worker (e ∷ es) = ap (λ b. (e.0.0 == worker) || b) (any_members worker es)
 
-pub any_stands : (worker : ℕ) (ledger opened : List OpenMember) → StandsFor ledger opened → list_any (is_of_worker worker) ledger ≡ list_any (is_of_worker worker) opened
-any_stands worker ledger opened stands = ap (list_any (is_of_worker worker)) stands ∙ any_sorted comes_before (is_of_worker worker) opened
+pub any_stands : (worker : ℕ) (ledger opened : List OpenMember) → HasOpened ledger opened → list_any (is_of_worker worker) ledger ≡ list_any (is_of_worker worker) opened
+any_stands worker ledger opened stands = ap (list_any (is_of_worker worker)) stands ∙ any_sorted member_before (is_of_worker worker) opened

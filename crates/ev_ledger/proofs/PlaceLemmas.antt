@@ -11,7 +11,7 @@ use Rattle.std.proofs.lemmas.Cmp.{nat_cmp_total, then_total, on_total}
 use Rattle.ev_model.specs.World.{OpenMember}
 use Rattle.ev_model.specs.Connections.{is_member, is_open, member_on, closed}
 use Rattle.ev_model.specs.Sorted.{put_by}
-use Rattle.ev_ledger.specs.Members.{place_order, comes_before, in_order, count_of, StandsFor}
+use Rattle.ev_ledger.specs.Members.{place_order, member_before, in_order, count_of, HasOpened}
 use Rattle.ev_model.specs.Dead.{is_open_on}
 use Rattle.std.proofs.lemmas.List.Sums.{length-filter}
 use Rattle.ev_ledger.proofs.OrderLemmas.{IsOrder, sorted_push, sum_sorted, any_sorted, filter_sorted}
@@ -45,7 +45,7 @@ module _ {X : Type 0} (R : X → X → Ordering) (o : IsTotalOrder R) where
   pub le_order : IsOrder (λ x y. is_le (R x y))
   le_order = record { total = λ x y h. le_total (R x y) (R y x) (o.antisymm x y) h; trans = le_trans }
 
-pub place_order_orders : IsOrder comes_before
+pub place_order_orders : IsOrder member_before
 place_order_orders = le_order place_order place_order_total
 
 -- an entry's key is found exactly at the worker and number of its connection
@@ -58,7 +58,7 @@ apart_numbers w c a b h = grind (arith, nat_tests)
 
 -- a connection that isn't open is apart from each that is
 apart_each : (w c l : ℕ) (k : Option ℕ) (xs : List OpenMember) → is_open xs w c ≡ false
-    → AllByRecursion (λ x. comes_before x (member_on w c l k) ≡ not (comes_before (member_on w c l k) x)) xs
+    → AllByRecursion (λ x. member_before x (member_on w c l k) ≡ not (member_before (member_on w c l k) x)) xs
 apart_each w c l k [] h = tt
 apart_each w c l k (x ∷ xs) h =
     let parts = or_parts (is_member w c x) (list_any (is_member w c) xs) h in
@@ -67,18 +67,18 @@ apart_each w c l k (x ∷ xs) h =
 -- one more connection, put in its place
 pub in_order_push : (w c l : ℕ) (k : Option ℕ) (xs : List OpenMember) → is_open xs w c ≡ false
     → in_order (xs ++ member_on w c l k ∷ []) ≡ in_order (member_on w c l k ∷ xs)
-in_order_push w c l k xs h = sorted_push comes_before place_order_orders (member_on w c l k) xs (apart_each w c l k xs h)
+in_order_push w c l k xs h = sorted_push member_before place_order_orders (member_on w c l k) xs (apart_each w c l k xs h)
 
 -- counts, tests and filters are the same in order
 pub count_in_order : (number : ℕ) (xs : List OpenMember) → count_of number (in_order xs) ≡ count_of number xs
 count_in_order number xs =
-    length-filter (is_open_on number) (in_order xs) ∙ sum_sorted comes_before (λ m. cond (is_open_on number m) 1 0) xs ∙ sym (length-filter (is_open_on number) xs)
+    length-filter (is_open_on number) (in_order xs) ∙ sum_sorted member_before (λ m. cond (is_open_on number m) 1 0) xs ∙ sym (length-filter (is_open_on number) xs)
 
 pub open_in_order : (w c : ℕ) (xs : List OpenMember) → is_open (in_order xs) w c ≡ is_open xs w c
-open_in_order w c xs = any_sorted comes_before (is_member w c) xs
+open_in_order w c xs = any_sorted member_before (is_member w c) xs
 
 pub filter_in_order : (q : OpenMember → Bool) (xs : List OpenMember) → filter q (in_order xs) ≡ in_order (filter q xs)
-filter_in_order q xs = filter_sorted comes_before place_order_orders q xs
+filter_in_order q xs = filter_sorted member_before place_order_orders q xs
 
 -- closing leaves the connections that aren't the closed one
 none_closed : (w c : ℕ) (xs : List OpenMember) → is_open xs w c ≡ false → xs ≡ filter (λ m. not (is_member w c m)) xs
@@ -109,16 +109,16 @@ pub closed_gone : (w c : ℕ) (xs : List OpenMember) → is_open (closed c w xs)
 closed_gone w c xs = ap (λ ms. is_open ms w c) (closed_leaves w c xs) ∙ none_left w c xs
 
 -- what a call of the ledger does, the machine does
-pub close_stands : (w c : ℕ) (ledger opened : List OpenMember) → StandsFor ledger opened → StandsFor (closed c w ledger).opened (closed c w opened).opened
+pub close_stands : (w c : ℕ) (ledger opened : List OpenMember) → HasOpened ledger opened → HasOpened (closed c w ledger).opened (closed c w opened).opened
 close_stands w c ledger opened stands =
     closed_leaves w c ledger ∙ ap (filter (λ m. not (is_member w c m))) stands ∙ filter_in_order (λ m. not (is_member w c m)) opened
     ∙ ap in_order (sym (closed_leaves w c opened))
 
-pub open_stands : (w c l : ℕ) (k : Option ℕ) (ledger opened : List OpenMember) → is_open ledger w c ≡ false → StandsFor ledger opened
-    → StandsFor (put_by comes_before (member_on w c l k) ledger) (opened ++ member_on w c l k ∷ [])
+pub open_stands : (w c l : ℕ) (k : Option ℕ) (ledger opened : List OpenMember) → is_open ledger w c ≡ false → HasOpened ledger opened
+    → HasOpened (put_by member_before (member_on w c l k) ledger) (opened ++ member_on w c l k ∷ [])
 open_stands w c l k ledger opened apart stands =
-    ap (put_by comes_before (member_on w c l k)) stands
+    ap (put_by member_before (member_on w c l k)) stands
     ∙ sym (in_order_push w c l k opened (sym (ap (λ ms. is_open ms w c) stands ∙ open_in_order w c opened) ∙ apart))
 
-pub answer_stands : (w c : ℕ) (ledger opened : List OpenMember) → StandsFor ledger opened → is_open ledger w c ≡ is_open opened w c
+pub answer_stands : (w c : ℕ) (ledger opened : List OpenMember) → HasOpened ledger opened → is_open ledger w c ≡ is_open opened w c
 answer_stands w c ledger opened stands = ap (λ ms. is_open ms w c) stands ∙ open_in_order w c opened

@@ -77,7 +77,7 @@ abbrev pub AreCounts : {S : Type 0} → IndexMap ℕ ℕ S → List ((ℕ × ℕ
 AreCounts counts entries = (number : ℕ) → counted counts number ≡ sum_by (weight number) (values_of entries)
 
 -- what a ledger keeps: the counts and the index are those of its entries
-pub record AreKept {S : Type 0} (counts : IndexMap ℕ ℕ S) (places : BTreeSet (ℕ × (ℕ × ℕ))) (entries : List ((ℕ × ℕ) × (ℕ × Option ℕ))) : Type 0 where
+pub record AreEntriesKept {S : Type 0} (counts : IndexMap ℕ ℕ S) (places : BTreeSet (ℕ × (ℕ × ℕ))) (entries : List ((ℕ × ℕ) × (ℕ × Option ℕ))) : Type 0 where
   pub counted : AreCounts counts entries
   pub none_zero : HasNoZero counts
   pub indexed : AreIndexed places entries

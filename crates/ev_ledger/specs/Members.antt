@@ -15,32 +15,33 @@ abbrev pub place_order : OpenMember → OpenMember → Ordering
 place_order one other = ordering_then (nat_cmp one.worker other.worker) (nat_cmp one.connection other.connection)
 
 -- the first comes before the second, or they are of one worker and number
-abbrev pub comes_before : OpenMember → OpenMember → Bool
-comes_before one other = is_le (place_order one other)
+abbrev pub member_before : OpenMember → OpenMember → Bool
+member_before one other = is_le (place_order one other)
 
 -- open connections by worker and number
 abbrev pub in_order : List OpenMember → List OpenMember
-in_order opened = sorted_by comes_before opened
+in_order opened = sorted_by member_before opened
 
 -- a ledger has exactly these open connections
-abbrev pub StandsFor : List OpenMember → List OpenMember → Type 0
-StandsFor ledger opened = ledger ≡ in_order opened
+abbrev pub HasOpened : List OpenMember → List OpenMember → Type 0
+HasOpened ledger opened = ledger ≡ in_order opened
 
 -- whatever open connections the first ledger has, the second has what this change makes of them
-abbrev pub StandsAfter : (List OpenMember → List OpenMember) → List OpenMember → List OpenMember → Type 0
-StandsAfter change before after = (opened : List OpenMember) → StandsFor before opened → StandsFor after (change opened)
+abbrev pub HasOpenedAfter : (List OpenMember → List OpenMember) → List OpenMember → List OpenMember → Type 0
+HasOpenedAfter change before after =
+    (opened : List OpenMember) → HasOpened before opened → HasOpened after (change opened)
 
 -- whatever open connections a ledger has, this is the answer of the question about them
 abbrev pub IsAnswerOf : {A : Type 0} → (List OpenMember → A) → List OpenMember → A → Type 0
-IsAnswerOf question ledger answer = (opened : List OpenMember) → StandsFor ledger opened → answer ≡ question opened
+IsAnswerOf question ledger answer = (opened : List OpenMember) → HasOpened ledger opened → answer ≡ question opened
 
 -- whatever open connections the first ledger has, the second has one more after them
 abbrev pub Opens : OpenMember → List OpenMember → List OpenMember → Type 0
-Opens member before after = StandsAfter (λ opened. opened ++ member ∷ []) before after
+Opens member before after = HasOpenedAfter (λ opened. opened ++ member ∷ []) before after
 
 -- the connections with one more, in their order
 abbrev pub with_member : OpenMember → List OpenMember → List OpenMember
-with_member member members = put_by comes_before member members
+with_member member members = put_by member_before member members
 
 -- how many of these connections are open on the generation of this number, as its listener or its cluster
 abbrev pub count_of : ℕ → List OpenMember → ℕ

@@ -1,7 +1,7 @@
 ghost use Rattle.std.specs.Prelude.{◌≡◌, false, [], OnOk, OnErr, IfOk};
 ghost use Rattle.ev_model.specs.Connections.{is_open, member_on, closed};
 ghost use Rattle.std.specs.List.{list_any};
-ghost use Rattle.ev_ledger.specs.Members.{is_of_worker, with_member, AreApart, AreInOrder, ArePlacesOn, IsAnswerOf, Opens, StandsAfter, StandsFor, count_of, held_in, held_of, on_in};
+ghost use Rattle.ev_ledger.specs.Members.{is_of_worker, with_member, AreApart, AreInOrder, ArePlacesOn, IsAnswerOf, Opens, HasOpenedAfter, HasOpened, count_of, held_in, held_of, on_in};
 
 use crate::counts::{copy_counts, count_in, lower_on, raise_on};
 use crate::members::{Members, copy_members, found, has_any, held, is_there, put, take};
@@ -24,20 +24,20 @@ pub struct Ledger {
 impl Model for Ledger {
     ghost use Rattle.std.specs.Prelude.{List};
     ghost use Rattle.ev_model.specs.World.{OpenMember};
-    ghost use Rattle.ev_ledger.specs.Entries.{members_of, AreKept};
+    ghost use Rattle.ev_ledger.specs.Entries.{members_of, AreEntriesKept};
 
     ghost Value = { List OpenMember };
 
     ghost view = { λ l. members_of l.members.entries };
 
-    ghost invariant = { λ l. AreKept l.counts l.places l.members.entries };
+    ghost invariant = { λ l. AreEntriesKept l.counts l.places l.members.entries };
 }
 
 impl Ledger {
     /// No connection is open. It takes no memory.
     pub fn new(alloc: Global) -> Ledger
         ensures empty { result ≡ [] }
-        ensures stands { StandsFor result [] }
+        ensures stands { HasOpened result [] }
     {
         Ledger {
             members: BTreeMap::new(alloc),
@@ -91,7 +91,7 @@ impl Ledger {
         ensures closed { self.new ≡ (closed conn worker self.old).opened }
         ensures gone { is_open self.new worker conn ≡ false }
         ensures answer_by_world { IsAnswerOf (λ opened. is_open opened worker conn) self.old result }
-        ensures world { StandsAfter (λ opened. (closed conn worker opened).opened) self.old self.new }
+        ensures world { HasOpenedAfter (λ opened. (closed conn worker opened).opened) self.old self.new }
     {
         let place = (worker as u64, conn);
         let Some(on) = take(&mut self.members, place) else {

@@ -7,7 +7,7 @@ use Rattle.ev_tree.specs.Rules.{is_name}
 use Rattle.ev_tree.specs.Broken.{least_of}
 use Rattle.ev_tree.specs.Addresses.{address_text_of, address_broken, any_text_of, any_address_broken}
 use Rattle.ev_tree.proofs.Unions.{least_none}
-use Rattle.ev_listener_json.specs.Listeners.{name_of, own_listener_broken, envoy_listener_broken, envoy_parts_broken, lacks_address, named_address, listening_text, is_unusable}
+use Rattle.ev_listener_json.specs.Listeners.{listener_name, own_listener_broken, envoy_listener_broken, envoy_parts_broken, lacks_address, named_address, listening_text, is_unusable}
 
 left_false : (a b : Bool) → (a || b) ≡ false → a ≡ false
 left_false true b e = absurd (true≢false e)
@@ -29,13 +29,13 @@ not_false false e = absurd (true≢false e)
 
 -- by the own rules
 
-pub own_name : (tree : Data) → least_of (own_listener_broken tree) ≡ None → is_name (name_of tree) ≡ true
+pub own_name : (tree : Data) → least_of (own_listener_broken tree) ≡ None → is_name (listener_name tree) ≡ true
 unfolding own_listener_broken
 own_name tree h =
     let clear = least_none (own_listener_broken tree) h in
     let v3 = right_false _ _ (ap (λ (b : BrokenRules). b.v3) clear) in
     let v6 = right_false _ _ (ap (λ (b : BrokenRules). b.v6) clear) in
-    named (is_wrong (text_of (codes "name") tree)) (is_name (name_of tree)) v3 (left_false _ _ (left_false _ _ (left_false _ _ (left_false _ _ v6))))
+    named (is_wrong (text_of (codes "name") tree)) (is_name (listener_name tree)) v3 (left_false _ _ (left_false _ _ (left_false _ _ (left_false _ _ v6))))
 
 pub own_address : (tree : Data) → least_of (own_listener_broken tree) ≡ None → is_name (address_text_of tree) ≡ true
 unfolding own_listener_broken address_broken
@@ -46,13 +46,13 @@ own_address tree h =
 
 -- as Envoy reads it
 
-pub envoy_name : (tree : Data) → least_of (envoy_listener_broken tree) ≡ None → is_name (name_of tree) ≡ true
+pub envoy_name : (tree : Data) → least_of (envoy_listener_broken tree) ≡ None → is_name (listener_name tree) ≡ true
 unfolding envoy_parts_broken
 envoy_name tree h =
     let clear = least_none (envoy_listener_broken tree) h in
     let v3 = right_false _ _ (ap (λ (b : BrokenRules). b.v3) clear) in
     let v6 = right_false _ _ (ap (λ (b : BrokenRules). b.v6) clear) in
-    named (is_wrong (text_of (codes "name") tree)) (is_name (name_of tree)) v3 (left_false _ _ (left_false _ _ (left_false _ _ v6)))
+    named (is_wrong (text_of (codes "name") tree)) (is_name (listener_name tree)) v3 (left_false _ _ (left_false _ _ (left_false _ _ v6)))
 
 -- an address that V12 lets pass has a text that is a name
 any_named : (tree : Data) → (any_address_broken tree).v12 ≡ false → is_name (any_text_of tree) ≡ true

@@ -22,8 +22,8 @@ use Rattle.ev_listener_json.specs.Chains.{chains_of, no_criteria, has_api, envoy
 
 -- ---- the parts of a listener
 
-unfoldable pub name_of : Data → List ℕ
-name_of tree = given_or [] (text_of (codes "name") tree)
+unfoldable pub listener_name : Data → List ℕ
+listener_name tree = given_or [] (text_of (codes "name") tree)
 
 abbrev pub is_udp : Found ℕ → Bool
 is_udp Absent = false
@@ -42,7 +42,7 @@ serve_of tree = unwrap_or (first_of (map chain_serve (chains_of tree))) (Inline 
 -- V16: not exactly one chain, or a default chain.
 unfoldable pub own_listener_broken : Data → BrokenRules
 own_listener_broken tree = either_broken (any_broken chain_broken (chains_of tree)) (record none_broken {
-  v3 = not (is_wrong (text_of (codes "name") tree)) && not (is_name (name_of tree));
+  v3 = not (is_wrong (text_of (codes "name") tree)) && not (is_name (listener_name tree));
   v6 =
       is_wrong (text_of (codes "name") tree)
       || (address_broken tree).v6
@@ -55,7 +55,7 @@ own_listener_broken tree = either_broken (any_broken chain_broken (chains_of tre
 
 abbrev pub own_listener_of : Data → Listener
 own_listener_of tree = record {
-  name = name_of tree;
+  name = listener_name tree;
   address = record { address = address_text_of tree; port = port_of tree };
   takes_every_address = false;
   filter_chains = record { criteria = no_criteria; serve = serve_of tree } ∷ [];
@@ -77,7 +77,8 @@ named_with api internal name =
     else []
 
 unfoldable pub named_address : Data → List ℕ
-named_address tree = named_with (has_api tree) (is_given (object_of (codes "internal_listener") tree)) (name_of tree)
+named_address tree =
+    named_with (has_api tree) (is_given (object_of (codes "internal_listener") tree)) (listener_name tree)
 
 -- the text of its address, and its port
 unfoldable pub listening_text : Data → List ℕ
@@ -100,7 +101,7 @@ is_every_address text = bytes_eq text (codes "0.0.0.0") || bytes_eq text (codes 
 -- What a listener breaks by itself. V3 and V6 as by the own rules. V14: no usable address, or one for datagrams.
 unfoldable pub envoy_parts_broken : Data → BrokenRules
 envoy_parts_broken tree = record none_broken {
-  v3 = not (is_wrong (text_of (codes "name") tree)) && not (is_name (name_of tree));
+  v3 = not (is_wrong (text_of (codes "name") tree)) && not (is_name (listener_name tree));
   v6 =
       is_wrong (text_of (codes "name") tree)
       || (any_address_broken tree).v6
@@ -115,7 +116,7 @@ envoy_listener_broken tree = either_broken (envoy_chains_broken tree) (envoy_par
 
 abbrev pub envoy_listener_of : Data → Listener
 envoy_listener_of tree = record {
-  name = name_of tree;
+  name = listener_name tree;
   address = record { address = listening_text tree; port = listening_port tree };
   takes_every_address = is_every_address (listening_text tree);
   filter_chains = envoy_chains_of tree;

@@ -6,7 +6,7 @@ ghost use Rattle.ev_types.specs.declared.events.Profile.{Profile};
 ghost use Rattle.ev_tree.specs.Addresses.{address_text_of, port_of, text_found, port_unless};
 ghost use Rattle.ev_tree.specs.Rules.{ReadsAs, IsLeast, is_name};
 ghost use Rattle.ev_tree.specs.Broken.{rules_of, least_of};
-ghost use Rattle.ev_listener_json.specs.Listeners.{listener_reading, listener_broken, own_listener_broken, name_of, serve_of, is_udp, is_every_address, listening_text, listening_port, is_unusable, envoy_parts_broken, named_with};
+ghost use Rattle.ev_listener_json.specs.Listeners.{listener_reading, listener_broken, own_listener_broken, listener_name, serve_of, is_udp, is_every_address, listening_text, listening_port, is_unusable, envoy_parts_broken, named_with};
 
 use crate::chains::{inspect_chains, serve_or_none};
 use crate::envoy_chains::{has_api, inspect_envoy_chains, no_criteria};
@@ -87,7 +87,7 @@ struct EnvoyParts<'a> {
 
 // Inspects a listener itself, as Envoy reads it: its name and its address.
 fn inspect_envoy_listener(alloc: Global, value: &Value) -> Result<EnvoyParts<'_>, AllocError>
-    ensures name { IfOk result (λ found. found.name.now ≡ name_of (view value.now)) }
+    ensures name { IfOk result (λ found. found.name.now ≡ listener_name (view value.now)) }
     ensures address { IfOk result (λ found. string_bytes found.address ≡ listening_text (view value.now)) }
     ensures port { IfOk result (λ found. found.port ≡ listening_port (view value.now)) }
     ensures broken { IfOk result (λ found. found.broken ≡ envoy_parts_broken (view value.now)) }
@@ -199,7 +199,7 @@ struct ListenerParts<'a> {
 // Inspects a listener by the own rules.
 fn inspect_listener(alloc: Global, value: &Value) -> Result<ListenerParts<'_>, AllocError>
     ensures broken { IfOk result (λ found. found.broken ≡ own_listener_broken (view value.now)) }
-    ensures name { IfOk result (λ found. found.name.now ≡ name_of (view value.now)) }
+    ensures name { IfOk result (λ found. found.name.now ≡ listener_name (view value.now)) }
     ensures address { IfOk result (λ found. found.address.now ≡ address_text_of (view value.now)) }
     ensures port { IfOk result (λ found. found.port ≡ port_of (view value.now)) }
     ensures serve { IfOk result (λ found. found.serve ≡ serve_of (view value.now)) }

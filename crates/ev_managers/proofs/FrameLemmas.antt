@@ -34,19 +34,19 @@ use Rattle.ev_model.specs.Rows.{removed_status, with_statuses, status_left, arri
 use Rattle.ev_model.specs.Signals.{ended_status, rows_ended, with_end, is_meant, rows_meant, result_for, with_results}
 use Rattle.ev_generations.specs.Tables.{row_in, numbers_of}
 use Rattle.ev_indexes.specs.declared.state.State.{State}
-use Rattle.ev_indexes.specs.Due.{is_among}
+use Rattle.ev_indexes.specs.Due.{is_one_of}
 use Rattle.ev_indexes.specs.Indexes.{passes}
 use Rattle.ev_warming.proofs.MadeLemmas.{value-made}
 use Rattle.ev_warming.proofs.SortedLemmas.{last_made-same, value_by-same}
 use Rattle.ev_indexes.proofs.WhereLemmas.{flipped, among-row}
-use Rattle.ev_indexes.specs.Worlds.{StandsFor, IsSound, needs_of, rows_of_kind}
+use Rattle.ev_indexes.specs.Worlds.{HasRows, IsSound, needs_of, rows_of_kind}
 use Rattle.ev_indexes.proofs.SeenLemmas.{SameSeen, seen-stands}
 use Rattle.ev_warming.specs.Arrivals.{AreOnValues, with_arrived}
 use Rattle.ev_warming.specs.Worlds.{Follows, FollowsDrawing, with_response, with_rows_ended, FollowsAt}
 use Rattle.ev_warming.specs.Managers.{IsKept}
 use Rattle.ev_warming.specs.declared.manager.Manager.{Manager}
 use Rattle.ev_managers.specs.declared.managers.Managers.{Managers}
-use Rattle.ev_managers.specs.Managers.{AreForgotten, AreKept, HaveSameRows, IsManager, StandFor, Follow, rows_of, others_of, manager_of, no_value, with_manager}
+use Rattle.ev_managers.specs.Managers.{AreForgotten, AreManagersKept, HaveSameRows, IsManager, StandFor, Follow, rows_of, others_of, manager_of, no_value, with_manager}
 
 -- what a manager of this kind sees is the same in both worlds, but for health results
 pub record Leaves (kind : Kind) (before after : World) : Type 0 where
@@ -65,8 +65,8 @@ same_results s before after same = record {
 }
 
 -- so a manager that stood for the one stands for the other
-pub stays : (s : State) (before after : World) → StandsFor s before → IsSound after → Leaves s.kind before after → LeavesResults s before after
-    → StandsFor s after
+pub stays : (s : State) (before after : World) → HasRows s before → IsSound after → Leaves s.kind before after → LeavesResults s before after
+    → HasRows s after
 stays s before after has sound leaves results = record {
   sound = sound;
   rows = has.rows ∙ sym leaves.rows;
@@ -248,23 +248,23 @@ module _ (other kind : Kind) (apart : IsApart other kind) where
       (items_leave (zip verdicts response.items) (with_removals other response world))
 
 -- a row of a number that is found is among those numbers
-found_among : (n : ℕ) (rows : List GenRow) → IsSome (row_in n rows) → is_among (numbers_of rows) n ≡ true
+found_among : (n : ℕ) (rows : List GenRow) → IsSome (row_in n rows) → is_one_of (numbers_of rows) n ≡ true
 found_among n [] there = absurd (false≢true there)
 found_among n (row ∷ rows) there = by (nat_eq n row.number) there (λ rest. found_among n rows rest)
   where
-    by : (b : Bool) → IsSome (cond b (Some row) (row_in n rows)) → (IsSome (row_in n rows) → is_among (numbers_of rows) n ≡ true)
-        → (b || is_among (numbers_of rows) n) ≡ true
+    by : (b : Bool) → IsSome (cond b (Some row) (row_in n rows)) → (IsSome (row_in n rows) → is_one_of (numbers_of rows) n ≡ true)
+        → (b || is_one_of (numbers_of rows) n) ≡ true
     by true found rest = refl
     by false found rest = rest found
 
 -- results for other numbers
-results_apart : (n : ℕ) (h host : Host) (healthy : Bool) (rows : List GenRow) → is_among (numbers_of rows) n ≡ false
+results_apart : (n : ℕ) (h host : Host) (healthy : Bool) (rows : List GenRow) → is_one_of (numbers_of rows) n ≡ false
     → filter (is_result_of n h) (map (result_for host healthy) rows) ≡ []
 results_apart n h host healthy [] apart = refl
 results_apart n h host healthy (row ∷ rows) apart = by (nat_eq n row.number) refl apart (results_apart n h host healthy rows)
   where
-    by : (b : Bool) → nat_eq n row.number ≡ b → (b || is_among (numbers_of rows) n) ≡ false
-        → (is_among (numbers_of rows) n ≡ false → filter (is_result_of n h) (map (result_for host healthy) rows) ≡ [])
+    by : (b : Bool) → nat_eq n row.number ≡ b → (b || is_one_of (numbers_of rows) n) ≡ false
+        → (is_one_of (numbers_of rows) n ≡ false → filter (is_result_of n h) (map (result_for host healthy) rows) ≡ [])
         → filter (is_result_of n h) (map (result_for host healthy) (row ∷ rows)) ≡ []
     by true same gone rest = absurd (false≢true (sym gone))
     by false other gone rest =
@@ -281,7 +281,7 @@ any_none p (x ∷ xs) none = by (p x) none (any_none p xs)
     by false none rest = rest none
 
 -- health results are of clusters
-pub health_leaves : (s : State) (world : World) (name : List ℕ) (host : Host) (healthy : Bool) → StandsFor s world → kind_same Cds s.kind ≡ false
+pub health_leaves : (s : State) (world : World) (name : List ℕ) (host : Host) (healthy : Bool) → HasRows s world → kind_same Cds s.kind ≡ false
     → LeavesResults s world (with_results host healthy (rows_meant world.arrivals name host world.rows) world)
 health_leaves s world name host healthy has apart = record {
   resulted = λ number h there.
@@ -310,7 +310,7 @@ health_leaves s world name host healthy has apart = record {
         ap (λ b. ((((b && bytes_eq row.name name) && is_live row.status) && is_checked row.content) && has_host host (assignment_by world.arrivals row.content)))
         (other_kind row.kind Cds s.kind apart h)
 
-    meant_apart : (number : ℕ) → IsSome (row_in number s.table.rows) → is_among (numbers_of (rows_meant world.arrivals name host world.rows)) number ≡ false
+    meant_apart : (number : ℕ) → IsSome (row_in number s.table.rows) → is_one_of (numbers_of (rows_meant world.arrivals name host world.rows)) number ≡ false
     meant_apart number there =
         among-row (is_meant world.arrivals name host) number world.rows has.sound.table.apart
         ∙ other_test (row_in number world.rows) (its_kind number there)
@@ -364,34 +364,34 @@ response_results kind response verdicts world =
     items_results kind (zip verdicts response.items) (with_removals kind response world) ∙ removals_results kind response world
 
 -- what each of both is
-pub kept-of : (m : Managers) (kind : Kind) → AreKept m → IsManager (rows_of kind) m.made (manager_of m kind)
+pub kept-of : (m : Managers) (kind : Kind) → AreManagersKept m → IsManager (rows_of kind) m.made (manager_of m kind)
 kept-of m Cds kept = kept.clusters
 kept-of m Eds kept = kept.clusters
 kept-of m Lds kept = kept.listeners
 kept-of m Rds kept = kept.listeners
 
-pub stand-of : (m : Managers) (kind : Kind) (world : World) → StandFor m world → StandsFor (manager_of m kind).state world
+pub stand-of : (m : Managers) (kind : Kind) (world : World) → StandFor m world → HasRows (manager_of m kind).state world
 stand-of m Cds world stand = stand.clusters
 stand-of m Eds world stand = stand.clusters
 stand-of m Lds world stand = stand.listeners
 stand-of m Rds world stand = stand.listeners
 
 -- what generations of its manager depend on is of the kind, or they are
-pub needs-back : (m : Managers) (kind : Kind) → AreKept m → is_by_name kind ≡ true → needs_of (manager_of m kind).state.kind ≡ kind
+pub needs-back : (m : Managers) (kind : Kind) → AreManagersKept m → is_by_name kind ≡ true → needs_of (manager_of m kind).state.kind ≡ kind
 needs-back m Cds kept by_name = absurd (false≢true by_name)
 needs-back m Eds kept by_name = ap needs_of kept.clusters.rows
 needs-back m Lds kept by_name = absurd (false≢true by_name)
 needs-back m Rds kept by_name = ap needs_of kept.listeners.rows
 
-pub rows-back : (m : Managers) (kind : Kind) → AreKept m → is_by_name kind ≡ false → (manager_of m kind).state.kind ≡ kind
+pub rows-back : (m : Managers) (kind : Kind) → AreManagersKept m → is_by_name kind ≡ false → (manager_of m kind).state.kind ≡ kind
 rows-back m Cds kept whole = kept.clusters.rows
 rows-back m Eds kept whole = absurd (false≢true (sym whole))
 rows-back m Lds kept whole = kept.listeners.rows
 rows-back m Rds kept whole = absurd (false≢true (sym whole))
 
 -- both are kept, and all is forgotten, where it is so of the one that changed
-pub kept-with : (m : Managers) (kind : Kind) (own : Manager) → AreKept m → own.state.kind ≡ (manager_of m kind).state.kind → IsKept own
-    → own.state.table.made ≤ m.made → AreKept (with_manager m kind own)
+pub kept-with : (m : Managers) (kind : Kind) (own : Manager) → AreManagersKept m → own.state.kind ≡ (manager_of m kind).state.kind → IsKept own
+    → own.state.table.made ≤ m.made → AreManagersKept (with_manager m kind own)
 kept-with m Cds own kept same is drawn = record { clusters = record { rows = same ∙ kept.clusters.rows; kept = is; drawn = drawn }; listeners = kept.listeners }
 kept-with m Eds own kept same is drawn = record { clusters = record { rows = same ∙ kept.clusters.rows; kept = is; drawn = drawn }; listeners = kept.listeners }
 kept-with m Lds own kept same is drawn = record { clusters = kept.clusters; listeners = record { rows = same ∙ kept.listeners.rows; kept = is; drawn = drawn } }
@@ -400,8 +400,8 @@ kept-with m Rds own kept same is drawn = record { clusters = kept.clusters; list
 later-manager : (kind : Kind) (made later : ℕ) (m : Manager) → IsManager kind made m → made ≤ later → IsManager kind later m
 later-manager kind made later m is above = record { rows = is.rows; kept = is.kept; drawn = omega (arith, is.drawn, above) }
 
-pub kept-drawn : (m : Managers) (kind : Kind) (own : Manager) (made : ℕ) → AreKept m → own.state.kind ≡ (manager_of m kind).state.kind → IsKept own
-    → own.state.table.made ≤ made → m.made ≤ made → AreKept (record (with_manager m kind own) { made = made })
+pub kept-drawn : (m : Managers) (kind : Kind) (own : Manager) (made : ℕ) → AreManagersKept m → own.state.kind ≡ (manager_of m kind).state.kind → IsKept own
+    → own.state.table.made ≤ made → m.made ≤ made → AreManagersKept (record (with_manager m kind own) { made = made })
 kept-drawn m Cds own made kept same is drawn later =
     record { clusters = record { rows = same ∙ kept.clusters.rows; kept = is; drawn = drawn }; listeners = later-manager Lds m.made made m.listeners kept.listeners later }
 kept-drawn m Eds own made kept same is drawn later =
@@ -425,13 +425,13 @@ same-rows-with m Lds own same = record { clusters = refl; listeners = same }
 same-rows-with m Rds own same = record { clusters = refl; listeners = same }
 
 -- one of both, where nothing of it changed
-keeps : (kind : Kind) (made : ℕ) (m : Manager) (before after : World) → IsManager kind made m → StandsFor m.state before → IsSound after
-    → Leaves kind before after → after.results ≡ before.results → StandsFor m.state after
+keeps : (kind : Kind) (made : ℕ) (m : Manager) (before after : World) → IsManager kind made m → HasRows m.state before → IsSound after
+    → Leaves kind before after → after.results ≡ before.results → HasRows m.state after
 keeps kind made m before after is has sound leaves same =
     stays m.state before after has sound (subst (λ (k : Kind). Leaves k before after) (sym is.rows) leaves) (same_results m.state before after same)
 
 -- both stand for a world that one of them followed to, where the other sees nothing of it, and no number was drawn, or this many were
-pub stand-with : (m : Managers) (kind : Kind) (own : Manager) (before after : World) → AreKept m → StandFor m before → StandsFor own.state after
+pub stand-with : (m : Managers) (kind : Kind) (own : Manager) (before after : World) → AreManagersKept m → StandFor m before → HasRows own.state after
     → after.made ≡ before.made → Leaves (others_of kind) before after → after.results ≡ before.results → StandFor (with_manager m kind own) after
 stand-with m Cds own before after kept stand has made leaves same =
     record { made = stand.made ∙ sym made; clusters = has; listeners = keeps Lds m.made m.listeners before after kept.listeners stand.listeners has.sound leaves same }
@@ -442,7 +442,7 @@ stand-with m Lds own before after kept stand has made leaves same =
 stand-with m Rds own before after kept stand has made leaves same =
     record { made = stand.made ∙ sym made; clusters = keeps Cds m.made m.clusters before after kept.clusters stand.clusters has.sound leaves same; listeners = has }
 
-pub stand-drawn : (m : Managers) (kind : Kind) (own : Manager) (made : ℕ) (before after : World) → AreKept m → StandFor m before → StandsFor own.state after
+pub stand-drawn : (m : Managers) (kind : Kind) (own : Manager) (made : ℕ) (before after : World) → AreManagersKept m → StandFor m before → HasRows own.state after
     → made ≡ after.made → Leaves (others_of kind) before after → after.results ≡ before.results → StandFor (record (with_manager m kind own) { made = made }) after
 stand-drawn m Cds own made before after kept stand has drawn leaves same =
     record { made = drawn; clusters = has; listeners = keeps Lds m.made m.listeners before after kept.listeners stand.listeners has.sound leaves same }
@@ -454,25 +454,25 @@ stand-drawn m Rds own made before after kept stand has drawn leaves same =
     record { made = drawn; clusters = keeps Cds m.made m.clusters before after kept.clusters stand.clusters has.sound leaves same; listeners = has }
 
 -- something came for a name, a response came, and a name came to its end: of the kind that one of both followed
-pub arrival-stands : (m : Managers) (kind : Kind) (own : Manager) (arrival : Arrival) (name : List ℕ) → AreKept m → is_by_name kind ≡ true
+pub arrival-stands : (m : Managers) (kind : Kind) (own : Manager) (arrival : Arrival) (name : List ℕ) → AreManagersKept m → is_by_name kind ≡ true
     → FollowsAt m.made (manager_of m kind).state own.state (with_arrived (needs_of (manager_of m kind).state.kind) arrival name)
     → Follow m (with_manager m kind own) (with_arrived kind arrival name)
 arrival-stands m kind own arrival name kept by_name follows world stand =
     stand-with m kind own world (with_arrived kind arrival name world) kept stand
-    (subst (λ (k : Kind). StandsFor own.state (with_arrived k arrival name world)) (needs-back m kind kept by_name) (follows world (stand-of m kind world stand) stand.made))
+    (subst (λ (k : Kind). HasRows own.state (with_arrived k arrival name world)) (needs-back m kind kept by_name) (follows world (stand-of m kind world stand) stand.made))
     refl (arrival_leaves kind (others_of kind) (kinds-apart kind) (arrived world.made kind arrival name ∷ []) world (refl, tt)) refl
 
-pub values-stand : (m : Managers) (kind : Kind) (own : Manager) (response : ResponseParts) (verdicts : List Verdict) → AreKept m → is_by_name kind ≡ true
+pub values-stand : (m : Managers) (kind : Kind) (own : Manager) (response : ResponseParts) (verdicts : List Verdict) → AreManagersKept m → is_by_name kind ≡ true
     → AreOnValues (manager_of m kind).state.table.rows verdicts response.items
     → FollowsAt m.made (manager_of m kind).state own.state (with_response (needs_of (manager_of m kind).state.kind) verdicts response)
     → Follow m (with_manager m kind own) (with_response kind verdicts response)
 values-stand m kind own response verdicts kept by_name on follows world stand =
     stand-with m kind own world (with_response kind verdicts response world) kept stand
-    (subst (λ (k : Kind). StandsFor own.state (with_response k verdicts response world)) (needs-back m kind kept by_name) (follows world (stand-of m kind world stand) stand.made))
+    (subst (λ (k : Kind). HasRows own.state (with_response k verdicts response world)) (needs-back m kind kept by_name) (follows world (stand-of m kind world stand) stand.made))
     (value-made kind (manager_of m kind).state.table.rows response verdicts world on)
     (response_leaves kind (others_of kind) (kinds-apart kind) response verdicts world) (response_results kind response verdicts world)
 
-pub rows-stand : (m : Managers) (kind : Kind) (own : Manager) (made : ℕ) (response : ResponseParts) (verdicts : List Verdict) → AreKept m → is_by_name kind ≡ false
+pub rows-stand : (m : Managers) (kind : Kind) (own : Manager) (made : ℕ) (response : ResponseParts) (verdicts : List Verdict) → AreManagersKept m → is_by_name kind ≡ false
     → made ≡ own.state.table.made
     → FollowsDrawing m.made (manager_of m kind).state own.state (with_response (manager_of m kind).state.kind verdicts response)
     → Follow m (record (with_manager m kind own) { made = made }) (with_response kind verdicts response)
@@ -480,7 +480,7 @@ rows-stand m kind own made response verdicts kept whole drawn follows world stan
     let led = follows world (stand-of m kind world stand) stand.made in
     let of_kind = rows-back m kind kept whole in
     stand-drawn m kind own made world (with_response kind verdicts response world) kept stand
-    (subst (λ (k : Kind). StandsFor own.state (with_response k verdicts response world)) of_kind led.0)
+    (subst (λ (k : Kind). HasRows own.state (with_response k verdicts response world)) of_kind led.0)
     (drawn ∙ led.1 ∙ (λ i. (with_response (of_kind i) verdicts response world).made))
     (response_leaves kind (others_of kind) (kinds-apart kind) response verdicts world) (response_results kind response verdicts world)
 
@@ -497,13 +497,13 @@ end_is Eds name world whole = absurd (false≢true (sym whole))
 end_is Lds name world whole = refl
 end_is Rds name world whole = absurd (false≢true (sym whole))
 
-pub end-stands : (m : Managers) (kind : Kind) (own : Manager) (name : List ℕ) → AreKept m → is_by_name kind ≡ false
+pub end-stands : (m : Managers) (kind : Kind) (own : Manager) (name : List ℕ) → AreManagersKept m → is_by_name kind ≡ false
     → Follows (manager_of m kind).state own.state (with_rows_ended (manager_of m kind).state.kind name)
     → Follow m (with_manager m kind own) (with_end kind name)
 end-stands m kind own name kept whole follows world stand =
     subst (λ (w : World). StandFor (with_manager m kind own) w) (end_is kind name world whole)
     (stand-with m kind own world (with_rows_ended kind name world) kept stand
-    (subst (λ (k : Kind). StandsFor own.state (with_rows_ended k name world)) (rows-back m kind kept whole) (follows world (stand-of m kind world stand)))
+    (subst (λ (k : Kind). HasRows own.state (with_rows_ended k name world)) (rows-back m kind kept whole) (follows world (stand-of m kind world stand)))
     refl (end_leaves kind (others_of kind) (kinds-apart kind) name world) refl)
 
 -- both managers stand for a world that has the same generations, numbers, arrivals and results

@@ -13,7 +13,7 @@ use Rattle.ev_indexes.specs.Worlds.{rows_of_kind}
 use Rattle.ev_warming.specs.Worlds.{Follows, without_generation}
 use Rattle.ev_warming.specs.declared.manager.Manager.{Manager}
 use Rattle.ev_managers.specs.declared.managers.Managers.{Managers}
-use Rattle.ev_managers.specs.Managers.{AreKept, Follow, rows_of, others_of, manager_of, with_manager}
+use Rattle.ev_managers.specs.Managers.{AreManagersKept, Follow, rows_of, others_of, manager_of, with_manager}
 use Rattle.ev_managers.proofs.FrameLemmas.{kept-of, stand-of, stand-with}
 use Rattle.ev_indexes.proofs.RowLemmas.{found-of_kind}
 
@@ -96,7 +96,7 @@ rows-apart kind k is also = by kind k is also
     by Rds k is also = never k also is
 
 -- both stand for the world without the generation
-pub removal-stands : (m : Managers) (kind : Kind) (own : Manager) (number : ℕ) → AreKept m → is_over (row_in number (manager_of m kind).state.table.rows) ≡ true
+pub removal-stands : (m : Managers) (kind : Kind) (own : Manager) (number : ℕ) → AreManagersKept m → is_over (row_in number (manager_of m kind).state.table.rows) ≡ true
     → Follows (manager_of m kind).state own.state (without_generation number) → Follow m (with_manager m kind own) (without_generation number)
 removal-stands m kind own number kept over follows world stand =
     let has = stand-of m kind world stand in

@@ -14,7 +14,7 @@ use Rattle.ev_model.specs.Tidy.{status_by}
 use Rattle.ev_generations.specs.Tables.{row_in}
 use Rattle.ev_generations.proofs.TableLemmas.{row_in-with_statuses}
 use Rattle.ev_indexes.specs.declared.state.State.{State}
-use Rattle.ev_indexes.specs.Due.{is_among}
+use Rattle.ev_indexes.specs.Due.{is_one_of}
 use Rattle.ev_indexes.specs.Indexes.{IsIndexed, numbers_where, serves, status_in, warms}
 use Rattle.ev_warming.specs.Changes.{is_over, has_retired, began_to_serve, began_to_drain}
 use Rattle.ev_warming.specs.declared.manager.Manager.{Manager}
@@ -39,7 +39,7 @@ none-are before after same n =
 
 -- those of the manager that alone changed
 pub retired-with : (m : Managers) (kind : Kind) (own : Manager) (numbers : List ℕ)
-    → ((n : ℕ) → is_among numbers n ≡ has_retired n (manager_of m kind).state.table.rows own.state.table.rows) → AreRetired numbers m (with_manager m kind own)
+    → ((n : ℕ) → is_one_of numbers n ≡ has_retired n (manager_of m kind).state.table.rows own.state.table.rows) → AreRetired numbers m (with_manager m kind own)
 retired-with m Cds own numbers told n =
     told n ∙ sym (or-false (has_retired n m.clusters.state.table.rows own.state.table.rows))
     ∙ (λ i. has_retired n m.clusters.state.table.rows own.state.table.rows || none-retired m.listeners.state.table.rows m.listeners.state.table.rows refl n i)
@@ -55,34 +55,34 @@ retired-with m Rds own numbers told n =
 pub ended-are : (s : State) (name numbers : List ℕ) (warming active : Option ℕ) (after : List GenRow) → IsIndexed s
     → option_to_list warming ≡ numbers_where (warms name) s.table.rows → option_to_list active ≡ numbers_where (serves name) s.table.rows
     → after ≡ rows_ended s.kind name s.table.rows → numbers ≡ option_to_list warming ++ option_to_list active
-    → (number : ℕ) → is_among numbers number ≡ has_retired number s.table.rows after
+    → (number : ℕ) → is_one_of numbers number ≡ has_retired number s.table.rows after
 ended-are s name numbers warming active after x w a ended are number =
-    ap (λ ns. is_among ns number) are
+    ap (λ ns. is_one_of ns number) are
     ∙ (tells-ended s.kind name s.table.rows x.table.apart x.kinds warming active after [] w a ended).told number
 
 -- numbers with more of them
 pub put-are : (before after : List GenRow) (numbers put drained : List ℕ) → put ≡ numbers ++ drained
-    → ((number : ℕ) → is_among drained number ≡ began_to_drain number before after) → Grows numbers put (λ number. began_to_drain number before after)
+    → ((number : ℕ) → is_one_of drained number ≡ began_to_drain number before after) → Grows numbers put (λ number. began_to_drain number before after)
 put-are before after numbers put drained are told number =
-    ap (λ ns. is_among ns number) are ∙ list_any-append (nat_eq number) numbers drained ∙ (λ i. is_among numbers number || told number i)
+    ap (λ ns. is_one_of ns number) are ∙ list_any-append (nat_eq number) numbers drained ∙ (λ i. is_one_of numbers number || told number i)
 
 -- numbers with those that came to serve and those that began to drain
 pub put-moved : (before after : List GenRow) (numbers put served drained : List ℕ) → put ≡ (numbers ++ served) ++ drained
-    → ((number : ℕ) → is_among served number ≡ began_to_serve number before after)
-    → ((number : ℕ) → is_among drained number ≡ began_to_drain number before after)
+    → ((number : ℕ) → is_one_of served number ≡ began_to_serve number before after)
+    → ((number : ℕ) → is_one_of drained number ≡ began_to_drain number before after)
     → Grows numbers put (λ number. is_moved number before after)
 put-moved before after numbers put served drained are serve drain number =
-    ap (λ ns. is_among ns number) are
+    ap (λ ns. is_one_of ns number) are
     ∙ list_any-append (nat_eq number) (numbers ++ served) drained
     ∙ (λ i. list_any-append (nat_eq number) numbers served i || drain number i)
-    ∙ (λ i. (is_among numbers number || serve number i) || began_to_drain number before after)
-    ∙ or_assoc (is_among numbers number) (began_to_serve number before after) (began_to_drain number before after)
+    ∙ (λ i. (is_one_of numbers number || serve number i) || began_to_drain number before after)
+    ∙ or_assoc (is_one_of numbers number) (began_to_serve number before after) (began_to_drain number before after)
 
 -- of one manager, then of the other
 pub put-both : (numbers first both : List ℕ) (one other : ℕ → Bool) → Grows numbers first one → Grows first both other
     → Grows numbers both (λ number. one number || other number)
 put-both numbers first both one other here there number =
-    there number ∙ (λ i. here number i || other number) ∙ or_assoc (is_among numbers number) (one number) (other number)
+    there number ∙ (λ i. here number i || other number) ∙ or_assoc (is_one_of numbers number) (one number) (other number)
 
 drained_by : (succeeded ready : Bool) (status : RowStatus)
     → (is_active status && is_draining (status_by succeeded ready status)) ≡ (not (is_live (status_by succeeded ready status)) && not (not (is_live status)))

@@ -11,7 +11,7 @@ use Rattle.ev_model.specs.World.{World}
 use Rattle.ev_model.specs.Signals.{no_hosts, no_routes, with_end}
 use Rattle.ev_model.specs.Watching.{is_by_name}
 use Rattle.ev_indexes.specs.Indexes.{depends_on}
-use Rattle.ev_indexes.specs.Worlds.{StandsFor}
+use Rattle.ev_indexes.specs.Worlds.{HasRows}
 use Rattle.ev_warming.specs.Arrivals.{AreOnValues}
 use Rattle.ev_warming.specs.Managers.{IsKept}
 use Rattle.ev_warming.specs.declared.manager.Manager.{Manager}
@@ -52,7 +52,7 @@ pub record IsManager (kind : Kind) (made : ℕ) (m : Manager) : Type 0 where
   pub drawn : m.state.table.made ≤ made
 
 -- both are so
-pub record AreKept (m : Managers) : Type 0 where
+pub record AreManagersKept (m : Managers) : Type 0 where
   pub clusters : IsManager Cds m.made m.clusters
   pub listeners : IsManager Lds m.made m.listeners
 
@@ -64,8 +64,8 @@ pub record AreForgotten (m : Managers) : Type 0 where
 -- each has what the world has of it, and as many numbers were drawn
 pub record StandFor (m : Managers) (world : World) : Type 0 where
   pub made : m.made ≡ world.made
-  pub clusters : StandsFor m.clusters.state world
-  pub listeners : StandsFor m.listeners.state world
+  pub clusters : HasRows m.clusters.state world
+  pub listeners : HasRows m.listeners.state world
 
 -- whatever world the first ones stand for, the second ones stand for that world changed so
 abbrev pub Follow : Managers → Managers → (World → World) → Type 0

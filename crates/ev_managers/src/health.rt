@@ -1,6 +1,6 @@
 ghost use Rattle.std.specs.Prelude.{IfOk, OnOk};
 ghost use Rattle.ev_warming.specs.Worlds.{means_something, with_result};
-ghost use Rattle.ev_managers.specs.Managers.{AreForgotten, AreKept, AnswerFor, Follow};
+ghost use Rattle.ev_managers.specs.Managers.{AreForgotten, AreManagersKept, AnswerFor, Follow};
 
 use crate::Managers;
 use ev_generations::Steps;
@@ -19,8 +19,8 @@ impl Managers {
         healthy: bool,
         steps: &mut Steps<L>,
     ) -> Result<bool, AllocError>
-        requires kept { AreKept self.old }
-        ensures kept { OnOk result (AreKept self.new) }
+        requires kept { AreManagersKept self.old }
+        ensures kept { OnOk result (AreManagersKept self.new) }
         // Nothing becomes such that nobody needs it.
         ensures forgotten { OnOk result (AreForgotten self.old → AreForgotten self.new) }
         ensures stands { OnOk result (Follow self.old self.new (with_result cluster.now host.now healthy)) }

@@ -7,7 +7,7 @@ ghost use Rattle.ev_generations.specs.Tables.{row_in};
 ghost use Rattle.ev_warming.specs.Changes.{is_over};
 ghost use Rattle.ev_warming.specs.Worlds.{without_generation, without_unneeded};
 ghost use Rattle.ev_managers.specs.Lending.{LendsManager};
-ghost use Rattle.ev_managers.specs.Managers.{AreForgotten, AreKept, StandFor, Follow, is_watched_in, manager_of};
+ghost use Rattle.ev_managers.specs.Managers.{AreForgotten, AreManagersKept, StandFor, Follow, is_watched_in, manager_of};
 ghost use Rattle.ev_managers.specs.Moved.{AreTold};
 
 use crate::moved::{Moved, promote};
@@ -29,7 +29,7 @@ pub struct Managers {
 impl Managers {
     /// No generation, and nothing known. It takes no memory.
     pub fn new(alloc: Global) -> Managers
-        ensures kept { AreKept result }
+        ensures kept { AreManagersKept result }
         ensures forgotten { AreForgotten result }
         ensures stands { (workers : ℕ) (node : List ℕ) → StandFor result (opening workers node) }
     {
@@ -63,7 +63,7 @@ impl Managers {
 
     /// Whether a live generation depends on this name of endpoints or of routes.
     pub fn is_watched(&self, kind: Kind, name: &str) -> bool
-        requires kept { AreKept self.now }
+        requires kept { AreManagersKept self.now }
         ensures rows { result ≡ is_watched_in self.now kind name.now }
     {
         is_by_name(kind) && self.of(kind).state.is_watched(name)
@@ -77,8 +77,8 @@ impl Managers {
         moved: &mut Moved,
         steps: &mut Steps<L>,
     ) -> Result<(), AllocError>
-        requires kept { AreKept self.old }
-        ensures kept { OnOk result (AreKept self.new) }
+        requires kept { AreManagersKept self.old }
+        ensures kept { OnOk result (AreManagersKept self.new) }
         ensures told { OnOk result (AreTold moved.old moved.new self.old self.new) }
         ensures stands { OnOk result (Follow self.old self.new promoted) }
     {
@@ -93,8 +93,8 @@ impl Managers {
         alloc: Global,
         steps: &mut Steps<L>,
     ) -> Result<(), AllocError>
-        requires kept { AreKept self.old }
-        ensures kept { OnOk result (AreKept self.new) }
+        requires kept { AreManagersKept self.old }
+        ensures kept { OnOk result (AreManagersKept self.new) }
         ensures done { OnOk result (AreForgotten self.new) }
         ensures stands { OnOk result (Follow self.old self.new without_unneeded) }
     {
@@ -105,11 +105,11 @@ impl Managers {
 
     /// Takes out and answers a generation that drains or was dropped, once all is forgotten that nobody needs. It takes no memory.
     pub fn remove(&mut self, kind: Kind, number: Gen) -> GenRow
-        requires kept { AreKept self.old }
+        requires kept { AreManagersKept self.old }
         requires forgotten { AreForgotten self.old }
         requires over { is_over (row_in number (manager_of self.old kind).state.table.rows) ≡ true }
         ensures row { row_in number (manager_of self.old kind).state.table.rows ≡ Some result }
-        ensures kept { AreKept self.new }
+        ensures kept { AreManagersKept self.new }
         ensures forgotten { AreForgotten self.new }
         ensures stands { Follow self.old self.new (without_generation number) }
     {

@@ -1,7 +1,7 @@
 ghost use Rattle.std.specs.Prelude.{◌≡◌, ◌+◌, ◌^◌, ◌<◌, false, true, Some, length, IfOk, OnOk};
 ghost use Rattle.ev_model.specs.Watching.{is_by_name};
 ghost use Rattle.ev_warming.specs.Worlds.{with_response};
-ghost use Rattle.ev_managers.specs.Managers.{AreKept, HaveSameRows, MayBeGiven, Follow};
+ghost use Rattle.ev_managers.specs.Managers.{AreManagersKept, HaveSameRows, MayBeGiven, Follow};
 ghost use Rattle.ev_managers.specs.Moved.{AreRetired};
 
 use crate::Managers;
@@ -22,12 +22,12 @@ impl Managers {
         verdicts: &[Verdict],
         steps: &mut Steps<L>,
     ) -> Result<Seq<Gen>, AllocError>
-        requires kept { AreKept self.old }
+        requires kept { AreManagersKept self.old }
         requires typed { response.now.kind ≡ Some kind }
         requires one_each { length verdicts.now ≡ length response.now.items }
         requires given { MayBeGiven self.old kind verdicts.now response.now.items }
         requires room { self.old.made + length response.now.items < 2 ^ 32 }
-        ensures kept { OnOk result (AreKept self.new) }
+        ensures kept { OnOk result (AreManagersKept self.new) }
         ensures retired { IfOk result (λ retired. AreRetired retired self.old self.new) }
         // Whatever world they stood for, they stand for that world once the response's removals and resources are in.
         ensures stands { OnOk result (Follow self.old self.new (with_response kind verdicts.now response.now)) }
@@ -49,12 +49,12 @@ impl Managers {
         verdicts: &[Verdict],
         steps: &mut Steps<L>,
     ) -> Result<Seq<Gen>, AllocError>
-        requires kept { AreKept self.old }
+        requires kept { AreManagersKept self.old }
         requires rows { is_by_name kind ≡ false }
         requires typed { response.now.kind ≡ Some kind }
         requires one_each { length verdicts.now ≡ length response.now.items }
         requires room { self.old.made + length response.now.items < 2 ^ 32 }
-        ensures kept { OnOk result (AreKept self.new) }
+        ensures kept { OnOk result (AreManagersKept self.new) }
         ensures retired { IfOk result (λ retired. AreRetired retired self.old self.new) }
         ensures stands { OnOk result (Follow self.old self.new (with_response kind verdicts.now response.now)) }
     {
@@ -75,12 +75,12 @@ impl Managers {
         verdicts: &[Verdict],
         steps: &mut Steps<L>,
     ) -> Result<(), AllocError>
-        requires kept { AreKept self.old }
+        requires kept { AreManagersKept self.old }
         requires by_name { is_by_name kind ≡ true }
         requires typed { response.now.kind ≡ Some kind }
         requires one_each { length verdicts.now ≡ length response.now.items }
         requires given { MayBeGiven self.old kind verdicts.now response.now.items }
-        ensures kept { OnOk result (AreKept self.new) }
+        ensures kept { OnOk result (AreManagersKept self.new) }
         ensures rows { OnOk result (HaveSameRows self.old self.new) }
         ensures stands { OnOk result (Follow self.old self.new (with_response kind verdicts.now response.now)) }
     {

@@ -3,7 +3,7 @@ ghost use Rattle.ev_model.specs.Signals.{with_end};
 ghost use Rattle.ev_model.specs.Watching.{is_by_name};
 ghost use Rattle.ev_types.specs.declared.rows.Arrival.TheVariants.{Ended};
 ghost use Rattle.ev_warming.specs.Arrivals.{with_arrived};
-ghost use Rattle.ev_managers.specs.Managers.{AreKept, HaveSameRows, is_watched_in, no_value, Follow, FollowEnd};
+ghost use Rattle.ev_managers.specs.Managers.{AreManagersKept, HaveSameRows, is_watched_in, no_value, Follow, FollowEnd};
 ghost use Rattle.ev_managers.specs.Moved.{AreRetired};
 
 use crate::Managers;
@@ -24,9 +24,9 @@ impl Managers {
         arrival: &Arrival,
         steps: &mut Steps<L>,
     ) -> Result<(), AllocError>
-        requires kept { AreKept self.old }
+        requires kept { AreManagersKept self.old }
         requires watched { is_watched_in self.old kind name.now ≡ true }
-        ensures kept { OnOk result (AreKept self.new) }
+        ensures kept { OnOk result (AreManagersKept self.new) }
         ensures rows { OnOk result (HaveSameRows self.old self.new) }
         ensures stands { OnOk result (Follow self.old self.new (with_arrived kind arrival.now name.now)) }
     {
@@ -45,8 +45,8 @@ impl Managers {
         name: &Name,
         steps: &mut Steps<L>,
     ) -> Result<Seq<Gen>, AllocError>
-        requires kept { AreKept self.old }
-        ensures kept { OnOk result (AreKept self.new) }
+        requires kept { AreManagersKept self.old }
+        ensures kept { OnOk result (AreManagersKept self.new) }
         ensures retired { IfOk result (λ retired. AreRetired retired self.old self.new) }
         // Whatever world they stood for, they stand for that world where the name has come to its end: one of endpoints or of routes
         // is to be watched.
@@ -68,9 +68,9 @@ impl Managers {
         name: &Name,
         steps: &mut Steps<L>,
     ) -> Result<Seq<Gen>, AllocError>
-        requires kept { AreKept self.old }
+        requires kept { AreManagersKept self.old }
         requires rows { is_by_name kind ≡ false }
-        ensures kept { OnOk result (AreKept self.new) }
+        ensures kept { OnOk result (AreManagersKept self.new) }
         ensures retired { IfOk result (λ retired. AreRetired retired self.old self.new) }
         ensures stands { OnOk result (Follow self.old self.new (with_end kind name.now)) }
     {
@@ -89,9 +89,9 @@ impl Managers {
         name: &Name,
         steps: &mut Steps<L>,
     ) -> Result<(), AllocError>
-        requires kept { AreKept self.old }
+        requires kept { AreManagersKept self.old }
         requires by_name { is_by_name kind ≡ true }
-        ensures kept { OnOk result (AreKept self.new) }
+        ensures kept { OnOk result (AreManagersKept self.new) }
         ensures rows { OnOk result (HaveSameRows self.old self.new) }
         ensures stands { OnOk result (FollowEnd self.old self.new kind name.now) }
     {

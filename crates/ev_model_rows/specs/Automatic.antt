@@ -22,8 +22,8 @@ abbrev pub script : ScriptParts
 script = script_with 1 true (codes "warmgate") deeds
 
 -- the answers, each with the number of its line
-abbrev pub Answers : Type 0
-Answers = answers_in script
+abbrev pub AutomaticAnswers : Type 0
+AutomaticAnswers = answers_in script
     ≡ (2, Moved (ask_first ∷ []))
     ∷ (2, Unchanged)
     ∷ (2, Reaped [])
@@ -42,8 +42,8 @@ Answers = answers_in script
     ∷ []
 
 -- the pictures: clusters by number with the hosts that may be chosen, and listeners by number
-abbrev pub Pictures : Type 0
-Pictures = pictures_in script
+abbrev pub AutomaticPictures : Type 0
+AutomaticPictures = pictures_in script
     ≡ ([], [])
     ∷ (((1, (codes "10.0.0.1" ∷ [])) ∷ []), [])
     ∷ ([], [])

@@ -90,8 +90,8 @@ deeds =
     ∷ []
 
 -- the answers, each with the number of its line
-abbrev pub Answers : Type 0
-Answers = answers_to deeds
+abbrev pub ChainsInOrderAnswers : Type 0
+ChainsInOrderAnswers = answers_to deeds
     ≡ (2, Moved (ask_first ∷ []))
     ∷ (3, Replied (ack (codes "2") Cds ∷ ask Lds ∷ []) [])
     ∷ (4, Replied (ack (codes "3") Lds ∷ []) (New ∷ New ∷ New ∷ New ∷ New ∷ New ∷ []))

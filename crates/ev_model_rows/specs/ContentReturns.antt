@@ -22,8 +22,8 @@ deeds =
     ∷ []
 
 -- the answers, each with the number of its line
-abbrev pub Answers : Type 0
-Answers = answers_to deeds
+abbrev pub ContentReturnsAnswers : Type 0
+ContentReturnsAnswers = answers_to deeds
     ≡ (2, Moved (ask_first ∷ []))
     ∷ (3, Replied (ack (codes "1") Cds ∷ ask Lds ∷ []) (New ∷ []))
     ∷ (4, Version 1)
@@ -39,8 +39,8 @@ Answers = answers_to deeds
     ∷ []
 
 -- the pictures: clusters by number with the hosts that may be chosen, and listeners by number
-abbrev pub Pictures : Type 0
-Pictures = pictures_of deeds
+abbrev pub ContentReturnsPictures : Type 0
+ContentReturnsPictures = pictures_of deeds
     ≡ ([], [])
     ∷ (((1, (codes "10.0.0.1" ∷ [])) ∷ []), [])
     ∷ (((3, (codes "10.0.0.1" ∷ [])) ∷ []), [])

@@ -39,8 +39,8 @@ deeds =
     ∷ []
 
 -- the answers, each with the number of its line
-abbrev pub Answers : Type 0
-Answers = answers_to deeds
+abbrev pub DomainsAnswers : Type 0
+DomainsAnswers = answers_to deeds
     ≡ (2, Moved (ask_first ∷ []))
     ∷ (3, Moved (ask Lds ∷ []))
     ∷ (4, Replied (ack (codes "1") Lds ∷ []) (New ∷ []))
@@ -54,8 +54,8 @@ Answers = answers_to deeds
     ∷ []
 
 -- the pictures: clusters by number with the hosts that may be chosen, and listeners by number
-abbrev pub Pictures : Type 0
-Pictures = pictures_of deeds
+abbrev pub DomainsPictures : Type 0
+DomainsPictures = pictures_of deeds
     ≡ ([], [])
     ∷ ([], (1 ∷ []))
     ∷ []

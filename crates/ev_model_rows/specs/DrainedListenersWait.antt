@@ -8,8 +8,8 @@ use Rattle.ev_types.specs.declared.journals.Format.TheVariants.{One, Two}
 use Rattle.ev_model_rows.specs.Words.{Deed, script_of, answers_by, host_row, static_cluster, tcp_listener, connect, response, drain_timeout, publish, reap, accept, close, settle, ask, ask_first, ack, served, settled}
 
 -- the lines, from the second on
-abbrev pub deeds : List Deed
-deeds =
+abbrev pub drained_deeds : List Deed
+drained_deeds =
     connect
     ∷ response Cds (codes "1") (static_cluster (codes "c") (host_row (codes "1") ∷ []) ∷ []) []
     ∷ response Lds (codes "2") (tcp_listener (codes "in") 8080 (codes "c") ∷ []) []
@@ -43,11 +43,11 @@ answers_before =
     ∷ []
 
 -- in format 2 the first reaping finds nothing, and the one after the drain timeout the old listener
-abbrev pub Answers : Type 0
-Answers = answers_by Two (script_of deeds)
+abbrev pub DrainedListenersWaitAnswers : Type 0
+DrainedListenersWaitAnswers = answers_by Two (script_of drained_deeds)
     ≡ answers_before ++ (13, Reaped []) ∷ (14, Done) ∷ (15, Reaped (2 ∷ [])) ∷ (16, settled 2) ∷ []
 
 -- in format 1 the first reaping finds the old listener, and the drain timeout means nothing any more
 abbrev pub AnswersOfFormat1 : Type 0
-AnswersOfFormat1 = answers_by One (script_of deeds)
+AnswersOfFormat1 = answers_by One (script_of drained_deeds)
     ≡ answers_before ++ (13, Reaped (2 ∷ [])) ∷ (14, Ignored) ∷ (15, Reaped []) ∷ (16, settled 2) ∷ []

@@ -7,7 +7,7 @@ use Rattle.ev_model.specs.Operations.{replay_order}
 use Rattle.ev_model.specs.Finding.{finding_of, row_of}
 use Rattle.ev_model_rows.specs.Words.{script_of}
 use Rattle.ev_model_rows.specs.LateBatch.{deeds}
-use Rattle.ev_model_rows.specs.DrainedListenersWait.{deeds as drained}
+use Rattle.ev_model_rows.specs.DrainedListenersWait.{drained_deeds}
 
 -- the rows of the journal
 abbrev pub rows : List Row
@@ -19,7 +19,7 @@ moved = take 11 rows ++ (take 1 (drop 13 rows) ++ (take 2 (drop 11 rows) ++ drop
 
 -- the rows of the journal in which a drained listener waits
 abbrev pub waiting : List Row
-waiting = map row_of (replay_order Two (script_of drained))
+waiting = map row_of (replay_order Two (script_of drained_deeds))
 
 -- The journal is legal; with the reaping too early it isn't answered as the machine answers; without its last row, a settle of a
 -- worker that has no connection open and has settled, one is missing in format 1, and none in format 2. A script of a header
@@ -32,5 +32,5 @@ pub record Found : Type 0 where
   pub none : finding_of Two (script_of deeds) [] ≡ NotTheScript 1
   pub one_missing : finding_of One (script_of []) [] ≡ NotTheScript 1
   pub none_missing : finding_of Two (script_of []) [] ≡ Legal
-  pub waits : finding_of Two (script_of drained) waiting ≡ Legal
-  pub waits_not : finding_of One (script_of drained) waiting ≡ IllegalAt 12
+  pub waits : finding_of Two (script_of drained_deeds) waiting ≡ Legal
+  pub waits_not : finding_of One (script_of drained_deeds) waiting ≡ IllegalAt 12

@@ -27,8 +27,8 @@ deeds =
     ∷ []
 
 -- the answers, each with the number of its line
-abbrev pub Answers : Type 0
-Answers = answers_to deeds
+abbrev pub FreshEndpointsAnswers : Type 0
+FreshEndpointsAnswers = answers_to deeds
     ≡ (2, Moved (ask_first ∷ []))
     ∷ (3, Moved (ask Lds ∷ []))
     ∷ (4, Replied (ack (codes "3") Lds ∷ []) (New ∷ []))
@@ -63,8 +63,8 @@ ended =
     ∷ []
 
 -- their pictures: clusters by number with the hosts that may be chosen; the end takes the hosts of the generation that serves
-abbrev pub Pictures : Type 0
-Pictures = pictures_of ended
+abbrev pub FreshEndpointsPictures : Type 0
+FreshEndpointsPictures = pictures_of ended
     ≡ ([], [])
     ∷ (((1, (codes "10.0.0.1" ∷ [])) ∷ []), [])
     ∷ (((1, []) ∷ []), [])

@@ -20,8 +20,8 @@ deeds =
     ∷ []
 
 -- the answers, each with the number of its line
-abbrev pub Answers : Type 0
-Answers = answers_to deeds
+abbrev pub GrowingAssignmentAnswers : Type 0
+GrowingAssignmentAnswers = answers_to deeds
     ≡ (2, Moved (ask_first ∷ []))
     ∷ (3, Replied (ack (codes "1") Cds ∷ subscribe Eds (codes "api" ∷ []) ∷ []) (New ∷ []))
     ∷ (4, Replied (ack (codes "2") Eds ∷ []) (Kept ∷ []))
@@ -35,8 +35,8 @@ Answers = answers_to deeds
     ∷ []
 
 -- the pictures: clusters by number with the hosts that may be chosen, and listeners by number
-abbrev pub Pictures : Type 0
-Pictures = pictures_of deeds
+abbrev pub GrowingAssignmentPictures : Type 0
+GrowingAssignmentPictures = pictures_of deeds
     ≡ ([], [])
     ∷ (((1, (codes "10.0.0.1" ∷ [])) ∷ []), [])
     ∷ []

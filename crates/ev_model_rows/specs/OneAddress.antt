@@ -16,8 +16,8 @@ deeds =
     ∷ []
 
 -- the answers, each with the number of its line
-abbrev pub Answers : Type 0
-Answers = answers_to deeds
+abbrev pub OneAddressAnswers : Type 0
+OneAddressAnswers = answers_to deeds
     ≡ (2, Moved (ask_first ∷ []))
     ∷ (3, Moved (ask Lds ∷ []))
     ∷ (4, Replied (ack (codes "1") Lds ∷ []) (New ∷ []))
@@ -27,7 +27,7 @@ Answers = answers_to deeds
     ∷ []
 
 -- the pictures: clusters by number with the hosts that may be chosen, and listeners by number
-abbrev pub Pictures : Type 0
-Pictures = pictures_of deeds
+abbrev pub OneAddressPictures : Type 0
+OneAddressPictures = pictures_of deeds
     ≡ ([], [])
     ∷ []

@@ -19,8 +19,8 @@ deeds =
     ∷ []
 
 -- the answers, each with the number of its line
-abbrev pub Answers : Type 0
-Answers = answers_to deeds
+abbrev pub OneRefusedOfTwoAnswers : Type 0
+OneRefusedOfTwoAnswers = answers_to deeds
     ≡ (2, Moved (ask_first ∷ []))
     ∷ (3, Replied (nack (codes "7") Cds (codes "b: V8") ∷ ask Lds ∷ []) (New ∷ Refused 8 ∷ []))
     ∷ (4, settled 0)

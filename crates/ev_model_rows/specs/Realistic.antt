@@ -51,8 +51,8 @@ abbrev pub script : ScriptParts
 script = script_with 2 false (codes "edge-1") deeds
 
 -- the answers, each with the number of its line
-abbrev pub Answers : Type 0
-Answers = answers_in script
+abbrev pub RealisticAnswers : Type 0
+RealisticAnswers = answers_in script
     ≡ (2, Moved (record ask_first { node = Some (codes "edge-1") } ∷ []))
     ∷ (3, Replied (ack (codes "1") Cds ∷ subscribe Eds (codes "api" ∷ codes "img" ∷ codes "web" ∷ []) ∷ []) (New ∷ New ∷ New ∷ []))
     ∷ (4, Replied (ack (codes "2") Eds ∷ []) (Kept ∷ Kept ∷ Kept ∷ []))
@@ -74,8 +74,8 @@ Answers = answers_in script
     ∷ []
 
 -- the pictures: clusters by number with the hosts that may be chosen, and listeners by number
-abbrev pub Pictures : Type 0
-Pictures = pictures_in script
+abbrev pub RealisticPictures : Type 0
+RealisticPictures = pictures_in script
     ≡ ([], [])
     ∷ (((2, (codes "10.0.0.2" ∷ [])) ∷ (3, (codes "10.0.0.3" ∷ [])) ∷ (1, (codes "10.0.0.1" ∷ [])) ∷ []), (4 ∷ []))
     ∷ []

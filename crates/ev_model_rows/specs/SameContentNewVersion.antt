@@ -16,8 +16,8 @@ deeds =
     ∷ []
 
 -- the answers, each with the number of its line
-abbrev pub Answers : Type 0
-Answers = answers_to deeds
+abbrev pub SameContentNewVersionAnswers : Type 0
+SameContentNewVersionAnswers = answers_to deeds
     ≡ (2, Moved (ask_first ∷ []))
     ∷ (3, Replied (ack (codes "1") Cds ∷ ask Lds ∷ []) (New ∷ []))
     ∷ (4, Replied (ack (codes "2") Cds ∷ []) (Same ∷ []))

@@ -29,8 +29,8 @@ deeds =
     ∷ []
 
 -- the answers, each with the number of its line
-abbrev pub Answers : Type 0
-Answers = answers_to deeds
+abbrev pub SharedRoutesAnswers : Type 0
+SharedRoutesAnswers = answers_to deeds
     ≡ (2, Moved (ask_first ∷ []))
     ∷ (3, Moved (ask Lds ∷ []))
     ∷ (4, Replied (ack (codes "3") Lds ∷ subscribe Rds (codes "r" ∷ []) ∷ []) (New ∷ []))

@@ -18,8 +18,8 @@ deeds =
     ∷ []
 
 -- the answers, each with the number of its line
-abbrev pub Answers : Type 0
-Answers = answers_to deeds
+abbrev pub TimeoutsOfListenersAnswers : Type 0
+TimeoutsOfListenersAnswers = answers_to deeds
     ≡ (2, Moved (ask_first ∷ []))
     ∷ (3, Moved (ask Lds ∷ []))
     ∷ (4, Replied (ack (codes "1") Lds ∷ subscribe Rds (codes "r" ∷ []) ∷ []) (New ∷ []))

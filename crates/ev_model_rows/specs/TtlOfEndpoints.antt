@@ -24,8 +24,8 @@ deeds =
     ∷ []
 
 -- the answers, each with the number of its line
-abbrev pub Answers : Type 0
-Answers = answers_to deeds
+abbrev pub TtlOfEndpointsAnswers : Type 0
+TtlOfEndpointsAnswers = answers_to deeds
     ≡ (2, Moved (ask_first ∷ []))
     ∷ (3, Replied (ack (codes "1") Cds ∷ subscribe Eds (codes "c" ∷ []) ∷ []) (New ∷ []))
     ∷ (4, Replied (ack (codes "2") Eds ∷ ask Lds ∷ []) (Kept ∷ []))
@@ -37,8 +37,8 @@ Answers = answers_to deeds
     ∷ []
 
 -- the pictures: clusters by number with the hosts that may be chosen, and listeners by number
-abbrev pub Pictures : Type 0
-Pictures = pictures_of deeds
+abbrev pub TtlOfEndpointsPictures : Type 0
+TtlOfEndpointsPictures = pictures_of deeds
     ≡ ([], [])
     ∷ (((1, (codes "10.0.0.1" ∷ [])) ∷ []), [])
     ∷ (((1, []) ∷ []), [])

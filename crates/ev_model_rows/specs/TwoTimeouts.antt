@@ -18,8 +18,8 @@ deeds =
     ∷ []
 
 -- the answers, each with the number of its line
-abbrev pub Answers : Type 0
-Answers = answers_to deeds
+abbrev pub TwoTimeoutsAnswers : Type 0
+TwoTimeoutsAnswers = answers_to deeds
     ≡ (2, Moved (ask_first ∷ []))
     ∷ (3, Replied (ack (codes "1") Cds ∷ subscribe Eds (codes "s" ∷ []) ∷ []) (New ∷ New ∷ []))
     ∷ (4, Moved [])
@@ -31,8 +31,8 @@ Answers = answers_to deeds
     ∷ []
 
 -- the pictures: clusters by number with the hosts that may be chosen, and listeners by number
-abbrev pub Pictures : Type 0
-Pictures = pictures_of deeds
+abbrev pub TwoTimeoutsPictures : Type 0
+TwoTimeoutsPictures = pictures_of deeds
     ≡ ([], [])
     ∷ (((1, []) ∷ []), [])
     ∷ (((1, []) ∷ (2, []) ∷ []), [])

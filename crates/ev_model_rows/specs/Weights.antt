@@ -26,8 +26,8 @@ deeds =
     ∷ []
 
 -- the answers, each with the number of its line
-abbrev pub Answers : Type 0
-Answers = answers_to deeds
+abbrev pub WeightsAnswers : Type 0
+WeightsAnswers = answers_to deeds
     ≡ (2, Moved (ask_first ∷ []))
     ∷ (3, Replied (ack (codes "1") Cds ∷ ask Lds ∷ []) (New ∷ New ∷ []))
     ∷ (4, Replied (ack (codes "2") Lds ∷ []) (New ∷ []))
@@ -40,8 +40,8 @@ Answers = answers_to deeds
     ∷ []
 
 -- the pictures: clusters by number with the hosts that may be chosen, and listeners by number
-abbrev pub Pictures : Type 0
-Pictures = pictures_of deeds
+abbrev pub WeightsPictures : Type 0
+WeightsPictures = pictures_of deeds
     ≡ ([], [])
     ∷ (((1, (codes "10.0.0.1" ∷ [])) ∷ (2, (codes "10.0.0.2" ∷ codes "10.0.0.3" ∷ [])) ∷ []), (3 ∷ []))
     ∷ []

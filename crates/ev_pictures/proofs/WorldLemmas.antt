@@ -14,7 +14,7 @@ use Rattle.ev_model.specs.Picture.{has_number, is_shown, numbers_shown, shown_of
 use Rattle.ev_model.specs.Dead.{last_picture, numbers_in_use, picture_at, picture_held, shown_at, shown_in_use}
 use Rattle.ev_model.specs.Publishing.{publish}
 use Rattle.ev_snapshot.specs.Changes.{empty_picture}
-use Rattle.ev_pictures.specs.Pictures.{PicturesParts, StandsFor, is_shown_by, is_shown_in, next_version, published_answer, settled_on, with_settled, with_shown}
+use Rattle.ev_pictures.specs.Pictures.{HasPictures, PicturesParts, is_shown_by, is_shown_in, next_version, published_answer, settled_on, with_settled, with_shown}
 
 -- at the opening
 none_known : (n : ℕ) → AllByRecursion (λ version. version < 1) (replicate n 0)
@@ -25,7 +25,7 @@ all_first : (node : List ℕ) (workers n : ℕ) → replicate n empty_picture �
 all_first node workers zero = refl
 all_first node workers (suc n) = ap (λ ps. empty_picture ∷ ps) (all_first node workers n)
 
-pub opening_stands : (workers : ℕ) (node : List ℕ) → StandsFor (record { last = empty_picture; held = replicate workers empty_picture }) (opening workers node)
+pub opening_stands : (workers : ℕ) (node : List ℕ) → HasPictures (record { last = empty_picture; held = replicate workers empty_picture }) (opening workers node)
 opening_stands workers node = record {
   published = refl;
   last = refl;
@@ -72,8 +72,8 @@ module _ (world : World) (shown : Shown) where
       ∙ ap (λ (s : Shown). record { version = length world.pictures; shown = s }) (sym (get_or-append_seam world.pictures shown [] nothing_shown))
       ∙ ap (picture_at more) (sym at)
 
-  new_stands : (pictures : PicturesParts) → StandsFor pictures world
-      → StandsFor (record pictures { last = record { version = pictures.last.version + 1; shown = shown } }) more
+  new_stands : (pictures : PicturesParts) → HasPictures pictures world
+      → HasPictures (record pictures { last = record { version = pictures.last.version + 1; shown = shown } }) more
   new_stands pictures stands = record {
     published = longer world.pictures shown ∙ ap (λ n. n + 1) stands.published;
     last = new_last (pictures.last.version + 1) stands.published;
@@ -82,30 +82,30 @@ module _ (world : World) (shown : Shown) where
   }
 
 -- a publication
-pub publish_stands : (shown : Shown) (pictures : PicturesParts) (world : World) → StandsFor pictures world → shown ≡ shown_of world
-    → StandsFor (with_shown shown pictures) (publish world).0
+pub publish_stands : (shown : Shown) (pictures : PicturesParts) (world : World) → HasPictures pictures world → shown ≡ shown_of world
+    → HasPictures (with_shown shown pictures) (publish world).0
 publish_stands shown pictures world stands is =
     by (shown_same shown pictures.last.shown) (shown_same (shown_of world) (shown_at world (last_version world)))
     (ap (λ s. shown_same s pictures.last.shown) is ∙ ap (λ (p : Picture). shown_same (shown_of world) p.shown) stands.last)
   where
     by : (t u : Bool) → t ≡ u
-        → StandsFor (cond t pictures (record pictures { last = record { version = pictures.last.version + 1; shown = shown } }))
+        → HasPictures (cond t pictures (record pictures { last = record { version = pictures.last.version + 1; shown = shown } }))
         (cond {A = World × Answer} u (world, Unchanged) (record world { pictures = world.pictures ++ shown_of world ∷ [] }, Version (length world.pictures))).0
     by true true h = stands
     by true false h = grind arith
     by false true h = grind arith
-    by false false h = subst (λ s. StandsFor (record pictures { last = record { version = pictures.last.version + 1; shown = shown } }) (record world { pictures = world.pictures ++ s ∷ [] })) is (new_stands world shown pictures stands)
+    by false false h = subst (λ s. HasPictures (record pictures { last = record { version = pictures.last.version + 1; shown = shown } }) (record world { pictures = world.pictures ++ s ∷ [] })) is (new_stands world shown pictures stands)
 
 -- where it shows something else
 pub published_stands : (shown : Shown) (last : Picture) (pictures : PicturesParts) (world : World) → shown_same shown pictures.last.shown ≡ false
-    → last ≡ record { version = pictures.last.version + 1; shown = shown } → StandsFor pictures world → shown ≡ shown_of world
-    → StandsFor (record pictures { last = last }) (publish world).0
+    → last ≡ record { version = pictures.last.version + 1; shown = shown } → HasPictures pictures world → shown ≡ shown_of world
+    → HasPictures (record pictures { last = last }) (publish world).0
 published_stands shown last pictures world other new stands is =
-    subst (λ p. StandsFor p (publish world).0)
+    subst (λ p. HasPictures p (publish world).0)
     (ap (λ t. cond t pictures (record pictures { last = record { version = pictures.last.version + 1; shown = shown } })) other ∙ ap (λ l. record pictures { last = l }) (sym new))
     (publish_stands shown pictures world stands is)
 
-pub publish_answers : (shown : Shown) (pictures : PicturesParts) (world : World) → StandsFor pictures world → shown ≡ shown_of world
+pub publish_answers : (shown : Shown) (pictures : PicturesParts) (world : World) → HasPictures pictures world → shown ≡ shown_of world
     → (publish world).1 ≡ published_answer (next_version shown pictures.last)
 publish_answers shown pictures world stands is =
     by (shown_same shown pictures.last.shown) (shown_same (shown_of world) (shown_at world (last_version world)))
@@ -125,7 +125,7 @@ known_set P [] worker version here known = known
 known_set P (v ∷ held) zero version here known = (here, known.1)
 known_set P (v ∷ held) (suc worker) version here known = (known.0, known_set P held worker version here known.1)
 
-pub settle_stands : (worker : ℕ) (pictures : PicturesParts) (world : World) → StandsFor pictures world → StandsFor (with_settled worker pictures) (settled_on worker world)
+pub settle_stands : (worker : ℕ) (pictures : PicturesParts) (world : World) → HasPictures pictures world → HasPictures (with_settled worker pictures) (settled_on worker world)
 settle_stands worker pictures world stands =
     let some : last_version world < length world.pictures = let len = stands.published in omega arith in
     record {
@@ -139,7 +139,7 @@ settle_stands worker pictures world stands =
     }
 
 -- the picture that a worker holds
-pub held_stands : (worker : ℕ) (pictures : PicturesParts) (world : World) (other : Picture) → StandsFor pictures world → worker < length pictures.held
+pub held_stands : (worker : ℕ) (pictures : PicturesParts) (world : World) (other : Picture) → HasPictures pictures world → worker < length pictures.held
     → slice_index_or pictures.held worker other ≡ picture_held world worker
 held_stands worker pictures world other stands below =
     let below : worker < length world.held = subst (λ n. worker < n) (ap length stands.held ∙ length-map world.held (picture_at world)) below in
@@ -160,7 +160,7 @@ or_none : (b : Bool) → b ≡ (b || false)
 or_none true = refl
 or_none false = refl
 
-pub shows_stands : (number : ℕ) (pictures : PicturesParts) (world : World) → StandsFor pictures world
+pub shows_stands : (number : ℕ) (pictures : PicturesParts) (world : World) → HasPictures pictures world
     → is_shown_by number pictures ≡ has_number number (numbers_in_use world)
 shows_stands number pictures world stands =
     let last : Shown = shown_at world (last_version world) in

@@ -32,8 +32,8 @@ pub record IsUpTo (last picture : Picture) : Type 0 where
   pub same : picture.version ≡ last.version → picture ≡ last
 
 -- no worker holds a later picture than the last
-abbrev pub AreKept : Picture → List Picture → Type 0
-AreKept last held = AllByRecursion (IsUpTo last) held
+abbrev pub AreUpTo : Picture → List Picture → Type 0
+AreUpTo last held = AllByRecursion (IsUpTo last) held
 
 -- what is shown after these changes of the last picture
 abbrev pub shown_after : Changes → PicturesParts → Shown
@@ -89,7 +89,7 @@ version_showing number pictures = option_map (λ (p : Picture). p.version) (find
 
 -- The pictures are those of the world: the last one, and of as many workers the one that each holds. The last one's version is
 -- that of the world's last picture, and each worker's was published.
-pub record StandsFor (pictures : PicturesParts) (world : World) : Type 0 where
+pub record HasPictures (pictures : PicturesParts) (world : World) : Type 0 where
   pub published : length world.pictures ≡ pictures.last.version + 1
   pub last : pictures.last ≡ last_picture world
   pub held : pictures.held ≡ map (picture_at world) world.held
@@ -97,19 +97,19 @@ pub record StandsFor (pictures : PicturesParts) (world : World) : Type 0 where
 
 -- whatever world the pictures stand for, this is the answer of the question about it
 abbrev pub IsAnswerOf : {A : Type 0} → (World → A) → PicturesParts → A → Type 0
-IsAnswerOf question pictures answer = (world : World) → StandsFor pictures world → answer ≡ question world
+IsAnswerOf question pictures answer = (world : World) → HasPictures pictures world → answer ≡ question world
 
 -- whatever world the first pictures stand for, the second stand for what the change makes of it
 abbrev pub StandsAfter : (World → World) → PicturesParts → PicturesParts → Type 0
-StandsAfter change before after = (world : World) → StandsFor before world → StandsFor after (change world)
+StandsAfter change before after = (world : World) → HasPictures before world → HasPictures after (change world)
 
 -- at whatever world the pictures stand for, where these changes lead to what workers may serve, the machine answers a publication
 -- with this version
 abbrev pub AnswersPublication : Changes → PicturesParts → Option ℕ → Type 0
 AnswersPublication changes pictures version =
-    (world : World) → StandsFor pictures world → shown_after changes pictures ≡ shown_of world → (publish world).1 ≡ published_answer version
+    (world : World) → HasPictures pictures world → shown_after changes pictures ≡ shown_of world → (publish world).1 ≡ published_answer version
 
 -- likewise the second pictures stand for the world that a publication leaves
 abbrev pub Publishes : Changes → PicturesParts → PicturesParts → Type 0
 Publishes changes before after =
-    (world : World) → StandsFor before world → shown_after changes before ≡ shown_of world → StandsFor after (publish world).0
+    (world : World) → HasPictures before world → shown_after changes before ≡ shown_of world → HasPictures after (publish world).0

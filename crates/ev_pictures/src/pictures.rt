@@ -6,7 +6,7 @@ ghost use Rattle.ev_model.specs.World.{opening};
 ghost use Rattle.ev_model.specs.Picture.{has_number};
 ghost use Rattle.ev_model.specs.Dead.{numbers_in_use, picture_held};
 ghost use Rattle.ev_snapshot.specs.Changes.{IsOrdered};
-ghost use Rattle.ev_pictures.specs.Pictures.{AnswersPublication, IsAnswerOf, Publishes, StandsAfter, StandsFor, is_shown_by, is_shown_in, opening_pictures, settled_on, shown_after, version_after, version_held, version_showing, version_where, with_shown, with_settled};
+ghost use Rattle.ev_pictures.specs.Pictures.{AnswersPublication, IsAnswerOf, Publishes, StandsAfter, HasPictures, is_shown_by, is_shown_in, opening_pictures, settled_on, shown_after, version_after, version_held, version_showing, version_where, with_shown, with_settled};
 
 use ev_snapshot::{Changes, Snapshot};
 use ev_types::Gen;
@@ -24,20 +24,20 @@ pub struct Pictures {
 impl Model for Pictures {
     ghost use Rattle.std.specs.Prelude.{map};
     ghost use Rattle.std.specs.Arc.{arc_value};
-    ghost use Rattle.ev_pictures.specs.Pictures.{PicturesParts, AreKept};
+    ghost use Rattle.ev_pictures.specs.Pictures.{PicturesParts, AreUpTo};
 
     ghost Value = { PicturesParts };
 
     ghost view = { λ p. record { last = arc_value p.last; held = map arc_value p.held.items } };
 
-    ghost invariant = { λ p. AreKept (arc_value p.last) (map arc_value p.held.items) };
+    ghost invariant = { λ p. AreUpTo (arc_value p.last) (map arc_value p.held.items) };
 }
 
 impl Pictures {
     /// Nothing was published, and each of this many workers holds the empty picture.
     pub fn new(alloc: Global, workers: u32) -> Result<Pictures, AllocError>
         ensures empty { IfOk result (λ pictures. pictures ≡ opening_pictures workers) }
-        ensures world { IfOk result (λ pictures. (node : List ℕ) → StandsFor pictures (opening workers node)) }
+        ensures world { IfOk result (λ pictures. (node : List ℕ) → HasPictures pictures (opening workers node)) }
     {
         let last = Snapshot::empty(alloc)?;
         let held = held_by_all(alloc, &last, workers)?;

@@ -11,13 +11,13 @@ use Rattle.ev_types.specs.declared.rows.GenRow.{GenRow}
 use Rattle.ev_model.specs.World.{World}
 use Rattle.ev_model.specs.Picture.{has_number}
 use Rattle.ev_generations.specs.Tables.{numbers_of, row_in}
-use Rattle.ev_indexes.specs.Due.{is_among}
+use Rattle.ev_indexes.specs.Due.{is_one_of}
 use Rattle.ev_warming.specs.Changes.{is_over}
-use Rattle.ev_drain.specs.Retired.{Retired as Row}
+use Rattle.ev_drain.specs.Retired.{Retired}
 use Rattle.ev_state.specs.States.{ManagesAt}
 use Rattle.ev_state.specs.Retirements.{HaveCeased}
-use Rattle.ev_retirement.specs.Holders.{AreNumbered, HoldersParts, StandsFor as HoldsFor}
-use Rattle.ev_retirement.specs.Retiring.{HaveCeased as CeaseBetween, HoldTheSame, is_over as over_there, noted, noted_all, noted_where}
+use Rattle.ev_retirement.specs.Holders.{AreNumbered, HoldersParts, HoldsFor}
+use Rattle.ev_retirement.specs.Retiring.{CeasedBetween, has_ceased, HoldTheSame, noted, noted_all, noted_where}
 use Rattle.ev_retirement.proofs.RetireLemmas.{retirements_stand}
 use Rattle.ev_proxy.specs.Proxies.{noted_each, noted_over}
 
@@ -43,16 +43,16 @@ pub at-numbered : (s : _) (world : World) → ManagesAt s world → AreNumbered 
 at-numbered s world at = numbered world.rows at.follows.sound.table.apart
 
 -- a number among others
-among : (numbers : List ℕ) (number : ℕ) → has_number number numbers ≡ is_among numbers number
+among : (numbers : List ℕ) (number : ℕ) → has_number number numbers ≡ is_one_of numbers number
 among [] number = refl
 among (n ∷ numbers) number = λ i. turned n number i || among numbers number i
 
-over_same : (found : Option GenRow) → is_over found ≡ over_there found
+over_same : (found : Option GenRow) → is_over found ≡ has_ceased found
 over_same None = refl
 over_same (Some row) = refl
 
 -- what is reported, as what holds generations takes it
-pub ceased_all : (retired : List ℕ) (before after : World) → HaveCeased retired before after → CeaseBetween retired before.rows after.rows
+pub ceased_all : (retired : List ℕ) (before after : World) → HaveCeased retired before after → CeasedBetween retired before.rows after.rows
 ceased_all retired before after ceased = record {
   told = λ number.
       among retired number
@@ -63,9 +63,9 @@ ceased_all retired before after ceased = record {
 
 -- where each of these numbers is of a row that is over, all are noted
 abbrev AreOver : List GenRow → List ℕ → Type 0
-AreOver rows numbers = AllByRecursion (λ number. over_there (row_in number rows) ≡ true) numbers
+AreOver rows numbers = AllByRecursion (λ number. has_ceased (row_in number rows) ≡ true) numbers
 
-noted_found : (drain : List Row) (found : Option GenRow) → over_there found ≡ true → noted_over drain found ≡ noted_where drain found
+noted_found : (drain : List Retired) (found : Option GenRow) → has_ceased found ≡ true → noted_over drain found ≡ noted_where drain found
 noted_found drain None over = refl
 noted_found drain (Some row) over = by (is_live row.status) over
   where
@@ -73,13 +73,13 @@ noted_found drain (Some row) over = by (is_live row.status) over
     by true over = absurd (false≢true over)
     by false over = refl
 
-each_noted : (rows : List GenRow) (numbers : List ℕ) (drain : List Row) → AreOver rows numbers → noted_each rows numbers drain ≡ noted_all rows numbers drain
+each_noted : (rows : List GenRow) (numbers : List ℕ) (drain : List Retired) → AreOver rows numbers → noted_each rows numbers drain ≡ noted_all rows numbers drain
 each_noted rows [] drain over = refl
 each_noted rows (number ∷ numbers) drain over =
     ap (noted_each rows numbers) (noted_found drain (row_in number rows) over.0) ∙ each_noted rows numbers (noted_where drain (row_in number rows)) over.1
 
 -- one after another
-pub each_more : (rows : List GenRow) (numbers : List ℕ) (number : ℕ) (drain : List Row)
+pub each_more : (rows : List GenRow) (numbers : List ℕ) (number : ℕ) (drain : List Retired)
     → noted_over (noted_each rows numbers drain) (row_in number rows) ≡ noted_each rows (numbers ++ number ∷ []) drain
 each_more rows [] number drain = refl
 each_more rows (n ∷ numbers) number drain = each_more rows numbers number (noted_over drain (row_in n rows))
@@ -104,8 +104,8 @@ pub noted_stand : (first second : HoldersParts) (retired : List ℕ) (before aft
 noted_stand first second retired before after then stands apart also same ceased =
     let all = ceased_all retired before after ceased in
     let over : AreOver after.rows retired =
-    all_among (λ n. over_there (row_in n after.rows) ≡ true) retired
-    (λ n there. first_so (over_there (row_in n after.rows)) (not (over_there (row_in n before.rows))) (sym (all.told n) ∙ there)) in
+    all_among (λ n. has_ceased (row_in n after.rows) ≡ true) retired
+    (λ n there. first_so (has_ceased (row_in n after.rows)) (not (has_ceased (row_in n before.rows))) (sym (all.told n) ∙ there)) in
     subst (λ (h : HoldersParts). HoldsFor h after)
     (sym (then ∙ (λ i. record first { drain = each_noted after.rows retired first.drain over i })))
     (retirements_stand first retired before after stands apart also same all)

@@ -31,14 +31,14 @@ use Rattle.ev_snapshot.specs.Changes.{IsInOrder, IsOrdered, put_cluster, put_clu
 use Rattle.ev_snapshot.specs.Tables.{cluster_numbered, listener_numbered}
 use Rattle.ev_indexes.proofs.ShownLemmas.{names-differ}
 use Rattle.ev_indexes.specs.declared.state.State.{State as Part}
-use Rattle.ev_indexes.specs.Due.{is_among}
+use Rattle.ev_indexes.specs.Due.{is_one_of}
 use Rattle.ev_indexes.specs.Indexes.{IsIndexed}
 use Rattle.ev_indexes.specs.Shown.{cluster_shown, listener_shown}
-use Rattle.ev_indexes.specs.Worlds.{StandsFor as HasPart}
+use Rattle.ev_indexes.specs.Worlds.{HasRows}
 use Rattle.ev_state.specs.Changed.{HaveChanged}
 use Rattle.ev_state.specs.States.{ManagesAt, SameManaged}
 use Rattle.ev_state.specs.declared.state.State.{State}
-use Rattle.ev_pictures.specs.Pictures.{PicturesParts, StandsFor as HasPictures, shown_after}
+use Rattle.ev_pictures.specs.Pictures.{HasPictures, PicturesParts, shown_after}
 use Rattle.ev_retirement.specs.Holders.{AreNumbered}
 use Rattle.ev_proxy.specs.Changing.{IsShownBut, changes_at, cluster_change, listener_change}
 use Rattle.ev_proxy.proofs.OrderLemmas.{AreInOrder, StandsBefore, number_same, number_turned}
@@ -63,14 +63,14 @@ still_shown numbers before after same pictures shown = record {
 }
 
 -- an event of the managers: its numbers are put to them
-pub more_shown : (old told new : List ℕ) (before after : World) → ((n : ℕ) → is_among new n ≡ (is_among old n || is_among told n))
+pub more_shown : (old told new : List ℕ) (before after : World) → ((n : ℕ) → is_one_of new n ≡ (is_one_of old n || is_one_of told n))
     → after.pictures ≡ before.pictures → HaveChanged told before after → IsShownBut old before → IsShownBut new after
 more_shown old told new before after put pictures changed shown = record {
   clusters = λ n none.
-      let parts = or_parts (is_among old n) (is_among told n) (sym (put n) ∙ none) in
+      let parts = or_parts (is_one_of old n) (is_one_of told n) (sym (put n) ∙ none) in
       ap (λ (ps : List Shown). cluster_numbered (last_of ps).clusters n) pictures ∙ shown.clusters n parts.0 ∙ sym (changed.clusters n parts.1);
   listeners = λ n none.
-      let parts = or_parts (is_among old n) (is_among told n) (sym (put n) ∙ none) in
+      let parts = or_parts (is_one_of old n) (is_one_of told n) (sym (put n) ∙ none) in
       ap (λ (ps : List Shown). listener_numbered (last_of ps).listeners n) pictures ∙ shown.listeners n parts.0 ∙ sym (changed.listeners n parts.1);
 }
 
@@ -90,7 +90,7 @@ module _ {X : Type 0} (name : X → List ℕ) (number : X → ℕ) where
   in_order (x ∷ xs) order = (each_before x xs order.names.0 order.numbers.0, in_order xs (record { names = order.names.1; numbers = order.numbers.1 }))
 
 -- a number among others
-among_turned : (numbers : List ℕ) (n : ℕ) → is_among numbers n ≡ has_number n numbers
+among_turned : (numbers : List ℕ) (n : ℕ) → is_one_of numbers n ≡ has_number n numbers
 among_turned [] n = refl
 among_turned (m ∷ numbers) n = λ i. number_turned n m i || among_turned numbers n i
 
@@ -139,7 +139,7 @@ module _ (numbers : List ℕ) (world : World) (apart : AreNumbered world.rows) (
   shown_made = λ i. record { clusters = clusters_made i; listeners = listeners_made i }
 
 -- a state's names
-part_names : (s : Part) (world : World) → HasPart s world → IsIndexed s → NamesDiffer s.kind world.rows
+part_names : (s : Part) (world : World) → HasRows s world → IsIndexed s → NamesDiffer s.kind world.rows
 part_names s world stands indexed = subst (λ (rows : List GenRow). IsDistinct bytes_eq (map (λ (r : GenRow). r.name) (filter (λ (r : GenRow). is_active r.status) rows))) stands.rows (names-differ s indexed)
 
 pub cluster_names : (s : State) (world : World) → ManagesAt s world → NamesDiffer Cds world.rows

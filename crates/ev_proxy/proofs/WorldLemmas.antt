@@ -26,7 +26,7 @@ use Rattle.ev_worker.specs.Workers.{AreAnswered, IsAnswer}
 use Rattle.ev_worker.specs.declared.lines.Outcome.{Outcome}
 use Rattle.ev_worker.specs.declared.lines.BatchLine.{BatchLine}
 use Rattle.ev_state.specs.States.{SameManaged}
-use Rattle.ev_retirement.specs.Holders.{HoldersParts, StandsFor as HoldsFor, with_expired}
+use Rattle.ev_retirement.specs.Holders.{HoldersParts, HoldsFor, with_expired}
 use Rattle.ev_state.proofs.FrameLemmas.{at-frame}
 use Rattle.ev_retirement.specs.Retiring.{HoldTheSame}
 use Rattle.ev_proxy.specs.declared.proxy.Proxy.{Proxy}

@@ -2,7 +2,7 @@
 use Rattle.std.specs.Prelude.{◌≡◌, ℕ, false, List, map}
 use Rattle.ev_model.specs.World.{World}
 use Rattle.ev_model.specs.Dead.{last_picture}
-use Rattle.ev_indexes.specs.Due.{is_among}
+use Rattle.ev_indexes.specs.Due.{is_one_of}
 use Rattle.ev_indexes.specs.Shown.{cluster_at, listener_at}
 use Rattle.ev_snapshot.specs.Tables.{cluster_numbered, listener_numbered}
 use Rattle.ev_snapshot.specs.declared.changes.Changes.{Changes}
@@ -11,8 +11,8 @@ use Rattle.ev_snapshot.specs.declared.changes.ListenerChange.{ListenerChange}
 
 -- the last picture shows of each other number what is to be shown of it now
 pub record IsShownBut (numbers : List ℕ) (world : World) : Type 0 where
-  pub clusters : (number : ℕ) → is_among numbers number ≡ false → cluster_numbered (last_picture world).shown.clusters number ≡ cluster_at world number
-  pub listeners : (number : ℕ) → is_among numbers number ≡ false → listener_numbered (last_picture world).shown.listeners number ≡ listener_at world number
+  pub clusters : (number : ℕ) → is_one_of numbers number ≡ false → cluster_numbered (last_picture world).shown.clusters number ≡ cluster_at world number
+  pub listeners : (number : ℕ) → is_one_of numbers number ≡ false → listener_numbered (last_picture world).shown.listeners number ≡ listener_at world number
 
 -- what is to be shown of the cluster of this number
 abbrev pub cluster_change : World → ℕ → ClusterChange

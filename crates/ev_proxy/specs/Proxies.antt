@@ -10,11 +10,11 @@ use Rattle.ev_types.specs.declared.rows.GenRow.{GenRow}
 use Rattle.ev_model.specs.World.{World}
 use Rattle.ev_model.specs.Publishing.{dead_numbers}
 use Rattle.ev_generations.specs.Tables.{row_in}
-use Rattle.ev_indexes.specs.Due.{is_among}
+use Rattle.ev_indexes.specs.Due.{is_one_of}
 use Rattle.ev_managers.specs.declared.moved.Moved.{Moved}
 use Rattle.ev_drain.specs.Retired.{Retired}
 use Rattle.ev_state.specs.States.{ManagesAt, over_in, without_over}
-use Rattle.ev_retirement.specs.Holders.{StandsFor as HoldsFor}
+use Rattle.ev_retirement.specs.Holders.{HoldsFor}
 use Rattle.ev_retirement.specs.Retiring.{noted}
 use Rattle.ev_proxy.specs.declared.proxy.Proxy.{Proxy}
 use Rattle.ev_proxy.specs.Changing.{IsShownBut}
@@ -51,7 +51,7 @@ pub record Notes (old new : Proxy) (moved : Moved) : Type 0 where
   pub deferred : new.deferred ≡ old.deferred
   pub holders : (world : World) → ManagesAt old.state world
       → new.holders ≡ record old.holders { drain = noted_each world.rows moved.retired old.holders.drain }
-  pub changed : (number : ℕ) → is_among new.changed number ≡ (is_among old.changed number || is_among moved.changed number)
+  pub changed : (number : ℕ) → is_one_of new.changed number ≡ (is_one_of old.changed number || is_one_of moved.changed number)
 
 -- these rows without those of these numbers that drain or were dropped
 abbrev pub without_each : List ℕ → List GenRow → List GenRow

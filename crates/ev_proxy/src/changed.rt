@@ -1,5 +1,5 @@
 ghost use Rattle.std.specs.Prelude.{◌≡◌, ◌||◌, ℕ, [], nat_eq, OnOk};
-ghost use Rattle.ev_indexes.specs.Due.{is_among};
+ghost use Rattle.ev_indexes.specs.Due.{is_one_of};
 
 use ev_types::Gen;
 use indexmap::IndexSet;
@@ -32,7 +32,7 @@ impl Changed {
 
     /// Puts these to them. Out of memory, nothing is promised.
     pub(crate) fn put_all(&mut self, numbers: &[Gen]) -> Result<(), AllocError>
-        ensures { OnOk result ((n : ℕ) → is_among self.new n ≡ (is_among self.old n || is_among numbers.now n)) }
+        ensures { OnOk result ((n : ℕ) → is_one_of self.new n ≡ (is_one_of self.old n || is_one_of numbers.now n)) }
     {
         for number in numbers {
             self.put(*number)?;
@@ -42,7 +42,7 @@ impl Changed {
 
     // One more.
     fn put(&mut self, number: Gen) -> Result<(), AllocError>
-        ensures { OnOk result ((n : ℕ) → is_among self.new n ≡ (is_among self.old n || nat_eq n number)) }
+        ensures { OnOk result ((n : ℕ) → is_one_of self.new n ≡ (is_one_of self.old n || nat_eq n number)) }
     {
         let Ok(_) = self.numbers.insert(number) else {
             return Err(AllocError);

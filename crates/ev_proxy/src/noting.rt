@@ -1,6 +1,6 @@
 ghost use Rattle.std.specs.Prelude.{◌≡◌, ◌≤◌, ◌<◌, ◌+◌, ◌++◌, length, option_copied, option_to_list, OnOk};
 ghost use Rattle.ev_model.specs.World.{World};
-ghost use Rattle.ev_managers.specs.Managers.{AreForgotten, AreKept};
+ghost use Rattle.ev_managers.specs.Managers.{AreForgotten, AreManagersKept};
 ghost use Rattle.ev_state.specs.States.{ManagesAt};
 ghost use Rattle.ev_proxy.specs.Proxies.{noted_each, noted_over, rows_gone, without_each};
 
@@ -45,7 +45,7 @@ fn note_row(alloc: Global, holders: &mut Holders, row: Option<&GenRow>) -> Resul
 /// Takes out the generations of these numbers that drain or were dropped, and puts their rows after those that are deferred,
 /// where there is room for as many. It takes no memory.
 pub(crate) fn remove_each(state: &mut State, numbers: &[Gen], deferred: &mut Deferred)
-    requires kept { AreKept state.old.managers }
+    requires kept { AreManagersKept state.old.managers }
     requires forgotten { AreForgotten state.old.managers }
     requires room { length numbers.now ≤ deferred.old.1 }
     ensures at { (world : World) → ManagesAt state.old world

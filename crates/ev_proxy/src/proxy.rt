@@ -5,7 +5,7 @@ ghost use Rattle.ev_model.specs.World.{World, opening};
 ghost use Rattle.ev_model.specs.Connections.{settle};
 ghost use Rattle.ev_model.specs.Dead.{last_picture};
 ghost use Rattle.ev_model.specs.Runs.{world_after};
-ghost use Rattle.ev_model.specs.Step.{step as machine_step};
+ghost use Rattle.ev_model.specs.Step.{step};
 ghost use Rattle.ev_model.specs.declared.pictures.Picture.{Picture};
 ghost use Rattle.ev_types.specs.declared.journals.Format.{Format};
 ghost use Rattle.ev_run_laws.specs.Drawing.{NumbersSuffice};
@@ -70,8 +70,8 @@ impl Proxy {
         requires at { IsAt self.old here }
         requires known { IsKnown actor here }
         requires room { NumbersSuffice here event.now }
-        ensures at { OnOk result (IsAt self.new (machine_step format here actor event.now).0) }
-        ensures answer { IfOk result (λ answer. answer ≡ (machine_step format here actor event.now).1) }
+        ensures at { OnOk result (IsAt self.new (step format here actor event.now).0) }
+        ensures answer { IfOk result (λ answer. answer ≡ (step format here actor event.now).1) }
         ensures deferred { OnOk result (AreRowsOf
             (numbers_reaped format here event.now) here.rows self.new.deferred.0) }
     {
@@ -97,8 +97,8 @@ impl Proxy {
         requires known { IsKnown actor here }
         requires room { NumbersSuffice here event.now }
         requires none { self.old.deferred.0 ≡ [] }
-        ensures at { OnOk result (IsAt self.new (machine_step format here actor event.now).0) }
-        ensures answer { IfOk result (λ answer. answer ≡ (machine_step format here actor event.now).1) }
+        ensures at { OnOk result (IsAt self.new (step format here actor event.now).0) }
+        ensures answer { IfOk result (λ answer. answer ≡ (step format here actor event.now).1) }
         ensures deferred { OnOk result (AreRowsOf
             (numbers_reaped format here event.now) here.rows self.new.deferred.0) }
     {

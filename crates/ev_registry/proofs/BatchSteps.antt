@@ -26,7 +26,7 @@ use Rattle.ev_proxy.specs.Proxies.{IsAt}
 use Rattle.ev_proxy.specs.declared.proxy.Proxy.{Proxy}
 use Rattle.ev_registry.proofs.EventLemmas.{worker_works}
 use Rattle.ev_registry.proofs.RunSteps.{goes_on, runs_append}
-use Rattle.ev_registry.specs.Registries.{MayStep, HaveStepped, StandsFor, settle_told}
+use Rattle.ev_registry.specs.Registries.{MayStep, HaveStepped, FollowsJournal, settle_told}
 
 -- a batch ends with the settle of its worker
 batch_goes_on : (number : ℕ) (picture : Picture) (lines : List BatchLine) (last : Entry) → last.actor ≡ Worker number
@@ -69,7 +69,7 @@ settles_in : (picture : Picture) (proxy : Proxy) (parts : JournalParts) (worker 
     → WorksIn worker (world_now parts) → worker.number < parts.workers
     → picture ≡ last_picture (settle worker.number (world_behind worker parts)).0
     → IsAt proxy (settle worker.number (world_behind worker parts)).0
-    → StandsFor false picture proxy (with_settled worker at n parts)
+    → FollowsJournal false picture proxy (with_settled worker at n parts)
 settles_in picture proxy parts worker at n run stepped works below latest led =
     let last : Entry = settle_made worker at n parts in
     let more : world_after parts.format (world_now parts) (entries_made worker ++ last ∷ []) ≡ (settle worker.number (world_behind worker parts)).0 =
@@ -101,9 +101,9 @@ pub enters_batch : (latest : Picture) (proxy : Proxy) (parts now given : Journal
     → (settle worker.number (world_behind worker given)).1 ≡ Settled closed version
     → latest ≡ last_picture (settle worker.number (world_behind worker given)).0
     → IsAt proxy (settle worker.number (world_behind worker given)).0
-    → StandsFor false latest proxy (record parts { journal = pushed })
+    → FollowsJournal false latest proxy (record parts { journal = pushed })
 enters_batch latest proxy parts now given pushed worker at n closed version run stepped view same pushes works below answered last led =
-    subst (λ (es : List Entry). StandsFor false latest proxy (record parts { journal = es }))
+    subst (λ (es : List Entry). FollowsJournal false latest proxy (record parts { journal = es }))
     (sym (is_entered parts given pushed worker at n closed version same pushes answered))
     (settles_in latest proxy parts worker at n run stepped
     (subst (λ (p : JournalParts). WorksIn worker (world_now p)) (sym view) works)

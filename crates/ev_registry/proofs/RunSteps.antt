@@ -19,9 +19,9 @@ use Rattle.ev_actors.specs.Journals.{JournalParts, SufficeFor, answer_now, entry
 use Rattle.ev_actors.proofs.WorldLemmas.{after_append}
 use Rattle.ev_proxy.specs.Proxies.{AreRowsOf, IsAt, numbers_reaped}
 use Rattle.ev_proxy.specs.declared.proxy.Proxy.{Proxy}
-use Rattle.ev_run_laws.proofs.NumberLemmas.{entry_made as entry_draws}
+use Rattle.ev_run_laws.proofs.NumberLemmas.{entry_draws}
 use Rattle.ev_registry.proofs.EventLemmas.{main_alone}
-use Rattle.ev_registry.specs.Registries.{DefersReaped, MayStep, HaveStepped, StandsFor}
+use Rattle.ev_registry.specs.Registries.{DefersReaped, MayStep, HaveStepped, FollowsJournal}
 
 -- a run, and one that goes on from the world after it
 pub runs_append : (format : Format) (workers : ℕ) (world : World) (entries more : List Entry) → RunsFrom format workers world entries
@@ -59,9 +59,9 @@ stepped_at format workers world (entry ∷ entries) (suc k) d had below =
 pub starts : (picture : Picture) (proxy : Proxy) (format : Format) (workers : ℕ) (node kept : List ℕ) (journal given : List Entry) → IsRun format workers node journal
     → HaveStepped format workers (opening workers node) journal → kept ≡ node → given ≡ journal
     → picture ≡ last_picture (world_after format (opening workers node) given) → IsAt proxy (world_after format (opening workers node) given)
-    → StandsFor false picture proxy (record { format = format; workers = workers; node = kept; journal = journal })
+    → FollowsJournal false picture proxy (record { format = format; workers = workers; node = kept; journal = journal })
 starts picture proxy format workers node kept journal given run stepped same is latest at =
-    subst (λ (n : List ℕ). StandsFor false picture proxy (record { format = format; workers = workers; node = n; journal = journal })) (sym same)
+    subst (λ (n : List ℕ). FollowsJournal false picture proxy (record { format = format; workers = workers; node = n; journal = journal })) (sym same)
     (record {
       run = run;
       stepped = stepped;
@@ -79,7 +79,7 @@ pub goes_on : (picture : Picture) (proxy : Proxy) (parts : JournalParts) (more :
     → RunsFrom parts.format parts.workers (world_now parts) more → IsUnbroken more → HaveStepped parts.format parts.workers (world_now parts) more
     → picture ≡ last_picture (world_after parts.format (world_now parts) more)
     → IsAt proxy (world_after parts.format (world_now parts) more)
-    → StandsFor false picture proxy (with_entries more parts)
+    → FollowsJournal false picture proxy (with_entries more parts)
 goes_on picture proxy parts more run stepped runs whole steps latest at =
     let begun : World = opening parts.workers parts.node in
     let there : world_after parts.format begun (parts.journal ++ more) ≡ world_after parts.format (world_now parts) more = after_append parts.format begun parts.journal more in
@@ -103,21 +103,21 @@ pub enters : (picture : Picture) (proxy : Proxy) (parts now given : JournalParts
     → answer ≡ (step given.format (world_now given) actor event).1
     → picture ≡ last_picture (step given.format (world_now given) actor event).0
     → IsAt proxy (step given.format (world_now given) actor event).0
-    → StandsFor false picture proxy (record parts { journal = pushed })
+    → FollowsJournal false picture proxy (record parts { journal = pushed })
 enters picture proxy parts now given pushed entry actor at n event answer run stepped view same pushes is main allowed room answered latest led =
     let made : Entry = record { actor = actor; at = at; step = n; event = event; answer = answer } in
     let enough : SufficeFor event parts = subst (SufficeFor event) (sym view) room in
     let may : MayMake parts.workers actor event = subst (λ (p : JournalParts). MayMake p.workers actor event) (sym view) allowed in
     let alone : is_batched event ≡ false = main_alone parts.workers actor event main may in
-    let whole : StandsFor false picture proxy (with_entries (made ∷ []) parts) =
+    let whole : FollowsJournal false picture proxy (with_entries (made ∷ []) parts) =
     goes_on picture proxy parts (made ∷ []) run stepped
     (may, subst (λ (p : JournalParts). answer ≡ (step p.format (world_now p) actor event).1) same answered, tt)
     (λ h. absurd (both_ways (is_batched event) alone h), tt)
     (record { allowed = may; room = enough }, tt)
     (subst (λ (p : JournalParts). picture ≡ last_picture (step p.format (world_now p) actor event).0) same latest)
     (subst (λ (p : JournalParts). IsAt proxy (step p.format (world_now p) actor event).0) same led) in
-    subst (λ (es : List Entry). StandsFor false picture proxy (record parts { journal = es })) (sym pushes)
-    (subst (λ (e : Entry). StandsFor false picture proxy (record parts { journal = parts.journal ++ e ∷ [] })) (sym is) whole)
+    subst (λ (es : List Entry). FollowsJournal false picture proxy (record parts { journal = es })) (sym pushes)
+    (subst (λ (e : Entry). FollowsJournal false picture proxy (record parts { journal = parts.journal ++ e ∷ [] })) (sym is) whole)
 
 -- so the journal has it, with the machine's answer
 pub shows_entry : (parts now given : JournalParts) (pushed : List Entry) (entry : Entry) (actor : Actor) (at n : ℕ) (event : Event) (answer : Answer)

@@ -43,7 +43,7 @@ settle_told worker at n closed version =
     record { actor = Worker worker; at = at; step = n; event = Settle; answer = Settled closed version }
 
 -- The journal is a run, and what is known is that of the world after it, where it wasn't lost; the last picture is known in any case.
-pub record StandsFor (is_lost : Bool) (picture : Picture) (proxy : Proxy) (parts : JournalParts) : Type 0 where
+pub record FollowsJournal (is_lost : Bool) (picture : Picture) (proxy : Proxy) (parts : JournalParts) : Type 0 where
   pub run : IsRun parts.format parts.workers parts.node parts.journal
   pub stepped : HaveStepped parts.format parts.workers (opening parts.workers parts.node) parts.journal
   pub latest : picture ≡ last_picture (world_now parts)

@@ -42,7 +42,7 @@ pub struct Registry {
 
 impl Model for Registry {
     ghost use Rattle.std.specs.Arc.{arc_value};
-    ghost use Rattle.ev_registry.specs.Registries.{RegistryParts, StandsFor};
+    ghost use Rattle.ev_registry.specs.Registries.{FollowsJournal, RegistryParts};
 
     ghost Value = { RegistryParts };
 
@@ -52,7 +52,7 @@ impl Model for Registry {
       is_lost = r.is_lost;
     } };
 
-    ghost invariant = { λ r. StandsFor r.is_lost (arc_value r.latest) r.proxy record { format = r.format; workers = r.workers; node = r.node; journal = r.journal.items } };
+    ghost invariant = { λ r. FollowsJournal r.is_lost (arc_value r.latest) r.proxy record { format = r.format; workers = r.workers; node = r.node; journal = r.journal.items } };
 }
 
 impl Registry {

@@ -4,7 +4,7 @@ ghost use Rattle.ev_types.specs.Events.{MayMake};
 ghost use Rattle.ev_types.specs.declared.events.Answer.TheVariants.{Settled as settled_answer};
 ghost use Rattle.ev_model.specs.Connections.{settle};
 ghost use Rattle.ev_model.specs.World.{World, opening};
-ghost use Rattle.ev_model.specs.Step.{step as machine_step};
+ghost use Rattle.ev_model.specs.Step.{step};
 ghost use Rattle.ev_run_laws.specs.Drawing.{NumbersSuffice};
 ghost use Rattle.ev_worker.specs.Workers.{IsToldBy};
 ghost use Rattle.ev_actors.specs.Journals.{WorksIn, world_behind, world_now};
@@ -86,8 +86,8 @@ pub(crate) fn step_after(
     requires at { IsAt proxy.old here }
     requires allowed { MayMake past.workers actor event.now }
     requires room { NumbersSuffice here event.now }
-    ensures at { OnOk result (IsAt proxy.new (machine_step past.entry.format here actor event.now).0) }
-    ensures answer { IfOk result (λ answer. answer ≡ (machine_step past.entry.format here actor event.now).1) }
+    ensures at { OnOk result (IsAt proxy.new (step past.entry.format here actor event.now).0) }
+    ensures answer { IfOk result (λ answer. answer ≡ (step past.entry.format here actor event.now).1) }
     ensures deferred { OnOk result (AreRowsOf
         (numbers_reaped past.entry.format here event.now) here.rows proxy.new.deferred.0) }
 {

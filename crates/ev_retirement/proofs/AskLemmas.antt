@@ -15,9 +15,9 @@ use Rattle.ev_model.specs.Sorted.{put_by}
 use Rattle.ev_model.specs.Picture.{has_number, shown_same}
 use Rattle.ev_model.specs.Dead.{is_dead_at, is_open_on, waits_for_timer}
 use Rattle.ev_pictures.specs.Pictures.{PicturesParts, in_use, is_shown_by, is_shown_in, version_showing, with_settled, with_shown}
-use Rattle.ev_drain.specs.Retired.{Retired, comes_before, has_row, is_dead_row, is_draining_listener, is_numbered, is_waiting, marked, numbers_waiting}
+use Rattle.ev_drain.specs.Retired.{Retired, has_row, is_dead_row, is_draining_listener, is_numbered, is_waiting, marked, numbers_waiting, row_before}
 use Rattle.ev_retirement.specs.declared.asking.Asking.{Asking}
-use Rattle.ev_retirement.specs.Asking.{AreAsked, AreKept, AsksMore, Forgets, LetsGo, MayLeave, is_aside, is_asked, is_dead_now, is_let_go, is_set_aside}
+use Rattle.ev_retirement.specs.Asking.{AreAsked, AreAskedInOrder, AsksMore, Forgets, LetsGo, MayLeave, is_aside, is_asked, is_dead_now, is_let_go, is_set_aside}
 use Rattle.ev_retirement.specs.Holders.{HoldersParts}
 use Rattle.ev_retirement.specs.Retiring.{AreInOrder}
 use Rattle.ev_retirement.proofs.MoreLemmas.{or_first, or_left, or_more, or_second}
@@ -115,7 +115,7 @@ more_aside before after number more pictures h =
     (λ p here. and_or (is_asked after number) (is_shown_in number p) (is_aside before p.version number) (is_aside after p.version number) (more.aside p.version number) here)
     (in_use pictures) h
 
-pub more_kept : (before after : Asking) (holders : HoldersParts) → AsksMore before after → AreKept before holders → AreKept after holders
+pub more_kept : (before after : Asking) (holders : HoldersParts) → AsksMore before after → AreAskedInOrder before holders → AreAskedInOrder after holders
 more_kept before after holders more kept = record {
   asked = all_so (λ (row : Retired). is_let_go before holders.pictures holders.ledger row ≡ true → is_asked before row.number ≡ true)
       (λ (row : Retired). is_let_go after holders.pictures holders.ledger row ≡ true → is_asked after row.number ≡ true)
@@ -138,8 +138,8 @@ all_there (row ∷ drain) = (
       (λ other h. or_second (is_numbered other.number row) (has_row drain other.number) h) drain (all_there drain),
 )
 
-pub go_kept : (before after : Asking) (holders : HoldersParts) (left : List OpenMember) → LetsGo holders.drain before after holders.ledger left → AreKept before holders
-    → AreKept after (record holders { ledger = left })
+pub go_kept : (before after : Asking) (holders : HoldersParts) (left : List OpenMember) → LetsGo holders.drain before after holders.ledger left → AreAskedInOrder before holders
+    → AreAskedInOrder after (record holders { ledger = left })
 go_kept before after holders left goes kept = record {
   asked = all_two (λ (row : Retired). has_row holders.drain row.number ≡ true)
       (λ (row : Retired). is_let_go before holders.pictures holders.ledger row ≡ true → is_asked before row.number ≡ true)
@@ -152,8 +152,8 @@ go_kept before after holders left goes kept = record {
 
 -- other pictures are in use, under which as much is set aside
 pictures_kept : (asking : Asking) (holders : HoldersParts) (others : PicturesParts)
-    → ((number : ℕ) → is_set_aside asking holders.pictures number ≡ true → is_set_aside asking others number ≡ true) → AreKept asking holders
-    → AreKept asking (record holders { pictures = others })
+    → ((number : ℕ) → is_set_aside asking holders.pictures number ≡ true → is_set_aside asking others number ≡ true) → AreAskedInOrder asking holders
+    → AreAskedInOrder asking (record holders { pictures = others })
 pictures_kept asking holders others as_much kept = record {
   asked = all_so (λ (row : Retired). is_let_go asking holders.pictures holders.ledger row ≡ true → is_asked asking row.number ≡ true)
       (λ (row : Retired). is_let_go asking others holders.ledger row ≡ true → is_asked asking row.number ≡ true)
@@ -183,8 +183,8 @@ and_parts : (a b : Bool) → (a && b) ≡ true → (a ≡ true) × (b ≡ true)
 and_parts true b h = (refl, h)
 and_parts false b h = absurd (false≢true h)
 
-pub settled_kept : (worker : ℕ) (asking : Asking) (holders : HoldersParts) → MayLeave worker asking holders.pictures → AreKept asking holders
-    → AreKept asking (record holders { pictures = with_settled worker holders.pictures })
+pub settled_kept : (worker : ℕ) (asking : Asking) (holders : HoldersParts) → MayLeave worker asking holders.pictures → AreAskedInOrder asking holders
+    → AreAskedInOrder asking (record holders { pictures = with_settled worker holders.pictures })
 settled_kept worker asking holders may kept =
     pictures_kept asking holders (with_settled worker holders.pictures)
     (λ number h.
@@ -203,14 +203,14 @@ and_none : (a b : Bool) → b ≡ false → (a && b) ≡ false
 and_none true b h = h
 and_none false b h = refl
 
-pub shown_kept : (shown : Shown) (asking : Asking) (holders : HoldersParts) → ((number : ℕ) → is_aside asking holders.pictures.last.version number ≡ false) → AreKept asking holders
-    → AreKept asking (record holders { pictures = with_shown shown holders.pictures })
+pub shown_kept : (shown : Shown) (asking : Asking) (holders : HoldersParts) → ((number : ℕ) → is_aside asking holders.pictures.last.version number ≡ false) → AreAskedInOrder asking holders
+    → AreAskedInOrder asking (record holders { pictures = with_shown shown holders.pictures })
 shown_kept shown asking holders none kept = by (shown_same shown holders.pictures.last.shown)
   where
     next : Picture
     next = record { version = holders.pictures.last.version + 1; shown = shown }
 
-    by : (t : Bool) → AreKept asking (record holders { pictures = cond t holders.pictures (record holders.pictures { last = next }) })
+    by : (t : Bool) → AreAskedInOrder asking (record holders { pictures = cond t holders.pictures (record holders.pictures { last = next }) })
     by true = kept
     by false =
         pictures_kept asking holders (record holders.pictures { last = next })
@@ -219,10 +219,10 @@ shown_kept shown asking holders none kept = by (shown_same shown holders.picture
         kept
 
 -- a generation retires
-pub retired_kept : (asking : Asking) (holders : HoldersParts) (one : Retired) → is_asked asking one.number ≡ true → has_row holders.drain one.number ≡ false → AreKept asking holders
-    → AreKept asking (record holders { drain = put_by comes_before one holders.drain })
+pub retired_kept : (asking : Asking) (holders : HoldersParts) (one : Retired) → is_asked asking one.number ≡ true → has_row holders.drain one.number ≡ false → AreAskedInOrder asking holders
+    → AreAskedInOrder asking (record holders { drain = put_by row_before one holders.drain })
 retired_kept asking holders one here absent kept = record {
-  asked = all_put comes_before (λ (row : Retired). is_let_go asking holders.pictures holders.ledger row ≡ true → is_asked asking row.number ≡ true) one holders.drain
+  asked = all_put row_before (λ (row : Retired). is_let_go asking holders.pictures holders.ledger row ≡ true → is_asked asking row.number ≡ true) one holders.drain
       (λ gone. here) kept.asked;
   ordered = put_ascending one holders.drain absent kept.ordered;
 }
@@ -267,8 +267,8 @@ expired_ordered name (row ∷ drain) up = (above drain up.0, expired_ordered nam
     above (other ∷ rows) all = (all.0, above rows all.1)
 
 pub expired_kept : (name : List ℕ) (asking : Asking) (holders : HoldersParts)
-    → ((number : ℕ) → has_number number (numbers_waiting name holders.drain) ≡ true → is_asked asking number ≡ true) → AreKept asking holders
-    → AreKept asking (record holders { drain = map (marked name) holders.drain })
+    → ((number : ℕ) → has_number number (numbers_waiting name holders.drain) ≡ true → is_asked asking number ≡ true) → AreAskedInOrder asking holders
+    → AreAskedInOrder asking (record holders { drain = map (marked name) holders.drain })
 expired_kept name asking holders waits kept = record {
   asked = expired_asked asking holders.pictures holders.ledger name holders.drain waits kept.asked;
   ordered = expired_ordered name holders.drain kept.ordered;
@@ -317,8 +317,8 @@ none_passes test (x ∷ xs) = by (test x) refl (none_passes test xs)
     by true is rest = rest
     by false is rest = (is, rest)
 
-pub removed_kept : (number : ℕ) (before after : Asking) (holders : HoldersParts) → Forgets number before after → AreKept before holders
-    → AreKept after (record holders { drain = filter (λ row. not (is_numbered number row)) holders.drain })
+pub removed_kept : (number : ℕ) (before after : Asking) (holders : HoldersParts) → Forgets number before after → AreAskedInOrder before holders
+    → AreAskedInOrder after (record holders { drain = filter (λ row. not (is_numbered number row)) holders.drain })
 removed_kept number before after holders forgets kept =
     let left : List Retired = filter (λ row. not (is_numbered number row)) holders.drain in
     record {
@@ -352,7 +352,7 @@ held_same Dropped aside shown joined timer so alive = absurd (true≢false alive
 
 pub held_kept : (number : ℕ) (before after : Asking) (holders : HoldersParts) → Forgets number before after → is_dead_now holders number ≡ false
     → (list_any (is_open_on number) holders.ledger ≡ false → is_shown_by number holders.pictures ≡ true → is_set_aside before holders.pictures number ≡ true)
-    → AreKept before holders → AreKept after holders
+    → AreAskedInOrder before holders → AreAskedInOrder after holders
 held_kept number before after holders forgets alive aside kept = record {
   asked = all_two (λ (row : Retired). (row.number == number) ≡ true → is_dead_row Two (λ n. is_shown_by n holders.pictures) holders.ledger row ≡ false)
       (λ (row : Retired). is_let_go before holders.pictures holders.ledger row ≡ true → is_asked before row.number ≡ true)
@@ -422,18 +422,18 @@ none_counted test (x ∷ xs) none =
 
 -- by what a call gave: a generation that was retired, a picture that was published
 pub retire_kept : {T E : Type 0} (result : Result T E) (asking : Asking) (holders : HoldersParts) (one : Retired) (drain : List Retired)
-    → OnOk result (drain ≡ put_by comes_before one holders.drain) → OnErr result (drain ≡ holders.drain) → is_asked asking one.number ≡ true
-    → has_row holders.drain one.number ≡ false → AreKept asking holders → AreKept asking (record holders { drain = drain })
+    → OnOk result (drain ≡ put_by row_before one holders.drain) → OnErr result (drain ≡ holders.drain) → is_asked asking one.number ≡ true
+    → has_row holders.drain one.number ≡ false → AreAskedInOrder asking holders → AreAskedInOrder asking (record holders { drain = drain })
 retire_kept (Ok value) asking holders one drain is same here absent kept =
-    subst (λ (d : List Retired). AreKept asking (record holders { drain = d })) (sym is) (retired_kept asking holders one here absent kept)
-retire_kept (Err error) asking holders one drain is same here absent kept = subst (λ (d : List Retired). AreKept asking (record holders { drain = d })) (sym same) kept
+    subst (λ (d : List Retired). AreAskedInOrder asking (record holders { drain = d })) (sym is) (retired_kept asking holders one here absent kept)
+retire_kept (Err error) asking holders one drain is same here absent kept = subst (λ (d : List Retired). AreAskedInOrder asking (record holders { drain = d })) (sym same) kept
 
 pub publish_kept : {T E : Type 0} (result : Result T E) (shown : Shown) (asking : Asking) (holders : HoldersParts) (pictures : PicturesParts)
     → OnOk result (pictures ≡ with_shown shown holders.pictures) → OnErr result (pictures ≡ holders.pictures)
-    → ((number : ℕ) → is_aside asking holders.pictures.last.version number ≡ false) → AreKept asking holders → AreKept asking (record holders { pictures = pictures })
+    → ((number : ℕ) → is_aside asking holders.pictures.last.version number ≡ false) → AreAskedInOrder asking holders → AreAskedInOrder asking (record holders { pictures = pictures })
 publish_kept (Ok value) shown asking holders pictures is same none kept =
-    subst (λ (ps : PicturesParts). AreKept asking (record holders { pictures = ps })) (sym is) (shown_kept shown asking holders none kept)
-publish_kept (Err error) shown asking holders pictures is same none kept = subst (λ (ps : PicturesParts). AreKept asking (record holders { pictures = ps })) (sym same) kept
+    subst (λ (ps : PicturesParts). AreAskedInOrder asking (record holders { pictures = ps })) (sym is) (shown_kept shown asking holders none kept)
+publish_kept (Err error) shown asking holders pictures is same none kept = subst (λ (ps : PicturesParts). AreAskedInOrder asking (record holders { pictures = ps })) (sym same) kept
 
 -- what is set aside is shown, so a dead generation is let go, and asked about
 and_first : (a b : Bool) → (a && b) ≡ true → a ≡ true

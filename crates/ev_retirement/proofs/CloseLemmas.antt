@@ -12,13 +12,13 @@ use Rattle.ev_model.specs.Picture.{has_number}
 use Rattle.ev_model.specs.Publishing.{ascending}
 use Rattle.ev_model.specs.Connections.{closed, closed_by, is_closing, is_member, is_open, left_open, settle}
 use Rattle.ev_model.specs.declared.pictures.Picture.{Picture}
-use Rattle.ev_pictures.specs.Pictures.{PicturesParts, settled_on, StandsFor as HasPictures}
-use Rattle.ev_ledger.specs.Members.{AreApart, comes_before, connection_of, held_of, in_order, is_of_worker, StandsFor as HasOpened}
+use Rattle.ev_pictures.specs.Pictures.{HasPictures, PicturesParts, settled_on}
+use Rattle.ev_ledger.specs.Members.{AreApart, connection_of, HasOpened, held_of, in_order, is_of_worker, member_before}
 use Rattle.ev_ledger.proofs.PlaceLemmas.{closed_leaves, filter_in_order}
-use Rattle.ev_drain.specs.Retired.{Retired, comes_before as row_before, has_row, is_expired, is_numbered, is_retired, retired_in, StandsFor as HasRetired}
+use Rattle.ev_drain.specs.Retired.{Retired, row_before, has_row, is_expired, is_numbered, is_retired, retired_in, HasRetired}
 use Rattle.ev_worker.specs.Workers.{IsToldBy}
-use Rattle.ev_retirement.specs.Closing.{closed_all, is_among, numbers_closing}
-use Rattle.ev_retirement.specs.Holders.{HoldersParts, StandsFor}
+use Rattle.ev_retirement.specs.Closing.{closed_all, is_member_among, numbers_closing}
+use Rattle.ev_retirement.specs.Holders.{HoldersParts, HoldsFor}
 use Rattle.ev_retirement.proofs.HoldLemmas.{unmarked}
 
 -- what holds of all holds of the sorted ones
@@ -98,13 +98,13 @@ module _ (worker : ℕ) (expired : List ℕ) where
   worker_order a b x y w first second = grind (arith, nat_tests)
 
   put_numbers : (m : OpenMember) (ms : List OpenMember) → IsOf m → AllByRecursion IsOf ms
-      → map (λ (x : OpenMember). x.connection) (put_by comes_before m ms) ≡ put_by nat_le m.connection (map (λ (x : OpenMember). x.connection) ms)
+      → map (λ (x : OpenMember). x.connection) (put_by member_before m ms) ≡ put_by nat_le m.connection (map (λ (x : OpenMember). x.connection) ms)
   put_numbers m [] here all = refl
   put_numbers m (x ∷ ms) here all =
-      by (comes_before m x) (nat_le m.connection x.connection) (worker_order m.worker x.worker m.connection x.connection worker here all.0) (put_numbers m ms here all.1)
+      by (member_before m x) (nat_le m.connection x.connection) (worker_order m.worker x.worker m.connection x.connection worker here all.0) (put_numbers m ms here all.1)
     where
-      by : (s t : Bool) → s ≡ t → map (λ (y : OpenMember). y.connection) (put_by comes_before m ms) ≡ put_by nat_le m.connection (map (λ (y : OpenMember). y.connection) ms)
-          → map (λ (y : OpenMember). y.connection) (cond s (m ∷ x ∷ ms) (x ∷ put_by comes_before m ms))
+      by : (s t : Bool) → s ≡ t → map (λ (y : OpenMember). y.connection) (put_by member_before m ms) ≡ put_by nat_le m.connection (map (λ (y : OpenMember). y.connection) ms)
+          → map (λ (y : OpenMember). y.connection) (cond s (m ∷ x ∷ ms) (x ∷ put_by member_before m ms))
           ≡ cond t (m.connection ∷ x.connection ∷ map (λ (y : OpenMember). y.connection) ms) (x.connection ∷ put_by nat_le m.connection (map (λ (y : OpenMember). y.connection) ms))
       by true true h rest = refl
       by true false h rest = absurd (true≢false h)
@@ -115,7 +115,7 @@ module _ (worker : ℕ) (expired : List ℕ) where
       → map (λ (x : OpenMember). x.connection) (in_order ms) ≡ ascending (map (λ (x : OpenMember). x.connection) ms)
   sorted_numbers [] all = refl
   sorted_numbers (m ∷ ms) all =
-      put_numbers m (in_order ms) all.0 (all_sorted comes_before IsOf ms all.1) ∙ ap (put_by nat_le m.connection) (sorted_numbers ms all.1)
+      put_numbers m (in_order ms) all.0 (all_sorted member_before IsOf ms all.1) ∙ ap (put_by nat_le m.connection) (sorted_numbers ms all.1)
 
   and_first : (a b : Bool) → (a && b) ≡ true → a ≡ true
   and_first true b h = refl
@@ -214,7 +214,7 @@ module _ (worker : ℕ) (expired : List ℕ) where
       by false false h rest = ap (λ l. m ∷ l) rest
 
   all_same : (ms zs : List OpenMember) → AllByRecursion (Closes ms) zs
-      → AllByRecursion (λ m. is_among worker (map (λ (x : OpenMember). x.connection) (filter (is_closing expired worker) ms)) m ≡ is_closing expired worker m) zs
+      → AllByRecursion (λ m. is_member_among worker (map (λ (x : OpenMember). x.connection) (filter (is_closing expired worker) ms)) m ≡ is_closing expired worker m) zs
   all_same ms [] all = tt
   all_same ms (z ∷ zs) all =
       (ap (λ b. (z.worker == worker) && b) (any_mapped (filter (is_closing expired worker) ms) z.connection) ∙ all.0, all_same ms zs all.1)
@@ -223,7 +223,7 @@ module _ (worker : ℕ) (expired : List ℕ) where
       → HasOpened (closed_all worker (numbers_closing drain (held_of worker ledger)) ledger) (left_open expired worker opened)
   closed_in_ledger drain ledger opened same has apart =
       ap (λ numbers. closed_all worker numbers ledger) (closing_numbers drain ledger same)
-      ∙ filter_same (is_among worker (map (λ (x : OpenMember). x.connection) (filter (is_closing expired worker) ledger))) (is_closing expired worker) ledger
+      ∙ filter_same (is_member_among worker (map (λ (x : OpenMember). x.connection) (filter (is_closing expired worker) ledger))) (is_closing expired worker) ledger
       (all_same ledger ledger (closes_own ledger apart))
       ∙ ap (filter (λ m. not (is_closing expired worker m))) has
       ∙ filter_in_order (λ m. not (is_closing expired worker m)) opened
@@ -250,15 +250,15 @@ pub one_more_gone : (worker number : ℕ) (numbers : List ℕ) (opened : List Op
     → (closed number worker (closed_all worker numbers opened)).opened ≡ closed_all worker (numbers ++ number ∷ []) opened
 one_more_gone worker number numbers opened = closed_leaves worker number (closed_all worker numbers opened) ∙ both opened
   where
-    test : (m : OpenMember) → (not (is_among worker numbers m) && not (is_member worker number m)) ≡ not (is_among worker (numbers ++ number ∷ []) m)
+    test : (m : OpenMember) → (not (is_member_among worker numbers m) && not (is_member worker number m)) ≡ not (is_member_among worker (numbers ++ number ∷ []) m)
     test m =
-        ap (λ b. not (is_among worker numbers m) && not ((m.worker == worker) && b)) (one_turned m.connection number)
+        ap (λ b. not (is_member_among worker numbers m) && not ((m.worker == worker) && b)) (one_turned m.connection number)
         ∙ either (m.worker == worker) (has_number m.connection numbers) (number == m.connection)
         ∙ ap (λ b. not ((m.worker == worker) && b)) (sym (list_any-append (λ n. n == m.connection) numbers (number ∷ [])))
 
     both : (ms : List OpenMember) → filter (λ m. not (is_member worker number m)) (closed_all worker numbers ms) ≡ closed_all worker (numbers ++ number ∷ []) ms
     both [] = refl
-    both (m ∷ ms) = by (not (is_among worker numbers m)) (not (is_member worker number m)) (not (is_among worker (numbers ++ number ∷ []) m)) (test m) refl (both ms)
+    both (m ∷ ms) = by (not (is_member_among worker numbers m)) (not (is_member worker number m)) (not (is_member_among worker (numbers ++ number ∷ []) m)) (test m) refl (both ms)
       where
         by : (s t u : Bool) → (s && t) ≡ u → not (is_member worker number m) ≡ t
             → filter (λ x. not (is_member worker number x)) (closed_all worker numbers ms) ≡ closed_all worker (numbers ++ number ∷ []) ms
@@ -276,16 +276,16 @@ one_more_gone worker number numbers opened = closed_leaves worker number (closed
         by false t false h is rest = rest
 
 -- a settle
-pub settle_told : (worker : ℕ) (holders : HoldersParts) (picture : Picture) (closed : List ℕ) (world : World) → StandsFor holders world
+pub settle_told : (worker : ℕ) (holders : HoldersParts) (picture : Picture) (closed : List ℕ) (world : World) → HoldsFor holders world
     → closed ≡ numbers_closing holders.drain (held_of worker holders.ledger) → picture ≡ holders.pictures.last → IsToldBy worker closed picture world
 settle_told worker holders picture closed world stands is shows = record {
   closes = is ∙ numbers_closed worker world.expired holders.drain holders.ledger world.opened (marks world.expired holders.drain world.rows stands.retired stands.marked) stands.opened;
   shows = shows ∙ stands.pictures.last;
 }
 
-pub settle_stands : (worker : ℕ) (holders : HoldersParts) (pictures : PicturesParts) (ledger : List OpenMember) (closed : List ℕ) (world : World) → StandsFor holders world → AreApart holders.ledger
+pub settle_stands : (worker : ℕ) (holders : HoldersParts) (pictures : PicturesParts) (ledger : List OpenMember) (closed : List ℕ) (world : World) → HoldsFor holders world → AreApart holders.ledger
     → closed ≡ numbers_closing holders.drain (held_of worker holders.ledger) → ledger ≡ closed_all worker closed holders.ledger → HasPictures pictures (settled_on worker world)
-    → StandsFor (record holders { pictures = pictures; ledger = ledger }) (settle worker world).0
+    → HoldsFor (record holders { pictures = pictures; ledger = ledger }) (settle worker world).0
 settle_stands worker holders pictures ledger closed world stands apart is left has = record {
   pictures = record { published = has.published; last = has.last; held = has.held; known = has.known };
   opened =

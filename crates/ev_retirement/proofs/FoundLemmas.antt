@@ -12,9 +12,9 @@ use Rattle.ev_model.specs.Sorted.{put_by}
 use Rattle.ev_model.specs.Picture.{has_number}
 use Rattle.ev_model.specs.Connections.{is_member}
 use Rattle.ev_ledger.specs.Entries.{key_order}
-use Rattle.ev_ledger.specs.Members.{comes_before, has_place, is_open_at}
+use Rattle.ev_ledger.specs.Members.{has_place, is_open_at, member_before}
 use Rattle.ev_ledger.proofs.PlaceLemmas.{same_place}
-use Rattle.ev_drain.specs.Retired.{Retired, comes_before as row_before, is_draining_listener, is_expired, is_numbered, is_waiting, marked, numbers_waiting}
+use Rattle.ev_drain.specs.Retired.{Retired, is_draining_listener, is_expired, is_numbered, is_waiting, marked, numbers_waiting, row_before}
 use Rattle.ev_retirement.specs.declared.closing.Closing.{Closing}
 use Rattle.ev_retirement.specs.Closing.{AreFound, FindsMore, Leaves, is_found}
 use Rattle.ev_retirement.proofs.MoreLemmas.{or_first, or_second, same_number}
@@ -38,10 +38,10 @@ found_more before after drain other opened more so found =
 -- a connection opens, or doesn't
 pub open_found : {T E : Type 0} (result : Result T E) (before after : Closing) (drain : List Retired) (member : OpenMember) (opened left : List OpenMember)
     → FindsMore before after → (is_expired drain member.listener ≡ true → is_found after member.worker member.connection ≡ true)
-    → OnOk result (left ≡ put_by comes_before member opened) → OnErr result (left ≡ opened) → AreFound before drain opened → AreFound after drain left
+    → OnOk result (left ≡ put_by member_before member opened) → OnErr result (left ≡ opened) → AreFound before drain opened → AreFound after drain left
 open_found (Ok value) before after drain member opened left more here is same found =
     subst (AreFound after drain) (sym is)
-    (all_put comes_before (λ (m : OpenMember). is_expired drain m.listener ≡ true → is_found after m.worker m.connection ≡ true) member opened here
+    (all_put member_before (λ (m : OpenMember). is_expired drain m.listener ≡ true → is_found after m.worker m.connection ≡ true) member opened here
     (found_more before after drain drain opened more (λ n h. h) found))
 open_found (Err error) before after drain member opened left more here is same found =
     subst (AreFound after drain) (sym same) (found_more before after drain drain opened more (λ n h. h) found)

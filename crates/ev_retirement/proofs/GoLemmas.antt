@@ -14,7 +14,7 @@ use Rattle.ev_ledger.specs.Members.{AreApart, on_in}
 use Rattle.ev_drain.specs.Retired.{Retired, has_row}
 use Rattle.ev_retirement.specs.declared.asking.Asking.{Asking}
 use Rattle.ev_retirement.specs.Asking.{AreAskedOn, AsksMore, IsAskedOn, LetsGo, is_asked}
-use Rattle.ev_retirement.specs.Closing.{is_among}
+use Rattle.ev_retirement.specs.Closing.{is_member_among}
 use Rattle.ev_retirement.proofs.MoreLemmas.{or_first, or_second, same_number}
 
 and_parts : (a b : Bool) → (a && b) ≡ true → (a ≡ true) × (b ≡ true)
@@ -111,19 +111,19 @@ turned : (a b : ℕ) → (a == b) ≡ (b == a)
 turned a b = grind (arith, nat_tests)
 
 pub one_more_on : (worker : ℕ) (numbers : List ℕ) (place : ℕ) (before after : Asking) (drain : List Retired) (opened : List OpenMember) → place < length numbers
-    → AsksMore before after → AreAskedOn (is_among worker (take place numbers)) before drain opened → AreAskedOn (is_member worker (get_or numbers place 0)) after drain opened
-    → AreAskedOn (is_among worker (take (place + 1) numbers)) after drain opened
+    → AsksMore before after → AreAskedOn (is_member_among worker (take place numbers)) before drain opened → AreAskedOn (is_member worker (get_or numbers place 0)) after drain opened
+    → AreAskedOn (is_member_among worker (take (place + 1) numbers)) after drain opened
 one_more_on worker numbers place before after drain [] below more all here = tt
 one_more_on worker numbers place before after drain (m ∷ opened) below more all here = (
-  λ passes. by (is_among worker (take place numbers) m) refl passes,
+  λ passes. by (is_member_among worker (take place numbers) m) refl passes,
   one_more_on worker numbers place before after drain opened below more all.1 here.1,
 )
   where
-    by : (t : Bool) → is_among worker (take place numbers) m ≡ t → is_among worker (take (place + 1) numbers) m ≡ true → IsAskedOn after drain m
+    by : (t : Bool) → is_member_among worker (take place numbers) m ≡ t → is_member_among worker (take (place + 1) numbers) m ≡ true → IsAskedOn after drain m
     by true is passes = λ n on there. more.asked n (all.0 is n on there)
     by false is passes =
         let number : ℕ = get_or numbers place 0 in
         here.0 (ap (λ b. (m.worker == worker) && b) (turned m.connection number)
         ∙ one_turned (m.worker == worker) (has_number m.connection (take place numbers)) (number == m.connection)
         (ap (λ b. (m.worker == worker) && b) (sym (list_any-append (λ n. n == m.connection) (take place numbers) (number ∷ [])))
-        ∙ ap (λ ns. is_among worker ns m) (sym (take_more numbers place 0 below)) ∙ passes) is)
+        ∙ ap (λ ns. is_member_among worker ns m) (sym (take_more numbers place 0 below)) ∙ passes) is)

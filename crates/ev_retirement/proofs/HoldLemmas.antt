@@ -19,18 +19,18 @@ use Rattle.ev_model.specs.Dead.{shown_at}
 use Rattle.ev_model.specs.Publishing.{publish}
 use Rattle.ev_model.specs.Signals.{drain_timeout, expire, is_draining, is_unexpired, unexpired}
 use Rattle.ev_model.specs.Tidy.{tidy}
-use Rattle.ev_pictures.specs.Pictures.{PicturesParts, StandsFor as HasPictures}
+use Rattle.ev_pictures.specs.Pictures.{HasPictures, PicturesParts}
 use Rattle.ev_ledger.proofs.OrderLemmas.{any_sorted, any_put}
-use Rattle.ev_drain.specs.Retired.{Retired, comes_before, has_row, is_numbered, is_retired, kind_of_row, marked, retired_in, retired_status, StandsFor as HasRetired}
-use Rattle.ev_retirement.specs.Holders.{HoldersParts, StandsFor, timed_out, timeout_answer, with_expired, with_retired, without_generation}
+use Rattle.ev_drain.specs.Retired.{Retired, row_before, has_row, is_numbered, is_retired, kind_of_row, marked, retired_in, retired_status, HasRetired}
+use Rattle.ev_retirement.specs.Holders.{HoldersParts, HoldsFor, timed_out, timeout_answer, with_expired, with_retired, without_generation}
 
 -- a publication leaves all but the pictures
-pub publish_stands : (holders : HoldersParts) (pictures : PicturesParts) (world : World) → StandsFor holders world → HasPictures pictures (publish world).0
-    → StandsFor (record holders { pictures = pictures }) (publish world).0
+pub publish_stands : (holders : HoldersParts) (pictures : PicturesParts) (world : World) → HoldsFor holders world → HasPictures pictures (publish world).0
+    → HoldsFor (record holders { pictures = pictures }) (publish world).0
 publish_stands holders pictures world stands has = by (shown_same (shown_of world) (shown_at world (last_version world))) has
   where
     by : (t : Bool) → HasPictures pictures (cond {A = World × Answer} t (world, Unchanged) (record world { pictures = world.pictures ++ shown_of world ∷ [] }, Version (length world.pictures))).0
-        → StandsFor (record holders { pictures = pictures }) (cond {A = World × Answer} t (world, Unchanged) (record world { pictures = world.pictures ++ shown_of world ∷ [] }, Version (length world.pictures))).0
+        → HoldsFor (record holders { pictures = pictures }) (cond {A = World × Answer} t (world, Unchanged) (record world { pictures = world.pictures ++ shown_of world ∷ [] }, Version (length world.pictures))).0
     by true has = record { pictures = has; opened = stands.opened; retired = stands.retired; marked = stands.marked }
     by false has = record { pictures = has; opened = stands.opened; retired = stands.retired; marked = stands.marked }
 
@@ -117,9 +117,9 @@ all_so : (P Q : ℕ → Type 0) → ((n : ℕ) → P n → Q n) → (xs : List �
 all_so P Q so [] all = tt
 all_so P Q so (x ∷ xs) all = (so x all.0, all_so P Q so xs all.1)
 
-pub timeout_stands : (name : List ℕ) (holders : HoldersParts) (drain : List Retired) (world : World) → StandsFor holders world → drain ≡ map (marked name) holders.drain
+pub timeout_stands : (name : List ℕ) (holders : HoldersParts) (drain : List Retired) (world : World) → HoldsFor holders world → drain ≡ map (marked name) holders.drain
     → HasRetired drain world.rows (world.expired ++ unexpired world.expired name world.rows)
-    → StandsFor (record holders { drain = drain }) (with_expired name world)
+    → HoldsFor (record holders { drain = drain }) (with_expired name world)
 timeout_stands name holders drain world stands is retired =
     let Q : ℕ → Type 0 = λ n. has_row drain n ≡ true in
     let has : (n : ℕ) → has_row holders.drain n ≡ has_row drain n = λ n. marked_has name holders.drain n ∙ ap (λ d. has_row d n) (sym is) in
@@ -130,7 +130,7 @@ timeout_stands name holders drain world stands is retired =
       marked = all_both Q world.expired (unexpired world.expired name world.rows)
           (all_so (λ n. has_row holders.drain n ≡ true) Q (λ n h. sym (has n) ∙ h) world.expired stands.marked)
           (all_unexpired world.expired name Q world.rows
-          (λ n h. sym (has n) ∙ ap (λ d. has_row d n) stands.retired ∙ any_sorted comes_before (is_numbered n) (map (retired_in world.expired) (filter is_retired world.rows)) ∙ h));
+          (λ n h. sym (has n) ∙ ap (λ d. has_row d n) stands.retired ∙ any_sorted row_before (is_numbered n) (map (retired_in world.expired) (filter is_retired world.rows)) ∙ h));
     }
 
 -- a number of no row of the drain isn't marked
@@ -147,15 +147,15 @@ unmarked drain number (n ∷ expired) absent all = by (n == number) refl (unmark
     by false at rest = rest
 
 pub retire_stands : (dropped : Bool) (one : Retired) (holders : HoldersParts) (drain : List Retired) (world : World) (before after : List GenRow) (row : GenRow)
-    → StandsFor holders world → drain ≡ put_by comes_before one holders.drain
+    → HoldsFor holders world → drain ≡ put_by row_before one holders.drain
     → HasRetired drain (before ++ record row { status = retired_status dropped } ∷ after) world.expired
-    → StandsFor (record holders { drain = drain }) (with_retired dropped before row after world)
+    → HoldsFor (record holders { drain = drain }) (with_retired dropped before row after world)
 retire_stands dropped one holders drain world before after row stands is retired = record {
   pictures = record { published = stands.pictures.published; last = stands.pictures.last; held = stands.pictures.held; known = stands.pictures.known };
   opened = stands.opened;
   retired = retired;
   marked = all_so (λ n. has_row holders.drain n ≡ true) (λ n. has_row drain n ≡ true)
-      (λ n h. ap (λ d. has_row d n) is ∙ any_put comes_before (is_numbered n) one holders.drain ∙ ap (λ b. is_numbered n one || b) h ∙ or_true (is_numbered n one))
+      (λ n h. ap (λ d. has_row d n) is ∙ any_put row_before (is_numbered n) one holders.drain ∙ ap (λ b. is_numbered n one || b) h ∙ or_true (is_numbered n one))
       world.expired stands.marked;
 }
 
@@ -182,10 +182,10 @@ left_marked n drain (m ∷ expired) all = by (m == n) refl (left_marked n drain 
     by true at rest = rest
     by false at rest = (has_left n m drain at ∙ all.0, rest)
 
-pub remove_stands : (number : ℕ) (holders : HoldersParts) (drain : List Retired) (world : World) → StandsFor holders world
+pub remove_stands : (number : ℕ) (holders : HoldersParts) (drain : List Retired) (world : World) → HoldsFor holders world
     → drain ≡ filter (λ row. not (is_numbered number row)) holders.drain
     → HasRetired drain (filter (λ (row : GenRow). not (row.number == number)) world.rows) (filter (λ n. not (n == number)) world.expired)
-    → StandsFor (record holders { drain = drain }) (without_generation number world)
+    → HoldsFor (record holders { drain = drain }) (without_generation number world)
 remove_stands number holders drain world stands is retired = record {
   pictures = record { published = stands.pictures.published; last = stands.pictures.last; held = stands.pictures.held; known = stands.pictures.known };
   opened = stands.opened;

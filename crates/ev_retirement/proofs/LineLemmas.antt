@@ -19,8 +19,8 @@ use Rattle.ev_model.specs.declared.pictures.Picture.{Picture}
 use Rattle.ev_model.specs.declared.pictures.ServedCluster.{ServedCluster}
 use Rattle.ev_model.specs.declared.pictures.Choice.{Choice}
 use Rattle.ev_model.specs.declared.pictures.Choice.TheVariants.{NoListener, NoChain, Undecided, Elsewhere, NoRoute, Local, Redirect, NoCluster, NoEndpoint, Served}
-use Rattle.ev_snapshot.specs.Chosen.{host_of, host_in as place_in}
-use Rattle.ev_ledger.specs.Members.{comes_before, in_order, StandsFor as HasOpened}
+use Rattle.ev_snapshot.specs.Chosen.{host_of, placed_host}
+use Rattle.ev_ledger.specs.Members.{HasOpened, in_order, member_before}
 use Rattle.ev_ledger.proofs.OrderLemmas.{any_put}
 use Rattle.ev_worker.specs.Batches.{accepted_as, closed_answer, closed_as, entries_of, outcome_answer}
 use Rattle.ev_worker.specs.Members.{chosen_on, on_of}
@@ -28,7 +28,7 @@ use Rattle.ev_worker.specs.Workers.{AreAnswered, IsAnswer}
 use Rattle.ev_worker.specs.declared.lines.Outcome.{Outcome}
 use Rattle.ev_worker.specs.declared.lines.Outcome.TheVariants.{Accepted as by_accept}
 use Rattle.ev_worker.specs.declared.lines.BatchLine.{BatchLine}
-use Rattle.ev_retirement.specs.Holders.{HoldersParts, StandsFor}
+use Rattle.ev_retirement.specs.Holders.{HoldersParts, HoldsFor}
 use Rattle.ev_retirement.specs.Lines.{accept_leaves, event_leaves, lines_leave, opened_on}
 use Rattle.ev_retirement.proofs.MoreLemmas.{or_second}
 
@@ -36,7 +36,7 @@ use Rattle.ev_retirement.proofs.MoreLemmas.{or_second}
 pub same_host : (picture : Picture) (number place : ℕ) → host_of picture number place ≡ host_at picture number place
 same_host picture number place = by (cluster_numbered picture.shown number)
   where
-    by : (found : Option ServedCluster) → place_in found place ≡ option_and_then (host_in place) found
+    by : (found : Option ServedCluster) → placed_host found place ≡ option_and_then (host_in place) found
     by None = refl
     by (Some cluster) = refl
 
@@ -81,8 +81,8 @@ event_opens format worker world Settle outcome is = absurd is
 
 -- and it leaves the rest
 pub event_stands : (format : Format) (worker : ℕ) (holders : HoldersParts) (ledger : List OpenMember) (world : World) (event : Event) (outcome : Outcome)
-    → StandsFor holders world → IsAnswer worker world event outcome → HasOpened ledger (step format world (by_worker worker) event).0.opened
-    → StandsFor (record holders { ledger = ledger }) (step format world (by_worker worker) event).0
+    → HoldsFor holders world → IsAnswer worker world event outcome → HasOpened ledger (step format world (by_worker worker) event).0.opened
+    → HoldsFor (record holders { ledger = ledger }) (step format world (by_worker worker) event).0
 event_stands format worker holders ledger world (Accept ask) outcome stands is has = record {
   pictures = record { published = stands.pictures.published; last = stands.pictures.last; held = stands.pictures.held; known = stands.pictures.known };
   opened = has;
@@ -107,8 +107,8 @@ event_stands format worker holders ledger world Reap outcome stands is has = abs
 event_stands format worker holders ledger world Settle outcome stands is has = absurd is
 
 -- a world with other connections
-opened_stands : (holders : HoldersParts) (ledger opened : List OpenMember) (world : World) → StandsFor holders world → HasOpened ledger opened
-    → StandsFor (record holders { ledger = ledger }) (record world { opened = opened })
+opened_stands : (holders : HoldersParts) (ledger opened : List OpenMember) (world : World) → HoldsFor holders world → HasOpened ledger opened
+    → HoldsFor (record holders { ledger = ledger }) (record world { opened = opened })
 opened_stands holders ledger opened world stands has = record {
   pictures = record { published = stands.pictures.published; last = stands.pictures.last; held = stands.pictures.held; known = stands.pictures.known };
   opened = has;
@@ -117,9 +117,9 @@ opened_stands holders ledger opened world stands has = record {
 }
 
 -- an accept that is made once more, by how the machine answers it
-pub accept_stands : (ask : Ask) (worker : ℕ) (holders : HoldersParts) (ledger : List OpenMember) (world : World) → StandsFor holders world
+pub accept_stands : (ask : Ask) (worker : ℕ) (holders : HoldersParts) (ledger : List OpenMember) (world : World) → HoldsFor holders world
     → HasOpened ledger (accept_leaves worker ask.conn (by_accept (accepted_as (picture_held world worker) ask (is_open world.opened worker ask.conn))) world.opened)
-    → StandsFor (record holders { ledger = ledger }) (accept ask worker world).0
+    → HoldsFor (record holders { ledger = ledger }) (accept ask worker world).0
 accept_stands ask worker holders ledger world stands has =
     let opens : (accepted (picture_held world worker) ask worker world.opened).opened
     ≡ accept_leaves worker ask.conn (by_accept (accepted_as (picture_held world worker) ask (is_open world.opened worker ask.conn))) world.opened =
@@ -144,14 +144,14 @@ close_answers connection worker opened = by (is_open opened worker connection) r
     by false is = simp is refl
 
 -- a close that is made once more
-pub close_stands : (connection worker : ℕ) (holders : HoldersParts) (ledger : List OpenMember) (world : World) → StandsFor holders world
-    → HasOpened ledger (closed connection worker world.opened).opened → StandsFor (record holders { ledger = ledger }) (close connection worker world).0
+pub close_stands : (connection worker : ℕ) (holders : HoldersParts) (ledger : List OpenMember) (world : World) → HoldsFor holders world
+    → HasOpened ledger (closed connection worker world.opened).opened → HoldsFor (record holders { ledger = ledger }) (close connection worker world).0
 close_stands connection worker holders ledger world stands has = opened_stands holders ledger (closed connection worker world.opened).opened world stands has
 
 -- a whole batch
 pub lines_stand : (format : Format) (worker : ℕ) (picture : Picture) (lines : List BatchLine) (holders : HoldersParts) (ledger : List OpenMember) (world : World)
-    → StandsFor holders world → AreAnswered format worker world lines → HasOpened ledger (lines_leave worker lines world.opened)
-    → StandsFor (record holders { ledger = ledger }) (world_after format world (entries_of worker picture lines))
+    → HoldsFor holders world → AreAnswered format worker world lines → HasOpened ledger (lines_leave worker lines world.opened)
+    → HoldsFor (record holders { ledger = ledger }) (world_after format world (entries_of worker picture lines))
 lines_stand format worker picture [] holders ledger world stands all has = record { pictures = stands.pictures; opened = has; retired = stands.retired; marked = stands.marked }
 lines_stand format worker picture (line ∷ lines) holders ledger world stands all has =
     let after : World = (step format world (by_worker worker) line.event).0 in
@@ -167,8 +167,8 @@ pub record Leads (worker : ℕ) (now : List OpenMember) (left lines : List Batch
   pub leads : lines_leave worker left between ≡ lines_leave worker lines opened
 
 -- a connection that opens leaves the others open
-pub open_kept : {T E : Type 0} (result : Result T E) (member : OpenMember) (before after : List OpenMember) → OnOk result (after ≡ put_by comes_before member before)
+pub open_kept : {T E : Type 0} (result : Result T E) (member : OpenMember) (before after : List OpenMember) → OnOk result (after ≡ put_by member_before member before)
     → OnErr result (after ≡ before) → (number : ℕ) → list_any (is_open_on number) before ≡ true → list_any (is_open_on number) after ≡ true
 open_kept (Ok value) member before after is same number on =
-    ap (list_any (is_open_on number)) is ∙ any_put comes_before (is_open_on number) member before ∙ or_second (is_open_on number member) (list_any (is_open_on number) before) on
+    ap (list_any (is_open_on number)) is ∙ any_put member_before (is_open_on number) member before ∙ or_second (is_open_on number member) (list_any (is_open_on number) before) on
 open_kept (Err error) member before after is same number on = ap (list_any (is_open_on number)) same ∙ on

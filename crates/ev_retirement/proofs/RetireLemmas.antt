@@ -13,12 +13,12 @@ use Rattle.ev_model.specs.Sorted.{put_by, sorted_by}
 use Rattle.ev_model.specs.Picture.{has_number}
 use Rattle.ev_model.specs.World.{World, OpenMember}
 use Rattle.ev_model.specs.declared.pictures.Shown.{Shown}
-use Rattle.ev_pictures.specs.Pictures.{StandsFor as HasPictures}
-use Rattle.ev_ledger.specs.Members.{StandsFor as HasOpened}
+use Rattle.ev_pictures.specs.Pictures.{HasPictures}
+use Rattle.ev_ledger.specs.Members.{HasOpened}
 use Rattle.ev_generations.specs.Tables.{row_in}
-use Rattle.ev_drain.specs.Retired.{Retired, comes_before, has_row, is_numbered, is_retired, newly_retired, retired_in, retired_of, retired_status, StandsFor}
-use Rattle.ev_retirement.specs.Holders.{HoldersParts, AreNumbered, StandsFor as Stand}
-use Rattle.ev_retirement.specs.Retiring.{AreInOrder, is_dropped, is_over, noted, noted_where, noted_all, HaveCeased, HoldTheSame}
+use Rattle.ev_drain.specs.Retired.{Retired, row_before, has_row, is_numbered, is_retired, newly_retired, retired_in, retired_of, retired_status, HasRetired}
+use Rattle.ev_retirement.specs.Holders.{HoldersParts, AreNumbered, HoldsFor}
+use Rattle.ev_retirement.specs.Retiring.{AreInOrder, is_dropped, has_ceased, noted, noted_where, noted_all, CeasedBetween, HoldTheSame}
 
 clash : (n a b : ℕ) → is_le (nat_cmp a b) ≡ false → (a == n) ≡ true → (b == n) ≡ true → ⊥
 clash n a b order at also = grind (arith, nat_tests)
@@ -48,13 +48,13 @@ swapped true false one other rest never = refl
 swapped false t one other rest never = refl
 
 find_put : (n : ℕ) (one : Retired) (rows : List Retired)
-    → find (is_numbered n) (put_by comes_before one rows) ≡ cond (one.number == n) (Some one) (find (is_numbered n) rows)
+    → find (is_numbered n) (put_by row_before one rows) ≡ cond (one.number == n) (Some one) (find (is_numbered n) rows)
 find_put n one [] = refl
-find_put n one (row ∷ rows) = by (comes_before one row) refl (find_put n one rows)
+find_put n one (row ∷ rows) = by (row_before one row) refl (find_put n one rows)
   where
-    by : (b : Bool) → comes_before one row ≡ b
-        → find (is_numbered n) (put_by comes_before one rows) ≡ cond (one.number == n) (Some one) (find (is_numbered n) rows)
-        → find (is_numbered n) (cond b (one ∷ row ∷ rows) (row ∷ put_by comes_before one rows))
+    by : (b : Bool) → row_before one row ≡ b
+        → find (is_numbered n) (put_by row_before one rows) ≡ cond (one.number == n) (Some one) (find (is_numbered n) rows)
+        → find (is_numbered n) (cond b (one ∷ row ∷ rows) (row ∷ put_by row_before one rows))
         ≡ cond (one.number == n) (Some one) (cond (row.number == n) (Some row) (find (is_numbered n) rows))
     by true is rest = refl
     by false is rest =
@@ -67,20 +67,20 @@ above k m less [] all = tt
 above k m less (row ∷ rows) all = (omega (arith, less, all.0), above k m less rows all.1)
 
 put_above : (k : ℕ) (one : Retired) (rows : List Retired) → k < one.number → AllByRecursion (λ (other : Retired). k < other.number) rows
-    → AllByRecursion (λ (other : Retired). k < other.number) (put_by comes_before one rows)
+    → AllByRecursion (λ (other : Retired). k < other.number) (put_by row_before one rows)
 put_above k one [] less all = (less, tt)
-put_above k one (row ∷ rows) less all = by (comes_before one row) (put_above k one rows less all.1)
+put_above k one (row ∷ rows) less all = by (row_before one row) (put_above k one rows less all.1)
   where
-    by : (b : Bool) → AllByRecursion (λ (other : Retired). k < other.number) (put_by comes_before one rows) → AllByRecursion (λ (other : Retired). k < other.number) (cond b (one ∷ row ∷ rows) (row ∷ put_by comes_before one rows))
+    by : (b : Bool) → AllByRecursion (λ (other : Retired). k < other.number) (put_by row_before one rows) → AllByRecursion (λ (other : Retired). k < other.number) (cond b (one ∷ row ∷ rows) (row ∷ put_by row_before one rows))
     by true rest = (less, all)
     by false rest = (all.0, rest)
 
-pub put_ascending : (one : Retired) (rows : List Retired) → has_row rows one.number ≡ false → AreInOrder rows → AreInOrder (put_by comes_before one rows)
+pub put_ascending : (one : Retired) (rows : List Retired) → has_row rows one.number ≡ false → AreInOrder rows → AreInOrder (put_by row_before one rows)
 put_ascending one [] none up = (tt, tt)
 put_ascending one (row ∷ rows) none up =
-    by (comes_before one row) refl (put_ascending one rows (or_parts (is_numbered one.number row) (has_row rows one.number) none).1 up.1)
+    by (row_before one row) refl (put_ascending one rows (or_parts (is_numbered one.number row) (has_row rows one.number) none).1 up.1)
   where
-    by : (b : Bool) → comes_before one row ≡ b → AreInOrder (put_by comes_before one rows) → AreInOrder (cond b (one ∷ row ∷ rows) (row ∷ put_by comes_before one rows))
+    by : (b : Bool) → row_before one row ≡ b → AreInOrder (put_by row_before one rows) → AreInOrder (cond b (one ∷ row ∷ rows) (row ∷ put_by row_before one rows))
     by true is rest =
         let less : one.number < row.number = less_of one.number row.number is (or_parts (is_numbered one.number row) (has_row rows one.number) none).0 in
         ((less, above one.number row.number less rows up.0), up)
@@ -139,9 +139,9 @@ same_lists (x ∷ xs) (y ∷ ys) up also same =
     λ i. head i ∷ same_lists xs ys up.1 also.1 rest i
 
 -- a sort finds what was there
-find_sorted : (n : ℕ) (rows : List Retired) → find (is_numbered n) (sorted_by comes_before rows) ≡ find (is_numbered n) rows
+find_sorted : (n : ℕ) (rows : List Retired) → find (is_numbered n) (sorted_by row_before rows) ≡ find (is_numbered n) rows
 find_sorted n [] = refl
-find_sorted n (row ∷ rows) = find_put n row (sorted_by comes_before rows) ∙ ap (λ found. cond (row.number == n) (Some row) found) (find_sorted n rows)
+find_sorted n (row ∷ rows) = find_put n row (sorted_by row_before rows) ∙ ap (λ found. cond (row.number == n) (Some row) found) (find_sorted n rows)
 
 has_found : (n : ℕ) (rows : List Retired) → has_row rows n ≡ is_some (find (is_numbered n) rows)
 has_found n [] = refl
@@ -155,11 +155,11 @@ abbrev Apart : List Retired → Type 0
 Apart [] = ⊤
 Apart (row ∷ rows) = (has_row rows row.number ≡ false) × Apart rows
 
-sorted_ascending : (rows : List Retired) → Apart rows → AreInOrder (sorted_by comes_before rows)
+sorted_ascending : (rows : List Retired) → Apart rows → AreInOrder (sorted_by row_before rows)
 sorted_ascending [] apart = tt
 sorted_ascending (row ∷ rows) apart =
-    put_ascending row (sorted_by comes_before rows)
-    (has_found row.number (sorted_by comes_before rows) ∙ ap is_some (find_sorted row.number rows) ∙ sym (has_found row.number rows) ∙ apart.0)
+    put_ascending row (sorted_by row_before rows)
+    (has_found row.number (sorted_by row_before rows) ∙ ap is_some (find_sorted row.number rows) ∙ sym (has_found row.number rows) ∙ apart.0)
     (sorted_ascending rows apart.1)
 
 none_left : (n : ℕ) (expired : List ℕ) (rows : List GenRow) → list_any (λ (other : GenRow). other.number == n) rows ≡ false
@@ -253,14 +253,14 @@ noted_find n drain row = by (has_row drain row.number) refl
     found_by b is at = sym (has_found n drain) ∙ subst (λ m. has_row drain m ≡ b) (same_of row.number n at) is
 
     by : (b : Bool) → has_row drain row.number ≡ b
-        → find (is_numbered n) (cond b drain (put_by comes_before (retired_in [] row) drain)) ≡ or_else (find (is_numbered n) drain) (cond (row.number == n) (Some (retired_in [] row)) None)
+        → find (is_numbered n) (cond b drain (put_by row_before (retired_in [] row) drain)) ≡ or_else (find (is_numbered n) drain) (cond (row.number == n) (Some (retired_in [] row)) None)
     by true is = there (find (is_numbered n) drain) (row.number == n) (found_by true is)
     by false is = find_put n (retired_in [] row) drain ∙ absent (find (is_numbered n) drain) (row.number == n) (found_by false is)
 
 noted_ascending : (drain : List Retired) (row : GenRow) → AreInOrder drain → AreInOrder (noted drain row)
 noted_ascending drain row up = by (has_row drain row.number) refl
   where
-    by : (b : Bool) → has_row drain row.number ≡ b → AreInOrder (cond b drain (put_by comes_before (retired_in [] row) drain))
+    by : (b : Bool) → has_row drain row.number ≡ b → AreInOrder (cond b drain (put_by row_before (retired_in [] row) drain))
     by true is = up
     by false is = put_ascending (retired_in [] row) drain is up
 
@@ -320,10 +320,10 @@ all_ascending rows [] drain up = up
 all_ascending rows (m ∷ numbers) drain up = all_ascending rows numbers (noted_where drain (row_in m rows)) (where_ascending drain (row_in m rows) up)
 
 rows_stand : (drain : List Retired) (numbers expired : List ℕ) (before after : List GenRow)
-    → StandsFor drain before expired → AreNumbered before → AreNumbered after
+    → HasRetired drain before expired → AreNumbered before → AreNumbered after
     → ((number : ℕ) → has_number number expired ≡ true → has_row drain number ≡ true)
-    → HaveCeased numbers before after
-    → StandsFor (noted_all after numbers drain) after expired
+    → CeasedBetween numbers before after
+    → HasRetired (noted_all after numbers drain) after expired
 rows_stand drain numbers expired before after stands apart also marks retired =
     same_lists (noted_all after numbers drain) (retired_of expired after)
     (all_ascending after numbers drain (subst AreInOrder (sym stands) (retired_ascending expired before apart)))
@@ -343,7 +343,7 @@ rows_stand drain numbers expired before after stands apart also marks retired =
     fresh n false is none = refl
 
     note : (n : ℕ) (found : Option GenRow) → row_in n after ≡ found → found_in expired (row_in n before) ≡ None
-        → cond (is_over found && true) (noted_of found) None ≡ found_in expired found
+        → cond (has_ceased found && true) (noted_of found) None ≡ found_in expired found
     note n None is none = refl
     note n (Some row) is none =
         let unmarked : has_number row.number expired ≡ false =
@@ -356,17 +356,17 @@ rows_stand drain numbers expired before after stands apart also marks retired =
         ended r false mark unset = ap (λ b. Some (record { kind = r.kind; number = r.number; name = r.name; status = r.status; expired = b })) (sym unset)
 
     by : (n : ℕ) (was is_now : Option GenRow) → row_in n before ≡ was → row_in n after ≡ is_now
-        → or_else (found_in expired was) (cond (is_over is_now && not (is_over was)) (noted_of is_now) None) ≡ found_in expired is_now
+        → or_else (found_in expired was) (cond (has_ceased is_now && not (has_ceased was)) (noted_of is_now) None) ≡ found_in expired is_now
     by n None is_now had_it has_it = note n is_now has_it (ap (found_in expired) had_it)
     by n (Some row) is_now had_it has_it = live_or_over (is_live row.status) refl
       where
         live_or_over : (live : Bool) → is_live row.status ≡ live
-            → or_else (cond (not (is_live row.status)) (Some (retired_in expired row)) None) (cond (is_over is_now && not (not (is_live row.status))) (noted_of is_now) None) ≡ found_in expired is_now
+            → or_else (cond (not (is_live row.status)) (Some (retired_in expired row)) None) (cond (has_ceased is_now && not (not (is_live row.status))) (noted_of is_now) None) ≡ found_in expired is_now
         live_or_over true live =
-            ap (λ b. or_else (cond (not b) (Some (retired_in expired row)) None) (cond (is_over is_now && not (not b)) (noted_of is_now) None)) live
+            ap (λ b. or_else (cond (not b) (Some (retired_in expired row)) None) (cond (has_ceased is_now && not (not b)) (noted_of is_now) None)) live
             ∙ note n is_now has_it (ap (found_in expired) had_it ∙ ap (λ b. cond (not b) (Some (retired_in expired row)) None) live)
         live_or_over false live =
-            ap (λ b. or_else (cond (not b) (Some (retired_in expired row)) None) (cond (is_over is_now && not (not b)) (noted_of is_now) None)) live
+            ap (λ b. or_else (cond (not b) (Some (retired_in expired row)) None) (cond (has_ceased is_now && not (not b)) (noted_of is_now) None)) live
             ∙ sym (ap (found_in expired) (sym has_it ∙ retired.stays n row had_it live) ∙ ap (λ b. cond (not b) (Some (retired_in expired row)) None) live)
 
 marked_there : (drain : List Retired) (expired : List ℕ) → AllByRecursion (λ n. has_row drain n ≡ true) expired → (n : ℕ) → has_number n expired ≡ true → has_row drain n ≡ true
@@ -393,8 +393,8 @@ still_marked rows numbers drain (n ∷ expired) all = (still_there rows numbers 
 
 -- what holds generations, once those that ceased to be live are noted
 pub retirements_stand : (holders : HoldersParts) (numbers : List ℕ) (before after : World)
-    → Stand holders before → AreNumbered before.rows → AreNumbered after.rows → HoldTheSame before after → HaveCeased numbers before.rows after.rows
-    → Stand (record holders { drain = noted_all after.rows numbers holders.drain }) after
+    → HoldsFor holders before → AreNumbered before.rows → AreNumbered after.rows → HoldTheSame before after → CeasedBetween numbers before.rows after.rows
+    → HoldsFor (record holders { drain = noted_all after.rows numbers holders.drain }) after
 retirements_stand holders numbers before after stands apart also same ceased =
     let drain : List Retired = noted_all after.rows numbers holders.drain in
     let had = stands.pictures in
@@ -403,7 +403,7 @@ retirements_stand holders numbers before after stands apart also same ceased =
           (subst (λ (versions : List ℕ). HasPictures holders.pictures (record after { pictures = before.pictures; held = versions })) (sym same.held)
           (record { published = had.published; last = had.last; held = had.held; known = had.known }));
       opened = subst (λ (members : List OpenMember). HasOpened holders.ledger members) (sym same.opened) stands.opened;
-      retired = subst (λ es. StandsFor drain after.rows es) (sym same.expired)
+      retired = subst (λ es. HasRetired drain after.rows es) (sym same.expired)
           (rows_stand holders.drain numbers before.expired before.rows after.rows stands.retired apart also (marked_there holders.drain before.expired stands.marked) ceased);
       marked = subst (λ es. AllByRecursion (λ n. has_row drain n ≡ true) es) (sym same.expired) (still_marked after.rows numbers holders.drain before.expired stands.marked);
     }

@@ -42,7 +42,7 @@ AreAsked asking holders =
     AllByRecursion (λ (row : Retired). is_let_go asking holders.pictures holders.ledger row ≡ true → is_asked asking row.number ≡ true) holders.drain
 
 -- so it is, and the drain's rows are in order
-pub record AreKept (asking : Asking) (holders : HoldersParts) : Type 0 where
+pub record AreAskedInOrder (asking : Asking) (holders : HoldersParts) : Type 0 where
   pub asked : AreAsked asking holders
   pub ordered : AreInOrder holders.drain
 

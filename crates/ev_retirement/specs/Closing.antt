@@ -9,7 +9,7 @@ use Rattle.ev_ledger.specs.Members.{has_place, is_open_at, on_in}
 use Rattle.ev_drain.specs.Retired.{Retired, is_expired}
 use Rattle.ev_retirement.specs.declared.closing.Closing.{Closing}
 use Rattle.ev_retirement.specs.declared.asking.Asking.{Asking}
-use Rattle.ev_retirement.specs.Asking.{AreKept}
+use Rattle.ev_retirement.specs.Asking.{AreAskedInOrder}
 use Rattle.ev_retirement.specs.Holders.{HoldersParts}
 
 -- the connection is on a listener whose drain timeout came
@@ -21,12 +21,12 @@ abbrev pub numbers_closing : List Retired → List (ℕ × ℕ) → List ℕ
 numbers_closing drain held = map (λ (h : ℕ × ℕ). h.0) (filter (closes drain) held)
 
 -- the worker's connection is of one of these numbers
-abbrev pub is_among : ℕ → List ℕ → OpenMember → Bool
-is_among worker numbers member = (member.worker == worker) && has_number member.connection numbers
+abbrev pub is_member_among : ℕ → List ℕ → OpenMember → Bool
+is_member_among worker numbers member = (member.worker == worker) && has_number member.connection numbers
 
 -- the connections without the worker's of these numbers
 abbrev pub closed_all : ℕ → List ℕ → List OpenMember → List OpenMember
-closed_all worker numbers opened = filter (λ (m : OpenMember). not (is_among worker numbers m)) opened
+closed_all worker numbers opened = filter (λ (m : OpenMember). not (is_member_among worker numbers m)) opened
 
 -- what a connection is open on is a listener whose drain timeout came
 abbrev pub is_on_expired : List Retired → Option (ℕ × Option ℕ) → Bool
@@ -91,5 +91,5 @@ AreFound closing drain opened =
 
 -- what is kept beside what holds generations
 pub record AreTracked (asking : Asking) (closing : Closing) (holders : HoldersParts) : Type 0 where
-  pub asked : AreKept asking holders
+  pub asked : AreAskedInOrder asking holders
   pub found : AreFound closing holders.drain holders.ledger

@@ -8,9 +8,9 @@ use Rattle.ev_model.specs.World.{World, OpenMember}
 use Rattle.ev_model.specs.Picture.{has_number}
 use Rattle.ev_model.specs.Signals.{unexpired}
 use Rattle.ev_model.specs.Tidy.{tidy}
-use Rattle.ev_pictures.specs.Pictures.{PicturesParts, StandsFor as HasPictures}
-use Rattle.ev_ledger.specs.Members.{StandsFor as HasOpened}
-use Rattle.ev_drain.specs.Retired.{Retired, has_row, retired_status, StandsFor as HasRetired}
+use Rattle.ev_pictures.specs.Pictures.{HasPictures, PicturesParts}
+use Rattle.ev_ledger.specs.Members.{HasOpened}
+use Rattle.ev_drain.specs.Retired.{Retired, has_row, retired_status, HasRetired}
 
 -- the pictures, the open connections by worker and number, and the generations that drain or were dropped by number
 pub record HoldersParts : Type 0 where
@@ -20,7 +20,7 @@ pub record HoldersParts : Type 0 where
 
 -- They are those of the world: the pictures, the open connections, and the rows that no longer serve, with their marks; and no
 -- other row is marked.
-pub record StandsFor (holders : HoldersParts) (world : World) : Type 0 where
+pub record HoldsFor (holders : HoldersParts) (world : World) : Type 0 where
   pub pictures : HasPictures holders.pictures world
   pub opened : HasOpened holders.ledger world.opened
   pub retired : HasRetired holders.drain world.rows world.expired

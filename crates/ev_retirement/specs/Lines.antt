@@ -7,8 +7,8 @@ use Rattle.ev_types.specs.declared.events.Event.TheVariants.{Accept, Close}
 use Rattle.ev_model.specs.World.{World, OpenMember}
 use Rattle.ev_model.specs.Connections.{closed, is_open, member_on}
 use Rattle.ev_model.specs.Dead.{is_open_on, picture_held}
-use Rattle.ev_ledger.specs.Members.{StandsFor as HasOpened}
-use Rattle.ev_pictures.specs.Pictures.{PicturesParts, StandsFor as HasPictures}
+use Rattle.ev_ledger.specs.Members.{HasOpened}
+use Rattle.ev_pictures.specs.Pictures.{HasPictures, PicturesParts}
 use Rattle.ev_worker.specs.Batches.{accepted_as}
 use Rattle.ev_worker.specs.Members.{on_of}
 use Rattle.ev_worker.specs.declared.lines.Outcome.{Outcome}

@@ -8,14 +8,14 @@ use Rattle.ev_types.specs.declared.rows.RowStatus.TheVariants.{Warming, Active, 
 use Rattle.ev_model.specs.Sorted.{put_by}
 use Rattle.ev_model.specs.Picture.{has_number}
 use Rattle.ev_generations.specs.Tables.{row_in}
-use Rattle.ev_drain.specs.Retired.{Retired, comes_before, has_row, retired_in}
+use Rattle.ev_drain.specs.Retired.{Retired, has_row, retired_in, row_before}
 use Rattle.ev_model.specs.World.{World}
-use Rattle.ev_retirement.specs.Holders.{HoldersParts, AreNumbered, StandsFor}
+use Rattle.ev_retirement.specs.Holders.{HoldersParts, AreNumbered, HoldsFor}
 
 -- a generation is found that drains or was dropped
-abbrev pub is_over : Option GenRow → Bool
-is_over None = false
-is_over (Some row) = not (is_live row.status)
+abbrev pub has_ceased : Option GenRow → Bool
+has_ceased None = false
+has_ceased (Some row) = not (is_live row.status)
 
 -- the row was dropped before it served
 abbrev pub is_dropped : RowStatus → Bool
@@ -31,7 +31,7 @@ AreInOrder (row ∷ rows) = AllByRecursion (λ (other : Retired). row.number < o
 
 -- the drain once this row is noted, where none of its number is there yet
 abbrev pub noted : List Retired → GenRow → List Retired
-noted drain row = if has_row drain row.number then drain else put_by comes_before (retired_in [] row) drain
+noted drain row = if has_row drain row.number then drain else put_by row_before (retired_in [] row) drain
 
 -- the same, where a row was found
 abbrev pub noted_where : List Retired → Option GenRow → List Retired
@@ -44,8 +44,8 @@ noted_all rows [] drain = drain
 noted_all rows (number ∷ numbers) drain = noted_all rows numbers (noted_where drain (row_in number rows))
 
 -- exactly the generations of these numbers ceased to be live between the rows, and one that was over before is as it was
-pub record HaveCeased (numbers : List ℕ) (before after : List GenRow) : Type 0 where
-  pub told : (number : ℕ) → has_number number numbers ≡ (is_over (row_in number after) && not (is_over (row_in number before)))
+pub record CeasedBetween (numbers : List ℕ) (before after : List GenRow) : Type 0 where
+  pub told : (number : ℕ) → has_number number numbers ≡ (has_ceased (row_in number after) && not (has_ceased (row_in number before)))
   pub stays : (number : ℕ) (row : GenRow) → row_in number before ≡ Some row → is_live row.status ≡ false → row_in number after ≡ Some row
 
 -- the worlds have the same pictures, the same open connections, and the same marks
@@ -59,5 +59,5 @@ pub record HoldTheSame (before after : World) : Type 0 where
 -- stands for the second one once these are noted.
 abbrev pub RetirementsStand : Type 0
 RetirementsStand = (holders : HoldersParts) (numbers : List ℕ) (before after : World)
-    → StandsFor holders before → AreNumbered before.rows → AreNumbered after.rows → HoldTheSame before after → HaveCeased numbers before.rows after.rows
-    → StandsFor (record holders { drain = noted_all after.rows numbers holders.drain }) after
+    → HoldsFor holders before → AreNumbered before.rows → AreNumbered after.rows → HoldTheSame before after → CeasedBetween numbers before.rows after.rows
+    → HoldsFor (record holders { drain = noted_all after.rows numbers holders.drain }) after

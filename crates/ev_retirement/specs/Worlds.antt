@@ -17,30 +17,30 @@ use Rattle.ev_pictures.specs.Pictures.{published_answer, shown_after}
 use Rattle.ev_worker.specs.Batches.{entries_of}
 use Rattle.ev_worker.specs.Workers.{AreAnswered, IsToldBy}
 use Rattle.ev_worker.specs.declared.lines.BatchLine.{BatchLine}
-use Rattle.ev_retirement.specs.Holders.{HoldersParts, AreNumbered, StandsFor, timed_out, timeout_answer, with_retired}
+use Rattle.ev_retirement.specs.Holders.{HoldersParts, AreNumbered, HoldsFor, timed_out, timeout_answer, with_retired}
 
 -- this holds of whatever world is stood for
 abbrev pub IsSoWherever : (World → Type 0) → HoldersParts → Type 0
-IsSoWherever fact holders = (world : World) → StandsFor holders world → fact world
+IsSoWherever fact holders = (world : World) → HoldsFor holders world → fact world
 
 -- whatever world is stood for, this is the answer of the question about it
 abbrev pub IsAnswerOf : {A : Type 0} → (World → A) → HoldersParts → A → Type 0
-IsAnswerOf question holders answer = (world : World) → StandsFor holders world → answer ≡ question world
+IsAnswerOf question holders answer = (world : World) → HoldsFor holders world → answer ≡ question world
 
 -- whatever world the first stand for, the second stand for what the change makes of it
 abbrev pub StandsAfter : (World → World) → HoldersParts → HoldersParts → Type 0
-StandsAfter change before after = (world : World) → StandsFor before world → StandsFor after (change world)
+StandsAfter change before after = (world : World) → HoldsFor before world → HoldsFor after (change world)
 
 -- at whatever world is stood for, where these changes lead to what workers may serve, the machine answers a publication with this
 -- version
 abbrev pub AnswersPublication : Changes → HoldersParts → Option ℕ → Type 0
-AnswersPublication changes holders version = (world : World) → StandsFor holders world
+AnswersPublication changes holders version = (world : World) → HoldsFor holders world
     → shown_after changes holders.pictures ≡ shown_of world → (publish world).1 ≡ published_answer version
 
 -- likewise the second stand for the world that a publication leaves
 abbrev pub Publishes : Changes → HoldersParts → HoldersParts → Type 0
 Publishes changes before after =
-    (world : World) → StandsFor before world → shown_after changes before.pictures ≡ shown_of world → StandsFor after (publish world).0
+    (world : World) → HoldsFor before world → shown_after changes before.pictures ≡ shown_of world → HoldsFor after (publish world).0
 
 -- at whatever world is stood for, the machine answers the drain timeout of this name so
 abbrev pub AnswersTimeout : List ℕ → HoldersParts → Bool → Type 0
@@ -62,18 +62,18 @@ IsTold worker closed picture holders = IsSoWherever (IsToldBy worker closed pict
 -- Whatever world the first stand for, the second stand for it once a live row in it, of this kind, number and name, is retired.
 abbrev pub Retires : Kind → ℕ → List ℕ → Bool → HoldersParts → HoldersParts → Type 0
 Retires kind number name dropped holders left =
-    (world : World) (before after : List GenRow) (row : GenRow) → StandsFor holders world → world.rows ≡ before ++ row ∷ after
+    (world : World) (before after : List GenRow) (row : GenRow) → HoldsFor holders world → world.rows ≡ before ++ row ∷ after
     → is_live row.status ≡ true → row.kind ≡ kind → row.number ≡ number → row.name ≡ name
-    → StandsFor left (with_retired dropped before row after world)
+    → HoldsFor left (with_retired dropped before row after world)
 
 -- whatever world the first stand for, if these are the numbers of its dead generations, the second stand for it without those
 abbrev pub Reaps : List ℕ → HoldersParts → HoldersParts → Type 0
-Reaps dead before after = (format : Format) (world : World) → StandsFor before world → AreNumbered world.rows
-    → dead ≡ dead_numbers format world → StandsFor after (without_dead format world)
+Reaps dead before after = (format : Format) (world : World) → HoldsFor before world → AreNumbered world.rows
+    → dead ≡ dead_numbers format world → HoldsFor after (without_dead format world)
 
 -- whatever world the first stand for, where the worker's lines are answered as they are in it, the second stand for the world after
 -- them
 abbrev pub TakesOver : ℕ → List BatchLine → HoldersParts → HoldersParts → Type 0
 TakesOver worker lines before after =
-    (format : Format) (world : World) (picture : Picture) → StandsFor before world → AreAnswered format worker world lines
-    → StandsFor after (world_after format world (entries_of worker picture lines))
+    (format : Format) (world : World) (picture : Picture) → HoldsFor before world → AreAnswered format worker world lines
+    → HoldsFor after (world_after format world (entries_of worker picture lines))

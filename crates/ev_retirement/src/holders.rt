@@ -9,7 +9,7 @@ ghost use Rattle.ev_snapshot.specs.Changes.{IsOrdered};
 ghost use Rattle.ev_ledger.specs.Members.{count_of, is_of_worker};
 ghost use Rattle.ev_drain.specs.Retired.{has_row};
 ghost use Rattle.ev_retirement.specs.Retiring.{noted};
-ghost use Rattle.ev_retirement.specs.Holders.{StandsFor, with_expired, without_generation, without_generations};
+ghost use Rattle.ev_retirement.specs.Holders.{HoldsFor, with_expired, without_generation, without_generations};
 ghost use Rattle.ev_retirement.specs.Worlds.{AnswersPublication, AnswersTimeout, IsAnswerOf, LeavesTimeout, Publishes, Reaps, Retires, StandsAfter};
 
 use crate::asking::Asking;
@@ -51,7 +51,7 @@ impl Model for Holders {
 impl Holders {
     /// Nothing was published, no connection is open, and no generation drains; each of this many workers holds the empty picture.
     pub fn new(alloc: Global, workers: u32) -> Result<Holders, AllocError>
-        ensures world { IfOk result (λ holders. (node : List ℕ) → StandsFor holders (opening workers node)) }
+        ensures world { IfOk result (λ holders. (node : List ℕ) → HoldsFor holders (opening workers node)) }
     {
         let pictures = Pictures::new(alloc, workers)?;
         Ok(Holders {

@@ -1,9 +1,9 @@
 ghost use Rattle.std.specs.Prelude.{◌≡◌, ◌<◌, true, length, IfOk, OnOk, OnErr};
 ghost use Rattle.ev_model.specs.Connections.{closed, is_member, is_open};
-ghost use Rattle.ev_ledger.specs.Members.{IsAnswerOf, StandsAfter as HasOpenedAfter};
+ghost use Rattle.ev_ledger.specs.Members.{HasOpenedAfter, IsAnswerOf};
 ghost use Rattle.ev_drain.specs.Retired.{has_row};
 ghost use Rattle.ev_retirement.specs.Asking.{AreAskedOn, AreBothAsked, AsksMore, LetsGo, MayLeave, is_asked};
-ghost use Rattle.ev_retirement.specs.Closing.{AreFound, is_among};
+ghost use Rattle.ev_retirement.specs.Closing.{AreFound, is_member_among};
 
 use crate::asking::Asking;
 use crate::closing::Closing;
@@ -44,7 +44,7 @@ pub(crate) fn ask_on_each(
     worker: u32,
     numbers: &[u64],
 ) -> Result<(), AllocError>
-    ensures asked { OnOk result (AreAskedOn (is_among worker numbers.now) asking.new drain.now ledger.now) }
+    ensures asked { OnOk result (AreAskedOn (is_member_among worker numbers.now) asking.new drain.now ledger.now) }
     ensures more { AsksMore asking.old asking.new }
 {
     for number in numbers {

@@ -3,7 +3,7 @@
 //! # Choices
 //!
 //! - The marks of drain timeouts are in the drain alone. So the world's marks have to be those of retired rows:
-//!   `StandsFor` says it, and each call keeps it.
+//!   `HoldsFor` says it, and each call keeps it.
 //! - A settle closes by number what it finds of the worker on marked listeners. That this is what the machine closes
 //!   by listener rests on the ledger having no worker and number twice.
 //! - A settle that went over all of its worker's connections would make a script's time grow with their square. So

@@ -1,7 +1,7 @@
 ghost use Rattle.std.specs.Prelude.{◌≡◌, ◌<◌, length, IfOk, OnOk, OnErr};
 ghost use Rattle.ev_model.specs.Connections.{answer_of, closed, served_by};
 ghost use Rattle.ev_snapshot.specs.Chosen.{host_of};
-ghost use Rattle.ev_ledger.specs.Members.{StandsAfter as HasOpenedAfter};
+ghost use Rattle.ev_ledger.specs.Members.{HasOpenedAfter};
 ghost use Rattle.ev_worker.specs.Batches.{outcome_answer, accepted_answer, closed_answer, closed_as};
 ghost use Rattle.ev_retirement.specs.Asking.{LetsGo};
 ghost use Rattle.ev_retirement.specs.Closing.{AreFound};

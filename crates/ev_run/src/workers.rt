@@ -2,7 +2,7 @@ ghost use Rattle.std.specs.Prelude.{◌≡◌, ◌<◌, ◌+◌, true, length, O
 ghost use Rattle.ev_types.specs.declared.events.Actor.TheVariants.{Worker as by_worker};
 ghost use Rattle.ev_model.specs.Dead.{last_picture};
 ghost use Rattle.ev_types.specs.Events.{MayMake};
-ghost use Rattle.ev_model.specs.Operations.{batch_limit, is_settle as is_settle_event, line_operation};
+ghost use Rattle.ev_model.specs.Operations.{batch_limit, is_settle, line_operation};
 ghost use Rattle.ev_model.specs.Runs.{is_batched};
 ghost use Rattle.ev_actors.specs.Journals.{WorksIn, nothing_done, world_now};
 ghost use Rattle.ev_actors.specs.Taken.{HasBegun, HasJoined};
@@ -105,7 +105,7 @@ fn work_line<R: Threads + Wait + Sync, J: Journaled, P: Pace>(
 
 // Whether the event is a settle.
 fn is_settle(event: &Event) -> bool
-    ensures { result ≡ is_settle_event event.now }
+    ensures { result ≡ is_settle event.now }
 {
     matches!(event, Event::Settle)
 }

@@ -136,8 +136,8 @@ journal_made format workers node entries =
     omega arith
 
 -- one entry more
-pub entry_made : (format : Format) (world : World) (entries : List Entry) (entry : Entry)
+pub entry_draws : (format : Format) (world : World) (entries : List Entry) (entry : Entry)
     → (world_after format world (entries ++ entry ∷ [])).made ≤ (world_after format world entries).made + items_in entry.event
-entry_made format world entries entry =
+entry_draws format world entries entry =
     subst (λ (w : World). w.made ≤ (world_after format world entries).made + items_in entry.event) (sym (world_after-more format world entries entry))
     (step_made format (world_after format world entries) entry.actor entry.event)

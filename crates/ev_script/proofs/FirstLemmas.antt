@@ -3,7 +3,7 @@ use Rattle.std.proofs.Common.{◌≡◌, ℕ, ◌+◌, ◌<◌, ◌≤◌, List,
 use Rattle.std.proofs.lemmas.Bool.{cases_lt}
 use Rattle.serde_json.specs.Data.{Data}
 use Rattle.ev_io.specs.Lines.{lines_of, feeds_in}
-use Rattle.ev_io.specs.LineFaults.{HasNoFault as HasNoLineFault}
+use Rattle.ev_io.specs.LineFaults.{HasNoLineFault}
 use Rattle.ev_script.specs.declared.fault_kinds.FaultKind.{FaultKind}
 use Rattle.ev_script.specs.declared.fault_kinds.FaultKind.TheVariants.{TooLong, TooMany, TooLarge, NotJson, NotHeader, NotLine, NoSuchWorker, NoByte, NotJournal}
 use Rattle.ev_script.specs.declared.forms.Settings.{Settings}

@@ -6,7 +6,7 @@ use Rattle.std.proofs.lemmas.Bool.{cases_lt, eqb-true}
 use Rattle.ev_io.specs.declared.faults.LineFault.{LineFault}
 use Rattle.ev_io.specs.declared.faults.LineFault.TheVariants as limit
 use Rattle.ev_io.specs.Lines.{lines_of, onto_first, feeds_in, IsClosed}
-use Rattle.ev_io.specs.LineFaults.{StandsAt, HasNoFault as HasNoLineFault, IsFirstFault as IsFirstLimit}
+use Rattle.ev_io.specs.LineFaults.{StandsAt, HasNoLineFault, IsFirstLineFault}
 use Rattle.ev_io.specs.LinesState.{LinesState, HasTaken}
 use Rattle.ev_io.proofs.LineLemmas.{feeds_in-closed}
 use Rattle.ev_script.specs.declared.fault_kinds.FaultKind.{FaultKind}
@@ -74,7 +74,7 @@ limit_stands forms input place limit.Failed kind within stands tells = absurd te
 limit_stands forms input place limit.OutOfMemory kind within stands tells = absurd tells
 
 -- the first fault of the limits is the first of the input, where the lines before were read
-pub limit_first : (forms : LineForms) (input : Input) (settings : Settings) (place : ℕ) (fault : LineFault) (kind : FaultKind) → IsFirstLimit input.bytes place fault → Tells fault kind → AreRead forms input.audit (lines_of input.bytes) settings (index_at input place) → IsFirstFault forms input place kind
+pub limit_first : (forms : LineForms) (input : Input) (settings : Settings) (place : ℕ) (fault : LineFault) (kind : FaultKind) → IsFirstLineFault input.bytes place fault → Tells fault kind → AreRead forms input.audit (lines_of input.bytes) settings (index_at input place) → IsFirstFault forms input place kind
 limit_first forms input settings place fault kind h tells read = record { stands = limit_stands forms input place fault kind h.within h.stands tells; first = λ other k s. by_place other k s (cases_lt other place) (cases_lt place other) }
   where
     by_place : (other : ℕ) (k : FaultKind) → Stands forms input other k → (other < place) ⊎ (place ≤ other) → (place < other) ⊎ (other ≤ place) → (place < other) ⊎ ((place ≡ other) × (fault_order kind ≤ fault_order k))

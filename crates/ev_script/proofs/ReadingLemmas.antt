@@ -24,7 +24,7 @@ use Rattle.ev_script.specs.declared.forms.Settings.{Settings}
 use Rattle.ev_script.specs.Members.{tree_of}
 use Rattle.ev_script.specs.Faults.{LineForms, fault_number, IsFaultOf}
 use Rattle.ev_script.specs.Content.{first_content, IsContent, IsLineOf, IsKeptOf}
-use Rattle.ev_script.specs.ReadLines.{AreRead, AreKept}
+use Rattle.ev_script.specs.ReadLines.{AreRead, AreLinesKept}
 use Rattle.ev_script.specs.ReadInput.{input_of, script_fault, IsTold, IsWhole, IsUpToJournal, IsAnswer, IsHeadAnswer}
 use Rattle.ev_script.proofs.ContentFaults.{IsGiven, first_told, content_told, journal_reached}
 use Rattle.ev_script.proofs.StepLemmas.{same_at, are_read_same, are_kept_same, are_read_more, are_kept_more, given_line, few_lines}
@@ -43,7 +43,7 @@ pub record IsReading {A : Type 0} (forms : LineForms) (keeps : Profile → ℕ �
   pub given : state.given ≡ length kept + 1
   pub head : get_or (lines_of bytes) 0 [] ≡ heading
   pub read : AreRead forms audit (lines_of bytes) settings state.given
-  pub holds : AreKept (keeps settings.profile) (lines_of bytes) kept
+  pub holds : AreLinesKept (keeps settings.profile) (lines_of bytes) kept
 
 -- what is ensured at the end
 abbrev pub Exits : {A : Type 0} → LineForms → (Profile → ℕ → Data → A → Type 0) → Bool → Option (List ℕ) → Option (List ℕ) → LinesState → Result (ReadLines A) ScriptFault → Type 0

@@ -21,7 +21,7 @@ use Rattle.ev_script.specs.Lines.{line_of}
 use Rattle.ev_script.specs.Faults.{LineForms, Input, index_at, has_format, worker_of, plain_lines}
 use Rattle.ev_script.specs.Script.{lines_from, script_made, script_with, script_from, begins_journal, before_journal, script_texts, script_of}
 use Rattle.ev_script.specs.Content.{is_above, IsLineOf, IsKeptOf}
-use Rattle.ev_script.specs.ReadLines.{AreRead, AreKept}
+use Rattle.ev_script.specs.ReadLines.{AreRead, AreLinesKept}
 use Rattle.ev_script.specs.ReadInput.{IsWhole, IsUpToJournal, EndsBefore, IsReadOf}
 use Rattle.ev_script.specs.ReadScript.{HeadsScripts, KeepsLines, IsHeaderOf, IsScriptAnswer, AreNumbered, AreOfForms}
 use Rattle.ev_script.proofs.PlaceLemmas.{ends_within}
@@ -33,7 +33,7 @@ use Rattle.ev_script.proofs.KeptLemmas.{kept_line}
 
 -- the number of a line, and an actor that may make its event
 line_at : (forms : LineForms) (keeps : Profile → ℕ → Data → Line → Type 0) (audit : Bool) (texts : List (List ℕ)) (settings : Settings) (kept : List Line)
-    → KeepsLines forms keeps → AreRead forms audit texts settings (length kept + 1) → AreKept (keeps settings.profile) texts kept
+    → KeepsLines forms keeps → AreRead forms audit texts settings (length kept + 1) → AreLinesKept (keeps settings.profile) texts kept
     → (i : ℕ) (other : Line) → i < length kept → ((get_or kept i other).at ≡ i + 2) × MayMake settings.workers (get_or kept i other).actor (get_or kept i other).event
 line_at forms keeps audit texts settings kept plain read are i other h =
     let line : Line = get_or kept i other in
@@ -47,14 +47,14 @@ line_at forms keeps audit texts settings kept plain read are i other h =
     let named : r.named ≡ worker_of line.actor = some_same r.named (worker_of line.actor) (forms.lines settings.profile (i + 2) k.tree) reads both.1 in
     kept_line settings.workers settings.profile (i + 2) k.tree line both.0 (ap (is_above settings.workers) (sym named) ∙ r.below)
 
-pub are_numbered : (forms : LineForms) (keeps : Profile → ℕ → Data → Line → Type 0) (audit : Bool) (texts : List (List ℕ)) (settings : Settings) (kept : List Line) → KeepsLines forms keeps → AreRead forms audit texts settings (length kept + 1) → AreKept (keeps settings.profile) texts kept → AreNumbered settings.workers kept
+pub are_numbered : (forms : LineForms) (keeps : Profile → ℕ → Data → Line → Type 0) (audit : Bool) (texts : List (List ℕ)) (settings : Settings) (kept : List Line) → KeepsLines forms keeps → AreRead forms audit texts settings (length kept + 1) → AreLinesKept (keeps settings.profile) texts kept → AreNumbered settings.workers kept
 are_numbered forms keeps audit texts settings kept plain read are = record {
   places = λ k other h. (line_at forms keeps audit texts settings kept plain read are k other h).0;
   allowed = λ k other h. (line_at forms keeps audit texts settings kept plain read are k other h).1;
 }
 
 -- each line is of the forms, by its own number
-pub are_of_forms : (forms : LineForms) (keeps : Profile → ℕ → Data → Line → Type 0) (audit : Bool) (texts : List (List ℕ)) (settings : Settings) (kept : List Line) → KeepsLines forms keeps → AreRead forms audit texts settings (length kept + 1) → AreKept (keeps settings.profile) texts kept → AreOfForms (keeps settings.profile) kept
+pub are_of_forms : (forms : LineForms) (keeps : Profile → ℕ → Data → Line → Type 0) (audit : Bool) (texts : List (List ℕ)) (settings : Settings) (kept : List Line) → KeepsLines forms keeps → AreRead forms audit texts settings (length kept + 1) → AreLinesKept (keeps settings.profile) texts kept → AreOfForms (keeps settings.profile) kept
 are_of_forms forms keeps audit texts settings kept plain read are = λ i other h.
     let k : IsKeptOf (keeps settings.profile) (i + 2) (tree_of (get_or texts (i + 1) [])) (get_or kept i other) = are i other h in
     (k.tree, subst (λ (n : ℕ). keeps settings.profile n k.tree (get_or kept i other)) (sym (line_at forms keeps audit texts settings kept plain read are i other h).0) k.holds)
@@ -119,7 +119,7 @@ from_parts first others header lines e f =
     ∙ ap (option_map (script_made header)) f
 
 -- the script of an input's lines, all of which were read
-pub whole_script : (forms : LineForms) (keeps : Profile → ℕ → Data → Line → Type 0) (audit : Bool) (texts : List (List ℕ)) (header : Header) (kept : List Line) → KeepsLines forms keeps → IsHeaderOf (get_or texts 0 []) header → AreRead forms audit texts (settings_of header) (length kept + 1) → AreKept (keeps header.profile) texts kept → length texts ≡ length kept + 1
+pub whole_script : (forms : LineForms) (keeps : Profile → ℕ → Data → Line → Type 0) (audit : Bool) (texts : List (List ℕ)) (header : Header) (kept : List Line) → KeepsLines forms keeps → IsHeaderOf (get_or texts 0 []) header → AreRead forms audit texts (settings_of header) (length kept + 1) → AreLinesKept (keeps header.profile) texts kept → length texts ≡ length kept + 1
     → script_from texts ≡ Some (script_made header kept)
 whole_script forms keeps audit [] header kept plain heads read are long = absurd (omega (arith, long))
 whole_script forms keeps audit (first ∷ others) header kept plain heads read are long =
@@ -143,7 +143,7 @@ not_begun forms texts settings n i read some within =
     ap begins_journal r.is ∙ plain_tree r.tree r.plain
 
 -- the script of the lines before the journal
-pub script_before : (forms : LineForms) (keeps : Profile → ℕ → Data → Line → Type 0) (texts : List (List ℕ)) (header : Header) (kept : List Line) → KeepsLines forms keeps → IsHeaderOf (get_or texts 0 []) header → AreRead forms true texts (settings_of header) (length kept + 1) → AreKept (keeps header.profile) texts kept → length kept + 1 < length texts → begins_journal (tree_of (get_or texts (length kept + 1) [])) ≡ true
+pub script_before : (forms : LineForms) (keeps : Profile → ℕ → Data → Line → Type 0) (texts : List (List ℕ)) (header : Header) (kept : List Line) → KeepsLines forms keeps → IsHeaderOf (get_or texts 0 []) header → AreRead forms true texts (settings_of header) (length kept + 1) → AreLinesKept (keeps header.profile) texts kept → length kept + 1 < length texts → begins_journal (tree_of (get_or texts (length kept + 1) [])) ≡ true
     → script_from (script_texts true texts) ≡ Some (script_made header kept)
 script_before forms keeps [] header kept plain heads read are long begins = absurd (omega arith)
 script_before forms keeps (first ∷ others) header kept plain heads read are long begins =
@@ -199,9 +199,9 @@ lines_read forms keeps input read header heads of is =
     subst (λ (settings : Settings). AreRead forms input.audit (lines_of input.bytes) settings (length read.kept.items + 1)) (same_settings forms keeps input read header heads of is) of.lines
 
 -- what was kept of them
-lines_kept : (forms : LineForms) (keeps : Profile → ℕ → Data → Line → Type 0) (input : Input) (read : ReadLines Line) (header : Header) → HeadsScripts forms → IsReadOf forms keeps input read → IsHeaderOf read.heading.items header → AreKept (keeps header.profile) (lines_of input.bytes) read.kept.items
+lines_kept : (forms : LineForms) (keeps : Profile → ℕ → Data → Line → Type 0) (input : Input) (read : ReadLines Line) (header : Header) → HeadsScripts forms → IsReadOf forms keeps input read → IsHeaderOf read.heading.items header → AreLinesKept (keeps header.profile) (lines_of input.bytes) read.kept.items
 lines_kept forms keeps input read header heads of is =
-    subst (λ (settings : Settings). AreKept (keeps settings.profile) (lines_of input.bytes) read.kept.items) (same_settings forms keeps input read header heads of is) of.kept
+    subst (λ (settings : Settings). AreLinesKept (keeps settings.profile) (lines_of input.bytes) read.kept.items) (same_settings forms keeps input read header heads of is) of.kept
 
 -- the script of a whole input
 pub answer_whole : (forms : LineForms) (keeps : Profile → ℕ → Data → Line → Type 0) (input : Input) (read : ReadLines Line) (header : Header) (script : ScriptParts) → input.audit ≡ false → HeadsScripts forms → KeepsLines forms keeps → IsReadOf forms keeps input read → IsHeaderOf read.heading.items header → script ≡ script_made header read.kept.items → IsScriptAnswer forms input (Ok script)

@@ -8,14 +8,14 @@ use Rattle.serde_json.specs.Data.{Data}
 use Rattle.ev_io.specs.declared.limits.TheConstants.{MAX_LINES}
 use Rattle.ev_io.specs.declared.faults.LineEnd.TheVariants.{Line}
 use Rattle.ev_io.specs.Lines.{lines_of, onto_first, feeds_in}
-use Rattle.ev_io.specs.LineFaults.{HasNoFault}
+use Rattle.ev_io.specs.LineFaults.{HasNoLineFault}
 use Rattle.ev_io.specs.LinesState.{LinesState, HasTaken}
 use Rattle.ev_io.specs.ReadLine.{GivesLine, ReadsLine}
 use Rattle.ev_script.specs.declared.forms.Settings.{Settings}
 use Rattle.ev_script.specs.Members.{tree_of}
 use Rattle.ev_script.specs.Faults.{LineForms, index_at}
 use Rattle.ev_script.specs.Content.{first_content, IsLineOf, IsKeptOf}
-use Rattle.ev_script.specs.ReadLines.{AreRead, AreKept}
+use Rattle.ev_script.specs.ReadLines.{AreRead, AreLinesKept}
 use Rattle.ev_script.specs.ReadInput.{input_of}
 use Rattle.ev_script.proofs.LimitLemmas.{last_end}
 use Rattle.ev_script.proofs.ContentFaults.{IsGiven}
@@ -31,7 +31,7 @@ are_read_same forms audit xs ys settings n e read = record {
   others = λ i some within. subst (λ (t : List ℕ). IsLineOf forms audit settings (i + 1) (tree_of t)) (sym (same_at n xs ys i e within)) (read.others i some within);
 }
 
-pub are_kept_same : {A : Type 0} (keeps : ℕ → Data → A → Type 0) (xs ys : List (List ℕ)) (n : ℕ) (kept : List A) → take n ys ≡ take n xs → length kept + 1 ≤ n → AreKept keeps xs kept → AreKept keeps ys kept
+pub are_kept_same : {A : Type 0} (keeps : ℕ → Data → A → Type 0) (xs ys : List (List ℕ)) (n : ℕ) (kept : List A) → take n ys ≡ take n xs → length kept + 1 ≤ n → AreLinesKept keeps xs kept → AreLinesKept keeps ys kept
 are_kept_same keeps xs ys n kept e most k = λ i other h.
     subst (λ (t : List ℕ). IsKeptOf keeps (i + 2) (tree_of t) (get_or kept i other)) (sym (same_at n xs ys (i + 1) e (omega arith))) (k i other h)
 
@@ -46,7 +46,7 @@ are_read_more forms audit xs settings n read some here = record { head = λ h. r
         let same : n ≡ i = omega arith in
         subst (λ (j : ℕ). IsLineOf forms audit settings (j + 1) (tree_of (get_or xs j []))) same here
 
-pub are_kept_more : {A : Type 0} (keeps : ℕ → Data → A → Type 0) (xs : List (List ℕ)) (kept : List A) (more : A) → AreKept keeps xs kept → IsKeptOf keeps (length kept + 2) (tree_of (get_or xs (length kept + 1) [])) more → AreKept keeps xs (kept ++ more ∷ [])
+pub are_kept_more : {A : Type 0} (keeps : ℕ → Data → A → Type 0) (xs : List (List ℕ)) (kept : List A) (more : A) → AreLinesKept keeps xs kept → IsKeptOf keeps (length kept + 2) (tree_of (get_or xs (length kept + 1) [])) more → AreLinesKept keeps xs (kept ++ more ∷ [])
 are_kept_more keeps xs kept more k here = λ i other h. by_place i other h (cases_lt i (length kept))
   where
     by_place : (i : ℕ) (other : _) → i < length (kept ++ more ∷ []) → (i < length kept) ⊎ (length kept ≤ i) → IsKeptOf keeps (i + 2) (tree_of (get_or xs (i + 1) [])) (get_or (kept ++ more ∷ []) i other)
@@ -108,12 +108,12 @@ few_lines state bytes h = by_front h.front refl
     by_front (b ∷ bs) e =
         let long : length h.front ≡ suc (length bs) = ap length e in
         let place : ℕ = length h.front - 1 in
-        let sound : HasNoFault bytes place = h.sound place (omega arith) in
+        let sound : HasNoLineFault bytes place = h.sound place (omega arith) in
         let front : take place bytes ≡ take place h.front = ap (take place) h.parts ∙ take-append-le place h.front state.pending (omega arith) in
         let same : feeds_in (take place bytes) ≡ feeds_in (take place h.front) = ap feeds_in front in
         let lines : length (lines_of h.front) ≤ feeds_in (take place h.front) + 1 = lines_within h.front place (omega arith) in
         by_many place sound same lines (cases_lt (feeds_in (take place bytes)) MAX_LINES)
       where
-        by_many : (place : ℕ) → HasNoFault bytes place → feeds_in (take place bytes) ≡ feeds_in (take place h.front) → length (lines_of h.front) ≤ feeds_in (take place h.front) + 1 → (feeds_in (take place bytes) < MAX_LINES) ⊎ (MAX_LINES ≤ feeds_in (take place bytes)) → state.given ≤ MAX_LINES
+        by_many : (place : ℕ) → HasNoLineFault bytes place → feeds_in (take place bytes) ≡ feeds_in (take place h.front) → length (lines_of h.front) ≤ feeds_in (take place h.front) + 1 → (feeds_in (take place bytes) < MAX_LINES) ⊎ (MAX_LINES ≤ feeds_in (take place bytes)) → state.given ≤ MAX_LINES
         by_many place sound same lines (inl few) = omega (arith, h.lines)
         by_many place sound same lines (inr many) = absurd (sound.1 many)

@@ -18,8 +18,8 @@ abbrev pub tree_told : List ℕ → Data
 tree_told bytes = unwrap_or (tree_of bytes) null
 
 -- a text is one of these
-abbrev pub is_among : List ℕ → List (Bor (List ℕ)) → Bool
-is_among text names = list_any (λ name. bytes_eq text name.now) names
+abbrev pub is_text_among : List ℕ → List (Bor (List ℕ)) → Bool
+is_text_among text names = list_any (λ name. bytes_eq text name.now) names
 
 -- every member has one of these names
 abbrev pub names_only : List (List ℕ) → Members → Bool

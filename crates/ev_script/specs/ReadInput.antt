@@ -15,7 +15,7 @@ use Rattle.ev_script.specs.declared.forms.Settings.{Settings}
 use Rattle.ev_script.specs.declared.read_input.ReadLines.{ReadLines}
 use Rattle.ev_script.specs.Faults.{LineForms, Input, index_at, BeginsJournal, Stands, IsFaultOf, HasNoFault}
 use Rattle.ev_script.specs.Content.{first_content}
-use Rattle.ev_script.specs.ReadLines.{AreRead, AreKept}
+use Rattle.ev_script.specs.ReadLines.{AreRead, AreLinesKept}
 
 -- the input, as far as it was taken
 abbrev pub input_of : Bool → LinesState → List ℕ → Input
@@ -66,7 +66,7 @@ through_journal (Some text) = 2
 pub record IsReadOf {A : Type 0} (forms : LineForms) (keeps : Profile → ℕ → Data → A → Type 0) (input : Input) (read : ReadLines A) : Type 0 where
   pub heading : slice_index_or (lines_of input.bytes) 0 [] ≡ read.heading.items
   pub lines : AreRead forms input.audit (lines_of input.bytes) read.settings (length read.kept.items + 1)
-  pub kept : AreKept (keeps read.settings.profile) (lines_of input.bytes) read.kept.items
+  pub kept : AreLinesKept (keeps read.settings.profile) (lines_of input.bytes) read.kept.items
   pub ends : EndsBefore forms input (length read.kept.items + 1) read.journal
 
 -- what an answer means

@@ -13,5 +13,5 @@ pub record AreRead (forms : LineForms) (audit : Bool) (texts : List (List ℕ)) 
   pub others : (i : ℕ) → 0 < i → i < n → IsLineOf forms audit settings (i + 1) (tree_of (slice_index_or texts i []))
 
 -- this is kept of the lines after the first, one after another
-abbrev pub AreKept : {A : Type 0} → (ℕ → Data → A → Type 0) → List (List ℕ) → List A → Type 0
-AreKept keeps texts kept = (i : ℕ) (other : _) → i < length kept → IsKeptOf keeps (i + 2) (tree_of (slice_index_or texts (i + 1) [])) (slice_index_or kept i other)
+abbrev pub AreLinesKept : {A : Type 0} → (ℕ → Data → A → Type 0) → List (List ℕ) → List A → Type 0
+AreLinesKept keeps texts kept = (i : ℕ) (other : _) → i < length kept → IsKeptOf keeps (i + 2) (tree_of (slice_index_or texts (i + 1) [])) (slice_index_or kept i other)

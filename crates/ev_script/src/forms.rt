@@ -58,8 +58,9 @@ pub trait Forms {
         text: &[u8],
         tree: Value,
     ) -> Result<Option<FormedLine<Self::Kept>>, AllocError>
-        requires text { tree_of text.now ≡ Some (view tree) }
-        ensures line { IfOk result (λ line. option_map (λ line. line.worker) line ≡ forms.lines profile at (view tree)) }
+        requires reads { tree_of text.now ≡ Some (view tree) }
+        ensures line { IfOk result (λ line. option_map (λ line. line.worker) line
+            ≡ forms.lines profile at (view tree)) }
         ensures kept { IfOk result (λ line. IfSome line (λ line. keeps profile at (view tree) line.kept)) };
 }
 

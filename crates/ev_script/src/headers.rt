@@ -137,7 +137,8 @@ fn headers_in(
 
 // One header more.
 fn add(alloc: Global, headers: &mut HeaderMap, name: &str, text: &str) -> Result<(), AllocError>
-    ensures { OnOk result (headers.new.entries ≡ with_header (str_to_ascii_lowercase name.now) text.now headers.old.entries) }
+    ensures { OnOk result (headers.new.entries
+        ≡ with_header (str_to_ascii_lowercase name.now) text.now headers.old.entries) }
 {
     let name = HeaderName::new(alloc, name)?;
     if is_member_of_ask(name.as_str()) {

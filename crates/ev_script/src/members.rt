@@ -4,7 +4,7 @@ ghost use Rattle.std.specs.List.{list_all};
 ghost use Rattle.serde_json.specs.Find.{as_str, as_bool};
 ghost use Rattle.serde_json.specs.View.{view, items_view};
 ghost use Rattle.ev_types.specs.declared.limits.TheConstants.{MAX_NAME_LENGTH};
-ghost use Rattle.ev_script.specs.Members.{tree_of, is_among, has_only, whole_within, text_within, name_of, texts_of, texts_in, member_of, member_or, is_op};
+ghost use Rattle.ev_script.specs.Members.{tree_of, is_text_among, has_only, whole_within, text_within, name_of, texts_of, texts_in, member_of, member_or, is_op};
 
 use ev_types::{MAX_NAME_LENGTH, Name, NameError, Seq, Text};
 use serde_json::{Map, Value};
@@ -43,14 +43,14 @@ pub fn has_only(tree: &Value, names: &[&str]) -> bool
 
 // Whether each member has one of these names.
 fn are_among(members: &Map<String, Value>, names: &[&str]) -> bool
-    ensures { result ≡ list_all (λ key. is_among (string_bytes key) names.now) (keys members.now) }
+    ensures { result ≡ list_all (λ key. is_text_among (string_bytes key) names.now) (keys members.now) }
 {
     members.keys().all(|key| is_among(key.as_str(), names))
 }
 
 // Whether a text is one of these.
 fn is_among(text: &str, names: &[&str]) -> bool
-    ensures { result ≡ is_among text.now names.now }
+    ensures { result ≡ is_text_among text.now names.now }
 {
     names.iter().any(|name| text == *name)
 }

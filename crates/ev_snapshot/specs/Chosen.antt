@@ -16,13 +16,13 @@ use Rattle.ev_model.specs.declared.pictures.ServedCluster.{ServedCluster}
 use Rattle.ev_snapshot.specs.Tables.{cluster_numbered}
 
 -- the host at a place of a cluster, if there is one
-abbrev pub host_in : Option ServedCluster → ℕ → Option Host
-host_in None place = None
-host_in (Some cluster) place = option_map (λ (r : HostRowParts). r.host) (slice_get cluster.hosts place)
+abbrev pub placed_host : Option ServedCluster → ℕ → Option Host
+placed_host None place = None
+placed_host (Some cluster) place = option_map (λ (r : HostRowParts). r.host) (slice_get cluster.hosts place)
 
 -- the host at a place of the first cluster of this number
 abbrev pub host_of : Picture → ℕ → ℕ → Option Host
-host_of picture number place = host_in (cluster_numbered picture.shown.clusters number) place
+host_of picture number place = placed_host (cluster_numbered picture.shown.clusters number) place
 
 -- the numbers of the generations that a choice names
 abbrev pub numbers_named : Choice → List ℕ

@@ -61,7 +61,8 @@ impl<'a> Criteria<'a> {
 
     // Whether one of these chains is left and asks for a source.
     fn any_leaves_source(&self, chains: &[RoutedChain]) -> bool
-        ensures { result ≡ list_any (λ (c : ServedChain). is_left self.now c.criteria && c.criteria.asks_source) chains.now }
+        ensures { result ≡ list_any (λ (c : ServedChain). is_left self.now c.criteria
+            && c.criteria.asks_source) chains.now }
     {
         chains.iter().any(|chain| self.leaves_source(chain))
     }
@@ -109,7 +110,8 @@ impl<'a> Criteria<'a> {
     // Whether one of these chains is left and asks for a value.
     fn any_asks<V: Criterion>(&self, chains: &[RoutedChain], value: &V) -> bool
         ensures { result ≡ list_any
-            (λ (c : ServedChain). is_left self.now c.criteria && has_value V.same (V.values c.criteria) value.now) chains.now }
+            (λ (c : ServedChain). is_left self.now c.criteria
+            && has_value V.same (V.values c.criteria) value.now) chains.now }
     {
         chains.iter().any(|chain| self.asks(chain, value))
     }
@@ -152,7 +154,8 @@ impl<'a> Criteria<'a> {
 
     // Whether one of these chains is left and asks for a range.
     fn any_asks_range(&self, chains: &[RoutedChain]) -> bool
-        ensures { result ≡ list_any (λ (c : ServedChain). is_left self.now c.criteria && asks_range c.criteria) chains.now }
+        ensures { result ≡ list_any (λ (c : ServedChain). is_left self.now c.criteria
+            && asks_range c.criteria) chains.now }
     {
         chains.iter().any(|chain| self.asks_range(chain))
     }
@@ -194,7 +197,8 @@ impl<'a> Criteria<'a> {
 
     // The name, or else a star and the longest of its endings from a dot on, that a chain asks for.
     fn name_wanted(&self, chains: &[RoutedChain], name: &'a [u8]) -> Wanted<ServerName<'a>>
-        ensures { result ≡ wanted_of (first_name self.now chains.now (names_brought (str_to_ascii_lowercase name.now))) }
+        ensures { result ≡ wanted_of (first_name self.now chains.now
+            (names_brought (str_to_ascii_lowercase name.now))) }
     {
         if name.is_empty() {
             return Wanted::Nothing;
@@ -208,7 +212,8 @@ impl<'a> Criteria<'a> {
 
     // A star and the longest of a name's endings from a later dot on that a chain asks for.
     fn ending_wanted(&self, chains: &[RoutedChain], name: &'a [u8]) -> Wanted<ServerName<'a>>
-        ensures { result ≡ wanted_of (first_name self.now chains.now (wildcards (drop 1 (str_to_ascii_lowercase name.now)))) }
+        ensures { result ≡ wanted_of (first_name self.now chains.now
+            (wildcards (drop 1 (str_to_ascii_lowercase name.now)))) }
     {
         for place in 1..name.len() {
             let (_, rest) = name.split_at(place);

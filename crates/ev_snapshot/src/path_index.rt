@@ -75,7 +75,8 @@ impl PathIndex {
         requires index { IsIndexed routes.now self.now }
         requires bare { bare.now ≡ without_query path.now }
         ensures { result
-            ≡ position_or_len (λ (r : Route). is_covered [] (path_of r) && is_path_taken path.now (path_of r)) routes.now }
+            ≡ position_or_len (λ (r : Route). is_covered [] (path_of r)
+            && is_path_taken path.now (path_of r)) routes.now }
     {
         self.first_with(routes, &PathText::new(WHOLE, bare))
     }

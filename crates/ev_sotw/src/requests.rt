@@ -46,7 +46,8 @@ fn put_text(alloc: Global, members: &mut Members, key: &str, text: &str) -> Resu
 
 // Puts the names that are asked for, where there are any.
 fn put_names(alloc: Global, members: &mut Members, names: &NameSet) -> Result<(), AllocError>
-    ensures { OnOk result (Puts (with_names (codes "resourceNames") names.now) members.old.entries members.new.entries) }
+    ensures { OnOk result (Puts (with_names (codes "resourceNames") names.now) members.old.entries
+        members.new.entries) }
 {
     let values = names.values(alloc)?;
     if values.len() != 0 {

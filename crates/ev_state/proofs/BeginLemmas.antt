@@ -13,7 +13,7 @@ use Rattle.ev_model.specs.Phase.{is_serving, clusters_have_come, listeners_have_
 use Rattle.ev_model.specs.Tidy.{with_phase}
 use Rattle.ev_generations.specs.Tables.{row_in, numbers_of}
 use Rattle.ev_indexes.specs.declared.state.State.{State}
-use Rattle.ev_indexes.specs.Due.{is_among}
+use Rattle.ev_indexes.specs.Due.{is_one_of}
 use Rattle.ev_indexes.specs.Reads.{live_rows}
 use Rattle.ev_indexes.specs.Shown.{listener_shown}
 use Rattle.ev_indexes.specs.Worlds.{rows_of_kind}
@@ -32,7 +32,7 @@ stays_serving c l Serving h = refl
 
 -- a number that no live listener has is shown in neither phase
 dead_hidden : (n : ℕ) (listeners : State) (world : World) → listeners.table.rows ≡ rows_of_kind Lds world.rows → IsDistinct nat_eq (numbers_of world.rows)
-    → is_among (numbers_of (live_rows listeners.table.rows)) n ≡ false → listener_shown world.arrivals (row_in n world.rows) ≡ None
+    → is_one_of (numbers_of (live_rows listeners.table.rows)) n ≡ false → listener_shown world.arrivals (row_in n world.rows) ≡ None
 dead_hidden n listeners world are apart none = listener-served world.arrivals (row_in n world.rows) ∙ by (serving Lds (row_in n world.rows)) refl
   where
     by : (found : Option GenRow) → serving Lds (row_in n world.rows) ≡ found → option_and_then (first_served world.arrivals) found ≡ None
@@ -43,7 +43,7 @@ dead_hidden n listeners world are apart none = listener-served world.arrivals (r
         ∙ among-where (λ (r : GenRow). is_live r.status) n row listeners.table.rows (served-at Lds n row world.rows listeners.table.rows apart are at) (active-live row.status served.active)))
 
 pub begun-changed : (changed : List ℕ) (listeners : State) (world : World) → listeners.table.rows ≡ rows_of_kind Lds world.rows → IsDistinct nat_eq (numbers_of world.rows)
-    → ((n : ℕ) → is_among changed n ≡ false → is_among (listeners_begun world.phase (phase_after world) listeners) n ≡ false)
+    → ((n : ℕ) → is_one_of changed n ≡ false → is_one_of (listeners_begun world.phase (phase_after world) listeners) n ≡ false)
     → HaveChanged changed world (with_phase world)
 begun-changed changed listeners world are apart told = record {
   clusters = λ n other. refl;
@@ -51,7 +51,7 @@ begun-changed changed listeners world are apart told = record {
       by n (is_serving world.phase) (is_serving (phase_after world)) (told n other) (stays_serving (clusters_have_come world) (listeners_have_come world) world.phase);
 }
   where
-    by : (n : ℕ) (b c : Bool) → is_among (cond (not b && c) (numbers_of (live_rows listeners.table.rows)) []) n ≡ false → (b ≡ true → c ≡ true)
+    by : (n : ℕ) (b c : Bool) → is_one_of (cond (not b && c) (numbers_of (live_rows listeners.table.rows)) []) n ≡ false → (b ≡ true → c ≡ true)
         → cond c (listener_shown world.arrivals (row_in n world.rows)) None ≡ cond b (listener_shown world.arrivals (row_in n world.rows)) None
     by n true true none stays = refl
     by n true false none stays = absurd (false≢true (stays refl))

@@ -12,7 +12,7 @@ use Rattle.ev_model.specs.Watching.{dependencies_of}
 use Rattle.ev_model_laws.proofs.AnyLemmas.{or_so, any_so}
 use Rattle.ev_generations.specs.Tables.{IsTable, row_in}
 use Rattle.ev_generations.proofs.TableLemmas.{number-row_in}
-use Rattle.ev_indexes.specs.Due.{is_among}
+use Rattle.ev_indexes.specs.Due.{is_one_of}
 use Rattle.ev_warming.specs.Changes.{is_over, has_retired}
 use Rattle.ev_indexes.specs.Indexes.{depends_on}
 use Rattle.ev_indexes.specs.Reads.{names_watched, names_needed}
@@ -39,7 +39,7 @@ pick Q p (x ∷ xs) all any = by (p x) refl any (pick Q p xs all.1)
     by false isnt any rest = rest any
 
 -- a number that passes is there
-pick_number : (p : ℕ → Bool) (ns : List ℕ) → list_any p ns ≡ true → Passing (λ n. is_among ns n ≡ true) p
+pick_number : (p : ℕ → Bool) (ns : List ℕ) → list_any p ns ≡ true → Passing (λ n. is_one_of ns n ≡ true) p
 pick_number p [] any = absurd (false≢true any)
 pick_number p (n ∷ ns) any = by (p n) refl any (pick_number p ns)
   where
@@ -47,8 +47,8 @@ pick_number p (n ∷ ns) any = by (p n) refl any (pick_number p ns)
     or_true true = refl
     or_true false = refl
 
-    by : (b : Bool) → p n ≡ b → (b || list_any p ns) ≡ true → (list_any p ns ≡ true → Passing (λ m. is_among ns m ≡ true) p) → Passing (λ m. is_among (n ∷ ns) m ≡ true) p
-    by true is any rest = record { one = n; so = ap (λ b. b || is_among ns n) (eq-eqb n n refl); passes = is }
+    by : (b : Bool) → p n ≡ b → (b || list_any p ns) ≡ true → (list_any p ns ≡ true → Passing (λ m. is_one_of ns m ≡ true) p) → Passing (λ m. is_one_of (n ∷ ns) m ≡ true) p
+    by true is any rest = record { one = n; so = ap (λ b. b || is_one_of ns n) (eq-eqb n n refl); passes = is }
     by false isnt any rest =
         let other = rest any in
         record { one = other.one; so = ap (λ b. nat_eq other.one n || b) other.so ∙ or_true (nat_eq other.one n); passes = other.passes }
@@ -67,28 +67,28 @@ any_found p number row (r ∷ rs) at is = by (nat_eq number r.number) at (λ res
     by true here rest = or_left (p r) (list_any p rs) (ap p (same here) ∙ is)
     by false here rest = or_right (p r) (list_any p rs) (rest here)
 
-any_number : (p : ℕ → Bool) (n : ℕ) (ns : List ℕ) → is_among ns n ≡ true → p n ≡ true → list_any p ns ≡ true
+any_number : (p : ℕ → Bool) (n : ℕ) (ns : List ℕ) → is_one_of ns n ≡ true → p n ≡ true → list_any p ns ≡ true
 any_number p n [] there is = absurd (false≢true there)
 any_number p n (m ∷ ms) there is = by (nat_eq n m) refl there (λ rest. any_number p n ms rest is)
   where
-    by : (b : Bool) → nat_eq n m ≡ b → (b || is_among ms n) ≡ true → (is_among ms n ≡ true → list_any p ms ≡ true) → (p m || list_any p ms) ≡ true
+    by : (b : Bool) → nat_eq n m ≡ b → (b || is_one_of ms n) ≡ true → (is_one_of ms n ≡ true → list_any p ms ≡ true) → (p m || list_any p ms) ≡ true
     by true same there rest = or_left (p m) (list_any p ms) (ap p (sym (eqb-true n m same)) ∙ is)
     by false other there rest = or_right (p m) (list_any p ms) (rest there)
 
 -- the numbers behind this one, so many of them
-behind : (made count number : ℕ) → made < number → number ≤ made + count → is_among (numbers_after made count) number ≡ true
+behind : (made count number : ℕ) → made < number → number ≤ made + count → is_one_of (numbers_after made count) number ≡ true
 behind made zero number low high = absurd (omega arith)
 behind made (suc count) number low high =
     list_any-append (nat_eq number) (numbers_after made count) ((made + suc count) ∷ [])
     ∙ by (nat_le number (made + count)) refl (behind made count number low)
   where
-    by : (b : Bool) → nat_le number (made + count) ≡ b → (number ≤ made + count → is_among (numbers_after made count) number ≡ true)
-        → (is_among (numbers_after made count) number || (nat_eq number (made + suc count) || false)) ≡ true
-    by true is rest = or_left (is_among (numbers_after made count) number) (nat_eq number (made + suc count) || false) (rest (leb-true number (made + count) is))
+    by : (b : Bool) → nat_le number (made + count) ≡ b → (number ≤ made + count → is_one_of (numbers_after made count) number ≡ true)
+        → (is_one_of (numbers_after made count) number || (nat_eq number (made + suc count) || false)) ≡ true
+    by true is rest = or_left (is_one_of (numbers_after made count) number) (nat_eq number (made + suc count) || false) (rest (leb-true number (made + count) is))
     by false isnt rest =
         let above : made + count < number = leb-false number (made + count) isnt in
         let last : number ≡ made + suc count = omega arith in
-        or_right (is_among (numbers_after made count) number) (nat_eq number (made + suc count) || false) (or_left (nat_eq number (made + suc count)) false (eq-eqb number (made + suc count) last))
+        or_right (is_one_of (numbers_after made count) number) (nat_eq number (made + suc count) || false) (or_left (nat_eq number (made + suc count)) false (eq-eqb number (made + suc count) last))
 
 not_true : (b : Bool) → not b ≡ true → b ≡ false
 not_true true h = sym h
@@ -113,8 +113,8 @@ abbrev IsAt : List GenRow → GenRow → Type 0
 IsAt rows row = row_in row.number rows ≡ Some row
 
 module _ (before after : List GenRow) (made drawn : ℕ) (first : IsTable (record { rows = before; made = made })) (second : IsTable (record { rows = after; made = drawn }))
-    (later : AreLater made before after) (retired : List ℕ) (told : (number : ℕ) → has_retired number before after ≡ true → is_among retired number ≡ true)
-    (back : (number : ℕ) (row : GenRow) → row_in number after ≡ Some row → is_among retired number ≡ true → has_retired number before after ≡ true) where
+    (later : AreLater made before after) (retired : List ℕ) (told : (number : ℕ) → has_retired number before after ≡ true → is_one_of retired number ≡ true)
+    (back : (number : ℕ) (row : GenRow) → row_in number after ≡ Some row → is_one_of retired number ≡ true → has_retired number before after ≡ true) where
   abbrev first_watcher : List ℕ → GenRow → Bool
   first_watcher name row = nat_le row.number made && depends_on name row
 
@@ -210,7 +210,7 @@ module _ (before after : List GenRow) (made drawn : ℕ) (first : IsTable (recor
             let e = found-earlier made other.number other before after later (leb-true other.number made parts.0) at in
             found other.number e.row other e.at e.so (was_live e.row other e.so needs.0 (is_live e.row.status) refl) needs.1
 
-        gone : (n : ℕ) (o : Option GenRow) → row_in n after ≡ o → n ≤ made → needs_it name o ≡ true → is_among retired n ≡ true
+        gone : (n : ℕ) (o : Option GenRow) → row_in n after ≡ o → n ≤ made → needs_it name o ≡ true → is_one_of retired n ≡ true
             → list_any (depends_on name) before ≡ true
         gone n None at low needs there = absurd (false≢true needs)
         gone n (Some other) at low needs there =
@@ -219,7 +219,7 @@ module _ (before after : List GenRow) (made drawn : ℕ) (first : IsTable (recor
             found n e.row other e.at e.so
             (not_false (is_live e.row.status) ((λ i. is_over (sym e.at i)) ∙ not_true (is_over (row_in n before)) lived)) needs
 
-        left_by : (n : ℕ) → is_among retired n ≡ true → leaves name n ≡ true → list_any (depends_on name) before ≡ true
+        left_by : (n : ℕ) → is_one_of retired n ≡ true → leaves name n ≡ true → list_any (depends_on name) before ≡ true
         left_by n there passes =
             let parts = and_parts (nat_le n made) (needs_it name (row_in n after)) passes in
             gone n (row_in n after) refl (leb-true n made parts.0) parts.1 there

@@ -19,7 +19,7 @@ use Rattle.ev_model.specs.Warming.{value_by, assignment_by}
 use Rattle.ev_model.specs.Watching.{has_dependency}
 use Rattle.ev_generations.specs.Tables.{row_in, numbers_of}
 use Rattle.ev_indexes.specs.declared.state.State.{State}
-use Rattle.ev_indexes.specs.Due.{is_among}
+use Rattle.ev_indexes.specs.Due.{is_one_of}
 use Rattle.ev_warming.specs.Changes.{has_retired}
 use Rattle.ev_indexes.specs.Worlds.{needs_of, rows_of_kind}
 use Rattle.ev_indexes.specs.Indexes.{numbers_waiting}
@@ -38,10 +38,10 @@ pub or_none : (a b : Bool) → (a || b) ≡ false → (a ≡ false) × (b ≡ fa
 or_none true b h = absurd (false≢true (sym h))
 or_none false b h = (refl, h)
 
-pub none-of : (xs ys : List ℕ) (n : ℕ) → is_among (xs ++ ys) n ≡ false → (is_among xs n ≡ false) × (is_among ys n ≡ false)
-none-of xs ys n h = or_none (is_among xs n) (is_among ys n) (sym (list_any-append (nat_eq n) xs ys) ∙ h)
+pub none-of : (xs ys : List ℕ) (n : ℕ) → is_one_of (xs ++ ys) n ≡ false → (is_one_of xs n ≡ false) × (is_one_of ys n ≡ false)
+none-of xs ys n h = or_none (is_one_of xs n) (is_one_of ys n) (sym (list_any-append (nat_eq n) xs ys) ∙ h)
 
-none_of_each : {A : Type 0} (f : A → List ℕ) (n : ℕ) (xs : List A) → is_among (flat_map f xs) n ≡ false → AllByRecursion (λ x. is_among (f x) n ≡ false) xs
+none_of_each : {A : Type 0} (f : A → List ℕ) (n : ℕ) (xs : List A) → is_one_of (flat_map f xs) n ≡ false → AllByRecursion (λ x. is_one_of (f x) n ≡ false) xs
 none_of_each f n [] h = tt
 none_of_each f n (x ∷ xs) h = let parts = none-of (f x) (flat_map f xs) n h in (parts.0, none_of_each f n xs parts.1)
 
@@ -55,29 +55,29 @@ served-at kind n row rows mine apart are at =
 
 -- and its number is among those of what depends on a name
 depended : (kind : Kind) (n : ℕ) (row : GenRow) (rows mine : List GenRow) (q : List ℕ) → IsDistinct nat_eq (numbers_of rows) → mine ≡ rows_of_kind kind rows
-    → serving kind (row_in n rows) ≡ Some row → has_dependency (needs_of kind) q row.content ≡ true → is_among (numbers_waiting mine q) n ≡ true
+    → serving kind (row_in n rows) ≡ Some row → has_dependency (needs_of kind) q row.content ≡ true → is_one_of (numbers_waiting mine q) n ≡ true
 depended kind n row rows mine q apart are at needs =
     let served = served-is kind (row_in n rows) row at in
     among-depends q n row mine (served-at kind n row rows mine apart are at)
     (λ i. active-live row.status served.active i && has_dependency-needs (needs_of kind) q row.content needs i)
 
 -- so it depends on no name whose dependents don't have its number
-apart_from : (name q : List ℕ) (n : ℕ) (rows : List GenRow) → is_among (numbers_waiting rows q) n ≡ true → is_among (numbers_waiting rows name) n ≡ false → bytes_eq name q ≡ false
+apart_from : (name q : List ℕ) (n : ℕ) (rows : List GenRow) → is_one_of (numbers_waiting rows q) n ≡ true → is_one_of (numbers_waiting rows name) n ≡ false → bytes_eq name q ≡ false
 apart_from name q n rows among none = by (bytes_eq name q) refl
   where
     by : (b : Bool) → bytes_eq name q ≡ b → b ≡ false
-    by true is = absurd (false≢true (sym none ∙ (λ i. is_among (numbers_waiting rows ((bytes_decide name q).0 is i)) n) ∙ among))
+    by true is = absurd (false≢true (sym none ∙ (λ i. is_one_of (numbers_waiting rows ((bytes_decide name q).0 is i)) n) ∙ among))
     by false isnt = refl
 
-cluster_apart : (clusters listeners : State) (kind : Kind) (name q : List ℕ) (n : ℕ) → is_among (numbers_waiting clusters.table.rows q) n ≡ true
-    → is_among (dependents_in clusters listeners kind name) n ≡ false → (kind_same kind Eds && bytes_eq name q) ≡ false
+cluster_apart : (clusters listeners : State) (kind : Kind) (name q : List ℕ) (n : ℕ) → is_one_of (numbers_waiting clusters.table.rows q) n ≡ true
+    → is_one_of (dependents_in clusters listeners kind name) n ≡ false → (kind_same kind Eds && bytes_eq name q) ≡ false
 cluster_apart clusters listeners Cds name q n among none = refl
 cluster_apart clusters listeners Eds name q n among none = apart_from name q n clusters.table.rows among none
 cluster_apart clusters listeners Lds name q n among none = refl
 cluster_apart clusters listeners Rds name q n among none = refl
 
-listener_apart : (clusters listeners : State) (kind : Kind) (name q : List ℕ) (n : ℕ) → is_among (numbers_waiting listeners.table.rows q) n ≡ true
-    → is_among (dependents_in clusters listeners kind name) n ≡ false → (kind_same kind Rds && bytes_eq name q) ≡ false
+listener_apart : (clusters listeners : State) (kind : Kind) (name q : List ℕ) (n : ℕ) → is_one_of (numbers_waiting listeners.table.rows q) n ≡ true
+    → is_one_of (dependents_in clusters listeners kind name) n ≡ false → (kind_same kind Rds && bytes_eq name q) ≡ false
 listener_apart clusters listeners Cds name q n among none = refl
 listener_apart clusters listeners Eds name q n among none = refl
 listener_apart clusters listeners Lds name q n among none = refl
@@ -97,12 +97,12 @@ first_arrivals Rds names world = refl
 module _ (changed : List ℕ) (clusters listeners : State) (before after : World)
     (of_clusters : clusters.table.rows ≡ rows_of_kind Cds before.rows) (of_listeners : listeners.table.rows ≡ rows_of_kind Lds before.rows)
     (apart : IsDistinct nat_eq (numbers_of before.rows)) (apart_after : IsDistinct nat_eq (numbers_of after.rows))
-    (retired : (n : ℕ) → is_among changed n ≡ false → has_retired n (rows_of_kind Cds before.rows) (rows_of_kind Cds after.rows) ≡ false)
-    (retired_too : (n : ℕ) → is_among changed n ≡ false → has_retired n (rows_of_kind Lds before.rows) (rows_of_kind Lds after.rows) ≡ false) where
+    (retired : (n : ℕ) → is_one_of changed n ≡ false → has_retired n (rows_of_kind Cds before.rows) (rows_of_kind Cds after.rows) ≡ false)
+    (retired_too : (n : ℕ) → is_one_of changed n ≡ false → has_retired n (rows_of_kind Lds before.rows) (rows_of_kind Lds after.rows) ≡ false) where
   -- an event after which each value that a generation of another number depends on is what it was
   by_values : Enters before after
-      → ((n : ℕ) (q : List ℕ) → is_among changed n ≡ false → is_among (numbers_waiting clusters.table.rows q) n ≡ true → value_by after.arrivals Eds q ≡ value_by before.arrivals Eds q)
-      → ((n : ℕ) (q : List ℕ) → is_among changed n ≡ false → is_among (numbers_waiting listeners.table.rows q) n ≡ true → value_by after.arrivals Rds q ≡ value_by before.arrivals Rds q)
+      → ((n : ℕ) (q : List ℕ) → is_one_of changed n ≡ false → is_one_of (numbers_waiting clusters.table.rows q) n ≡ true → value_by after.arrivals Eds q ≡ value_by before.arrivals Eds q)
+      → ((n : ℕ) (q : List ℕ) → is_one_of changed n ≡ false → is_one_of (numbers_waiting listeners.table.rows q) n ≡ true → value_by after.arrivals Rds q ≡ value_by before.arrivals Rds q)
       → AreSame changed before after
   by_values enters endpoints routes = record {
     clusters = record {
@@ -122,18 +122,18 @@ module _ (changed : List ℕ) (clusters listeners : State) (before after : World
   -- a response, where these numbers have the dependents of each of its names
   pub entered-same : (kind : Kind) (verdicts : List Verdict) (response : ResponseParts) (names : List (List ℕ))
       → after ≡ with_first kind names (add_items kind verdicts response.items (with_removals kind response before))
-      → ((n : ℕ) → is_among changed n ≡ false → is_among (dependents_of clusters listeners kind response.items) n ≡ false)
+      → ((n : ℕ) → is_one_of changed n ≡ false → is_one_of (dependents_of clusters listeners kind response.items) n ≡ false)
       → AreSame changed before after
   entered-same kind verdicts response names leads told =
       by_values (subst (λ (w : World). Enters before w) (sym leads) (response-enters kind verdicts response names before))
       (λ n q other among.
-      same Eds q (all_items (λ item. is_among (dependents_in clusters listeners kind item.name) n ≡ false) (IsOther kind Eds q)
+      same Eds q (all_items (λ item. is_one_of (dependents_in clusters listeners kind item.name) n ≡ false) (IsOther kind Eds q)
       (λ item none. cluster_apart clusters listeners kind item.name q n among none) response.items (each n other)))
       (λ n q other among.
-      same Rds q (all_items (λ item. is_among (dependents_in clusters listeners kind item.name) n ≡ false) (IsOther kind Rds q)
+      same Rds q (all_items (λ item. is_one_of (dependents_in clusters listeners kind item.name) n ≡ false) (IsOther kind Rds q)
       (λ item none. listener_apart clusters listeners kind item.name q n among none) response.items (each n other)))
     where
-      each : (n : ℕ) → is_among changed n ≡ false → AllByRecursion (λ (item : ItemParts). is_among (dependents_in clusters listeners kind item.name) n ≡ false) response.items
+      each : (n : ℕ) → is_one_of changed n ≡ false → AllByRecursion (λ (item : ItemParts). is_one_of (dependents_in clusters listeners kind item.name) n ≡ false) response.items
       each n other = none_of_each (λ (item : ItemParts). dependents_in clusters listeners kind item.name) n response.items (told n other)
 
       same : (k : Kind) (q : List ℕ) → AllByRecursion (IsOther kind k q) response.items → value_by after.arrivals k q ≡ value_by before.arrivals k q
@@ -144,7 +144,7 @@ module _ (changed : List ℕ) (clusters listeners : State) (before after : World
 
   -- the end of a resource, where they have the dependents of its name
   pub ended-same : (kind : Kind) (name : List ℕ) → after ≡ with_end kind name (forget_version kind name before)
-      → ((n : ℕ) → is_among changed n ≡ false → is_among (dependents_in clusters listeners kind name) n ≡ false)
+      → ((n : ℕ) → is_one_of changed n ≡ false → is_one_of (dependents_in clusters listeners kind name) n ≡ false)
       → AreSame changed before after
   ended-same kind name leads told =
       by_values (subst (λ (w : World). Enters before w) (sym leads) (end-enters kind name before))

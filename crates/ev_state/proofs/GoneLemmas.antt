@@ -15,7 +15,7 @@ use Rattle.ev_generations.proofs.TableLemmas.{without_row-absent}
 use Rattle.ev_warming.specs.Changes.{is_over}
 use Rattle.ev_indexes.proofs.RowLemmas.{found-of_kind}
 use Rattle.ev_managers.specs.declared.managers.Managers.{Managers}
-use Rattle.ev_managers.specs.Managers.{AreForgotten, AreKept, StandFor, manager_of, rows_of}
+use Rattle.ev_managers.specs.Managers.{AreForgotten, AreManagersKept, StandFor, manager_of, rows_of}
 use Rattle.ev_state.specs.declared.state.State.{State}
 use Rattle.ev_state.specs.States.{ManagesAt, over_in, where_over, without_over}
 use Rattle.ev_state.proofs.AgeLemmas.{later-same}
@@ -75,7 +75,7 @@ live_stay n (row ∷ rows) = by (nat_eq n row.number) (is_live row.status) refl 
     by false false isnt rest = (λ i. cond (isnt i) (row ∷ lives (without_over n rows)) (lives (without_over n rows))) ∙ rest
 
 -- after a removal
-pub at-removed : (s : State) (m : Managers) (n : ℕ) (world : World) → ManagesAt s world → AreKept m → AreForgotten m
+pub at-removed : (s : State) (m : Managers) (n : ℕ) (world : World) → ManagesAt s world → AreManagersKept m → AreForgotten m
     → StandFor m (record world { rows = without_over n world.rows }) → ManagesAt (record s { managers = m }) (record world { rows = without_over n world.rows })
 at-removed s m n world at kept forgotten stand =
     let after : World = record world { rows = without_over n world.rows } in
@@ -99,7 +99,7 @@ at-removed s m n world at kept forgotten stand =
 
 -- one that is over among those of its kind goes
 pub one-goes : (s : State) (m : Managers) (kind : Kind) (n : ℕ) (world : World) → ManagesAt s world
-    → is_over (row_in n (manager_of s.managers kind).state.table.rows) ≡ true → AreKept m → AreForgotten m → StandFor m (record world { rows = without_row n world.rows })
+    → is_over (row_in n (manager_of s.managers kind).state.table.rows) ≡ true → AreManagersKept m → AreForgotten m → StandFor m (record world { rows = without_row n world.rows })
     → ManagesAt (record s { managers = m }) (record world { rows = without_over n world.rows })
 one-goes s m kind n world at over kept forgotten stand =
     let apart = at.follows.sound.table.apart in
@@ -128,13 +128,13 @@ nothing-goes s n world at clusters listeners =
     (sym (over-stays n world.rows at.follows.sound.table.apart (nothing-over s n world at clusters listeners))) at
 
 -- a cluster that is found is the world's generation of its number
-pub cluster-row : (m : Managers) (n : ℕ) (row : GenRow) (world : World) → AreKept m → StandFor m world → row_in n m.clusters.state.table.rows ≡ Some row
+pub cluster-row : (m : Managers) (n : ℕ) (row : GenRow) (world : World) → AreManagersKept m → StandFor m world → row_in n m.clusters.state.table.rows ≡ Some row
     → row_in n world.rows ≡ Some row
 cluster-row m n row world kept stand at =
     found-of_kind Cds n row world.rows stand.clusters.sound.table.apart ((λ i. row_in n (sym (rows-are m Cds world kept stand) i)) ∙ at)
 
 -- and where none is found, it is a listener
-pub listener-row : (m : Managers) (n : ℕ) (world : World) → AreKept m → StandFor m world → AreWhole world.rows → row_in n m.clusters.state.table.rows ≡ None
+pub listener-row : (m : Managers) (n : ℕ) (world : World) → AreManagersKept m → StandFor m world → AreWhole world.rows → row_in n m.clusters.state.table.rows ≡ None
     → row_in n m.listeners.state.table.rows ≡ row_in n world.rows
 listener-row m n world kept stand whole none =
     let apart = stand.clusters.sound.table.apart in

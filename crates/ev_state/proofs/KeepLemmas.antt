@@ -25,7 +25,7 @@ use Rattle.ev_model.specs.Signals.{is_draining}
 use Rattle.ev_model.specs.Tidy.{status_by, has_successor, promoted_status, promoted, arrivals_watched, without_unwatched, is_result_due, without_old_results}
 use Rattle.ev_generations.specs.Tables.{row_in, numbers_of}
 use Rattle.ev_generations.proofs.TableLemmas.{row_in-with_statuses}
-use Rattle.ev_indexes.specs.Due.{is_among}
+use Rattle.ev_indexes.specs.Due.{is_one_of}
 use Rattle.ev_warming.specs.Changes.{began_to_serve, began_to_drain}
 use Rattle.ev_indexes.specs.Indexes.{status_in}
 use Rattle.ev_indexes.specs.Worlds.{needs_of, rows_of_kind}
@@ -183,8 +183,8 @@ module _ (kind : Kind) (succeeded ready : GenRow → Bool) where
 
 -- all that is due serves
 promoted_alike : (kind : Kind) (changed : List ℕ) (world : World) → IsDistinct nat_eq (numbers_of world.rows) → IsDistinct nat_eq (numbers_of (promoted world).rows)
-    → ((n : ℕ) → is_among changed n ≡ false → began_to_serve n (rows_of_kind kind world.rows) (rows_of_kind kind (promoted world).rows) ≡ false)
-    → ((n : ℕ) → is_among changed n ≡ false → began_to_drain n (rows_of_kind kind world.rows) (rows_of_kind kind (promoted world).rows) ≡ false)
+    → ((n : ℕ) → is_one_of changed n ≡ false → began_to_serve n (rows_of_kind kind world.rows) (rows_of_kind kind (promoted world).rows) ≡ false)
+    → ((n : ℕ) → is_one_of changed n ≡ false → began_to_drain n (rows_of_kind kind world.rows) (rows_of_kind kind (promoted world).rows) ≡ false)
     → AreAlike kind changed world (promoted world)
 promoted_alike kind changed world apart apart_after serve drain = record {
   rows = λ n other.
@@ -199,10 +199,10 @@ promoted_alike kind changed world apart apart_after serve drain = record {
 }
 
 pub promoted-same : (changed : List ℕ) (world : World) → IsDistinct nat_eq (numbers_of world.rows) → IsDistinct nat_eq (numbers_of (promoted world).rows)
-    → ((n : ℕ) → is_among changed n ≡ false → began_to_serve n (rows_of_kind Cds world.rows) (rows_of_kind Cds (promoted world).rows) ≡ false)
-    → ((n : ℕ) → is_among changed n ≡ false → began_to_drain n (rows_of_kind Cds world.rows) (rows_of_kind Cds (promoted world).rows) ≡ false)
-    → ((n : ℕ) → is_among changed n ≡ false → began_to_serve n (rows_of_kind Lds world.rows) (rows_of_kind Lds (promoted world).rows) ≡ false)
-    → ((n : ℕ) → is_among changed n ≡ false → began_to_drain n (rows_of_kind Lds world.rows) (rows_of_kind Lds (promoted world).rows) ≡ false)
+    → ((n : ℕ) → is_one_of changed n ≡ false → began_to_serve n (rows_of_kind Cds world.rows) (rows_of_kind Cds (promoted world).rows) ≡ false)
+    → ((n : ℕ) → is_one_of changed n ≡ false → began_to_drain n (rows_of_kind Cds world.rows) (rows_of_kind Cds (promoted world).rows) ≡ false)
+    → ((n : ℕ) → is_one_of changed n ≡ false → began_to_serve n (rows_of_kind Lds world.rows) (rows_of_kind Lds (promoted world).rows) ≡ false)
+    → ((n : ℕ) → is_one_of changed n ≡ false → began_to_drain n (rows_of_kind Lds world.rows) (rows_of_kind Lds (promoted world).rows) ≡ false)
     → AreSame changed world (promoted world)
 promoted-same changed world apart apart_after serve drain serve_too drain_too = record {
   clusters = promoted_alike Cds changed world apart apart_after serve drain;

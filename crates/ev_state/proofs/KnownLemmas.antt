@@ -17,14 +17,14 @@ use Rattle.ev_model.specs.Watching.{is_by_name, is_watched, has_dependency, depe
 use Rattle.ev_indexes.specs.declared.state.State.{State}
 use Rattle.ev_indexes.specs.Indexes.{IsIndexed}
 use Rattle.ev_indexes.specs.Reads.{live_rows}
-use Rattle.ev_indexes.specs.Worlds.{StandsFor as HasRows, needs_of}
+use Rattle.ev_indexes.specs.Worlds.{HasRows, needs_of}
 use Rattle.ev_indexes.specs.Needs.{is_needed}
 use Rattle.ev_indexes.proofs.DependencyLemmas.{has_dependency-one}
 use Rattle.ev_indexes.proofs.HolderLemmas.{holders-world}
 use Rattle.ev_indexes.proofs.NewestLemmas.{newest-world}
 use Rattle.ev_indexes.proofs.ReadLemmas.{watched-world}
 use Rattle.ev_verdicts.specs.Known.{Tells}
-use Rattle.ev_subscription.specs.Subscriptions.{SubscriptionParts, StandsFor as HasVersions}
+use Rattle.ev_subscription.specs.Subscriptions.{SubscriptionParts, HasVersions}
 use Rattle.ev_subscription.proofs.KindLemmas.{kept_is}
 use Rattle.ev_state.specs.Known.{newest_by, watched_by, answers_by}
 use Rattle.ev_state.proofs.WholeLemmas.{AreWhole}

@@ -14,11 +14,11 @@ use Rattle.ev_model.specs.Warming.{is_ready_by}
 use Rattle.ev_model.specs.Watching.{is_by_name, watched_of}
 use Rattle.ev_generations.specs.Tables.{IsTable, row_in}
 use Rattle.ev_indexes.specs.declared.state.State.{State as Part}
-use Rattle.ev_indexes.specs.Due.{is_among}
+use Rattle.ev_indexes.specs.Due.{is_one_of}
 use Rattle.ev_warming.specs.Changes.{is_over, has_retired, began_to_drain}
 use Rattle.ev_indexes.specs.Moved.{names_lost, names_gained}
 use Rattle.ev_indexes.specs.Reads.{names_watched}
-use Rattle.ev_indexes.specs.Worlds.{IsSound, StandsFor as HasRows, needs_of, rows_of_kind}
+use Rattle.ev_indexes.specs.Worlds.{HasRows, IsSound, needs_of, rows_of_kind}
 use Rattle.ev_indexes.proofs.RowLemmas.{found-of_kind}
 use Rattle.ev_indexes.proofs.ReadLemmas.{names-world}
 use Rattle.ev_warming.proofs.RemovalLemmas.{apart-filter}
@@ -26,7 +26,7 @@ use Rattle.ev_indexes.proofs.WorldLemmas.{rows_of_kind-with_statuses}
 use Rattle.ev_types.specs.Kinds.{kind_same}
 use Rattle.ev_managers.proofs.RetiredLemmas.{drained-retired, none-retired}
 use Rattle.ev_managers.specs.declared.managers.Managers.{Managers}
-use Rattle.ev_managers.specs.Managers.{AreKept, StandFor, manager_of, rows_of}
+use Rattle.ev_managers.specs.Managers.{AreManagersKept, StandFor, manager_of, rows_of}
 use Rattle.ev_managers.specs.Moved.{AreRetired, Grows, of_either}
 use Rattle.ev_managers.specs.declared.moved.Moved.{Moved}
 use Rattle.ev_managers.proofs.FrameLemmas.{kept-of, needs-back, stand-of}
@@ -41,13 +41,13 @@ use Rattle.ev_state.proofs.ChangeLemmas.{names-begun, names-ended}
 use Rattle.ev_state.proofs.WatchedNames.{names-sound}
 
 -- the managers' rows are the world's
-pub rows-are : (m : Managers) (kind : Kind) (world : World) → AreKept m → StandFor m world → (manager_of m kind).state.table.rows ≡ rows_of_kind (rows_of kind) world.rows
+pub rows-are : (m : Managers) (kind : Kind) (world : World) → AreManagersKept m → StandFor m world → (manager_of m kind).state.table.rows ≡ rows_of_kind (rows_of kind) world.rows
 rows-are m kind world kept stand = (stand-of m kind world stand).rows ∙ ap (λ k. rows_of_kind k world.rows) (kept-of m kind kept).rows
 
 -- none retired where the rows are the same
 pub none-have : (numbers : List ℕ) (before world : World) → numbers ≡ [] → world.rows ≡ before.rows → HaveRetired numbers before world
 none-have numbers before world none same n =
-    ap (λ ns. is_among ns n) none
+    ap (λ ns. is_one_of ns n) none
     ∙ (λ i. none-retired (rows_of_kind Cds before.rows) (rows_of_kind Cds world.rows) (ap (rows_of_kind Cds) same) n i
     || none-retired (rows_of_kind Lds before.rows) (rows_of_kind Lds world.rows) (ap (rows_of_kind Lds) same) n i)
 
@@ -58,7 +58,7 @@ none-moved these before world none same changed =
     record { retired = none-have these.retired before world (ap (λ (m : Moved). m.retired) none) same; changed = changed }
 
 -- what the managers report is so of the worlds
-pub told-have : (numbers : List ℕ) (m after : Managers) (before world : World) → AreKept m → AreKept after → StandFor m before → StandFor after world
+pub told-have : (numbers : List ℕ) (m after : Managers) (before world : World) → AreManagersKept m → AreManagersKept after → StandFor m before → StandFor after world
     → AreRetired numbers m after → HaveRetired numbers before world
 told-have numbers m after before world kept kept_after stand stand_after are n =
     are n
@@ -129,7 +129,7 @@ two_and_two false false true d = refl
 two_and_two false false false d = refl
 
 -- what retired, once all that is due serves
-pub promoted-have : (numbers more : List ℕ) (m after : Managers) (before world : World) → AreKept m → AreKept after → StandFor m world → StandFor after (promoted world)
+pub promoted-have : (numbers more : List ℕ) (m after : Managers) (before world : World) → AreManagersKept m → AreManagersKept after → StandFor m world → StandFor after (promoted world)
     → Grows numbers more (λ n. of_either began_to_drain n m after) → AreLater before.made before.rows world.rows → HaveRetired numbers before world
     → HaveRetired more before (promoted world)
 promoted-have numbers more m after before world kept kept_after stand stand_after drained later have n =
@@ -158,7 +158,7 @@ kind_table kind world sound = record {
 
 -- a number of one kind's generation that retired did so among those of the kind
 own_retired : (kind : Kind) (n : ℕ) (row : GenRow) (numbers : List ℕ) (before world : World) → IsSound world → HaveRetired numbers before world
-    → row_in n (rows_of_kind (rows_of kind) world.rows) ≡ Some row → is_among numbers n ≡ true → retired_of (rows_of kind) n before world ≡ true
+    → row_in n (rows_of_kind (rows_of kind) world.rows) ≡ Some row → is_one_of numbers n ≡ true → retired_of (rows_of kind) n before world ≡ true
 own_retired kind n row numbers before world sound have at there = by kind at
   where
     other : (k o : Kind) → ((c : Kind) → kind_same c k ≡ true → kind_same c o ≡ true → ⊥) → row_in n (rows_of_kind k world.rows) ≡ Some row → retired_of o n before world ≡ false
@@ -178,7 +178,7 @@ own_retired kind n row numbers before world sound have at there = by kind at
     by Rds at = second (retired_of Cds n before world) (retired_of Lds n before world) (other Lds Cds (rows-apart Lds) at) (sym (have n) ∙ there)
 
 -- and one that retired among those of a kind is reported
-own_told : (kind : Kind) (n : ℕ) (numbers : List ℕ) (before world : World) → HaveRetired numbers before world → retired_of (rows_of kind) n before world ≡ true → is_among numbers n ≡ true
+own_told : (kind : Kind) (n : ℕ) (numbers : List ℕ) (before world : World) → HaveRetired numbers before world → retired_of (rows_of kind) n before world ≡ true → is_one_of numbers n ≡ true
 own_told kind n numbers before world have is = have n ∙ by kind is
   where
     late : (a b : Bool) → b ≡ true → (a || b) ≡ true
@@ -192,7 +192,7 @@ own_told kind n numbers before world have is = have n ∙ by kind is
     by Rds is = late (retired_of Cds n before world) (retired_of Lds n before world) is
 
 -- the names that a manager's generations left and brought are those that began and ceased to be watched
-pub names-changed : (change : NameChange) (m : Managers) (kind : Kind) (made : ℕ) (retired : List ℕ) → AreKept m → is_by_name kind ≡ true
+pub names-changed : (change : NameChange) (m : Managers) (kind : Kind) (made : ℕ) (retired : List ℕ) → AreManagersKept m → is_by_name kind ≡ true
     → change.begun ≡ other_than (names_lost made (manager_of m kind).state.table.rows retired) (names_gained made (manager_of m kind).state.table.made (manager_of m kind).state.table.rows)
     → change.ended ≡ other_than (names_gained made (manager_of m kind).state.table.made (manager_of m kind).state.table.rows) (names_lost made (manager_of m kind).state.table.rows retired)
     → ChangesNames m kind made retired change
@@ -207,9 +207,9 @@ names-changed change m kind made retired kept by_name begun ended before world s
     subst (AreLater before.made rows0) (sym stands.rows) (later-kind s.kind before.made before.rows world.rows later) in
     let same : (n : ℕ) → has_retired n rows0 s.table.rows ≡ retired_of (rows_of kind) n before world =
     λ n i. has_retired n (rows_of_kind (is_own.rows i) before.rows) (rows-are m kind world kept stand i) in
-    let told : (n : ℕ) → has_retired n rows0 s.table.rows ≡ true → is_among retired n ≡ true =
+    let told : (n : ℕ) → has_retired n rows0 s.table.rows ≡ true → is_one_of retired n ≡ true =
     λ n is. own_told kind n retired before world have (sym (same n) ∙ is) in
-    let back : (n : ℕ) (row : GenRow) → row_in n s.table.rows ≡ Some row → is_among retired n ≡ true → has_retired n rows0 s.table.rows ≡ true =
+    let back : (n : ℕ) (row : GenRow) → row_in n s.table.rows ≡ Some row → is_one_of retired n ≡ true → has_retired n rows0 s.table.rows ≡ true =
     λ n row at there. same n ∙ own_retired kind n row retired before world stands.sound have ((λ i. row_in n (sym (rows-are m kind world kept stand) i)) ∙ at) there in
     let was : names_watched rows0 ≡ watched_of before kind =
     names-sound s.kind before is_own.kept.rows sound ∙ ap (watched_of before) needs in

@@ -18,7 +18,7 @@ use Rattle.ev_model.specs.Signals.{is_meant, rows_meant, result_for, with_result
 use Rattle.ev_generations.specs.Tables.{row_in, numbers_of}
 use Rattle.ev_generations.proofs.TableLemmas.{number-row_in}
 use Rattle.ev_indexes.specs.declared.state.State.{State}
-use Rattle.ev_indexes.specs.Due.{is_among}
+use Rattle.ev_indexes.specs.Due.{is_one_of}
 use Rattle.ev_indexes.specs.Indexes.{serves, numbers_where}
 use Rattle.ev_indexes.specs.Worlds.{rows_of_kind}
 use Rattle.ev_indexes.proofs.RowLemmas.{all_then}
@@ -65,14 +65,14 @@ all_left P keep (row ∷ rows) all = by (keep row) all.0 (all_left P keep rows a
 
 module _ (changed : List ℕ) (clusters : State) (name : List ℕ) (host : Host) (healthy : Bool) (world : World)
     (of_clusters : clusters.table.rows ≡ rows_of_kind Cds world.rows) (apart : IsDistinct nat_eq (numbers_of world.rows))
-    (told : (n : ℕ) → is_among changed n ≡ false → is_among (numbers_where (serves name) clusters.table.rows) n ≡ false) where
+    (told : (n : ℕ) → is_one_of changed n ≡ false → is_one_of (numbers_where (serves name) clusters.table.rows) n ≡ false) where
   name_of : (kind named live checked assigned : Bool) → (kind && named && live && checked && assigned) ≡ true → named ≡ true
   name_of true true live checked assigned h = refl
   name_of true false live checked assigned h = absurd (false≢true h)
   name_of false named live checked assigned h = absurd (false≢true h)
 
   -- a cluster that serves another name is none of those that the result is for
-  not_meant : (n : ℕ) (row : GenRow) → is_among changed n ≡ false → serving Cds (row_in n world.rows) ≡ Some row
+  not_meant : (n : ℕ) (row : GenRow) → is_one_of changed n ≡ false → serving Cds (row_in n world.rows) ≡ Some row
       → (r : GenRow) → row_in r.number world.rows ≡ Some r → is_meant world.arrivals name host r ≡ true → nat_eq r.number row.number ≡ false
   not_meant n row other at r own meant = by (nat_eq r.number row.number) refl
     where

@@ -27,7 +27,7 @@ use Rattle.ev_model.specs.Picture.{served_cluster, served_listener, routing_of, 
 use Rattle.ev_model.specs.Warming.{value_by, rows_in, discovered, assignment_by, is_healthy, is_eligible_by, is_checked}
 use Rattle.ev_model.specs.Watching.{discovery_dependencies, is_dependency, has_dependency, Dependency}
 use Rattle.ev_generations.specs.Tables.{row_in}
-use Rattle.ev_indexes.specs.Due.{is_among}
+use Rattle.ev_indexes.specs.Due.{is_one_of}
 use Rattle.ev_indexes.specs.Worlds.{needs_of}
 use Rattle.ev_indexes.specs.Shown.{cluster_shown, first_of, listener_shown}
 use Rattle.ev_indexes.specs.Needs.{serve_need, listener_places, needs_at}
@@ -143,15 +143,15 @@ eligible_same before after row (h ∷ hosts) same =
 
 -- the generations of the kind that serve are the same, but for these numbers, and so is what came for what they depend on
 pub record AreAlike (kind : Kind) (changed : List ℕ) (before after : World) : Type 0 where
-  pub rows : (number : ℕ) → is_among changed number ≡ false → serving kind (row_in number after.rows) ≡ serving kind (row_in number before.rows)
-  pub values : (number : ℕ) (row : GenRow) → is_among changed number ≡ false → serving kind (row_in number before.rows) ≡ Some row
+  pub rows : (number : ℕ) → is_one_of changed number ≡ false → serving kind (row_in number after.rows) ≡ serving kind (row_in number before.rows)
+  pub values : (number : ℕ) (row : GenRow) → is_one_of changed number ≡ false → serving kind (row_in number before.rows) ≡ Some row
       → SameNeeds (needs_of kind) before.arrivals after.arrivals row.content
 
 -- and so are the results of the clusters that serve
 pub record AreSame (changed : List ℕ) (before after : World) : Type 0 where
   pub clusters : AreAlike Cds changed before after
   pub listeners : AreAlike Lds changed before after
-  pub results : (number : ℕ) (row : GenRow) → is_among changed number ≡ false → serving Cds (row_in number before.rows) ≡ Some row
+  pub results : (number : ℕ) (row : GenRow) → is_one_of changed number ≡ false → serving Cds (row_in number before.rows) ≡ Some row
       → SameResults before.results after.results row.number (assignment_by before.arrivals row.content)
   pub phase : is_serving after.phase ≡ is_serving before.phase
 
@@ -171,7 +171,7 @@ same-changed changed before after same = record {
       None;
 }
   where
-    cluster : (n : ℕ) → is_among changed n ≡ false → (found : Option GenRow) → serving Cds (row_in n before.rows) ≡ found
+    cluster : (n : ℕ) → is_one_of changed n ≡ false → (found : Option GenRow) → serving Cds (row_in n before.rows) ≡ found
         → option_map (served_cluster after.arrivals after.results) found ≡ option_map (served_cluster before.arrivals before.results) found
     cluster n other None at = refl
     cluster n other (Some row) at =
@@ -180,13 +180,13 @@ same-changed changed before after same = record {
         ∙ eligible_same before.results after.results row (assignment_by before.arrivals row.content) (same.results n row other at) in
         λ i. Some (record { number = row.number; name = row.name; hosts = chosen i; elsewhere = is_elsewhere row.content })
 
-    listener : (n : ℕ) → is_among changed n ≡ false → (found : Option GenRow) → serving Lds (row_in n before.rows) ≡ found
+    listener : (n : ℕ) → is_one_of changed n ≡ false → (found : Option GenRow) → serving Lds (row_in n before.rows) ≡ found
         → option_and_then (first_served after.arrivals) found ≡ option_and_then (first_served before.arrivals) found
     listener n other None at = refl
     listener n other (Some row) at = ap first_of (listener_same before.arrivals after.arrivals row row.content (same.listeners.values n row other at))
 
 -- the same, where more numbers may have changed
-pub changed-more : (xs zs : List ℕ) (before after : World) → ((n : ℕ) → is_among zs n ≡ false → is_among xs n ≡ false) → HaveChanged xs before after → HaveChanged zs before after
+pub changed-more : (xs zs : List ℕ) (before after : World) → ((n : ℕ) → is_one_of zs n ≡ false → is_one_of xs n ≡ false) → HaveChanged xs before after → HaveChanged zs before after
 changed-more xs zs before after fewer x = record { clusters = λ n other. x.clusters n (fewer n other); listeners = λ n other. x.listeners n (fewer n other) }
 
 -- one change and then another

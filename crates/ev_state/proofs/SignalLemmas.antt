@@ -16,7 +16,7 @@ use Rattle.ev_model.specs.Watching.{is_by_name, is_watched}
 use Rattle.std.proofs.lemmas.List.Elements.{All-filter, recursion_from_All}
 use Rattle.ev_types.specs.declared.contents.Kind.{Kind}
 use Rattle.ev_types.specs.declared.contents.Kind.TheVariants.{Cds, Eds, Lds, Rds}
-use Rattle.ev_indexes.specs.Worlds.{InWorldsWatching, StandsFor as HasRows, needs_of}
+use Rattle.ev_indexes.specs.Worlds.{HasRows, InWorldsWatching, needs_of}
 use Rattle.ev_indexes.proofs.ReadLemmas.{watched-world, still-waits}
 use Rattle.ev_indexes.proofs.WaitLemmas.{waits-depends}
 use Rattle.ev_state.proofs.TidyLemmas.{found_watched}
@@ -27,11 +27,11 @@ use Rattle.ev_indexes.specs.Reads.{is_awaited_at, is_timeout_due, is_waiting_in}
 use Rattle.ev_indexes.specs.Watched.{watch_in}
 use Rattle.ev_managers.specs.declared.managers.Managers.{Managers}
 use Rattle.ev_managers.specs.declared.moved.Moved.{Moved}
-use Rattle.ev_managers.specs.Managers.{AreForgotten, AreKept, StandFor, is_watched_in, manager_of}
+use Rattle.ev_managers.specs.Managers.{AreForgotten, AreManagersKept, StandFor, is_watched_in, manager_of}
 use Rattle.ev_managers.proofs.FrameLemmas.{kept-of, needs-back, stand-of}
 use Rattle.ev_warming.specs.declared.manager.Manager.{Manager}
 use Rattle.ev_model_laws.specs.VersionsKept.{AreKeptOnce}
-use Rattle.ev_subscription.specs.Subscriptions.{SubscriptionParts, StandsFor as HasVersions, kept_of}
+use Rattle.ev_subscription.specs.Subscriptions.{SubscriptionParts, HasVersions, kept_of}
 use Rattle.ev_targets.specs.Targets.{TargetsParts, HaveBooted}
 use Rattle.ev_state.specs.declared.state.State.{State}
 use Rattle.ev_state.specs.Ages.{AreLater}
@@ -78,7 +78,7 @@ targets_follow s targets world after follows boots stand held versions phase row
 
 -- nothing is done
 pub ignores : (s : State) (these : Moved) (world : World) → these ≡ record { retired = []; changed = [] }
-    → AreKept s.managers → AreForgotten s.managers → Follows s world world → IsStep s Ignored these world (world, Ignored)
+    → AreManagersKept s.managers → AreForgotten s.managers → Follows s world world → IsStep s Ignored these world (world, Ignored)
 ignores s these world none kept forgotten follows = record {
   kept = kept;
   forgotten = forgotten;
@@ -124,7 +124,7 @@ append_nil [] = refl
 append_nil (x ∷ xs) = ap (λ ys. x ∷ ys) (append_nil xs)
 
 -- one that is for none
-pub health_ignored : (s : State) (m : Managers) (these : Moved) (host : Host) (healthy : Bool) (p : GenRow → Bool) (world : World) → AreKept m → AreForgotten m
+pub health_ignored : (s : State) (m : Managers) (these : Moved) (host : Host) (healthy : Bool) (p : GenRow → Bool) (world : World) → AreManagersKept m → AreForgotten m
     → Follows s world world → list_any p world.rows ≡ false → StandFor m (with_results host healthy (filter p world.rows) world)
     → these ≡ record { retired = []; changed = [] }
     → IsStep (record s { managers = m }) Ignored these world (health_of host healthy (filter p world.rows) world)
@@ -212,7 +212,7 @@ end_draws Lds name world = refl
 end_draws Rds name world = refl
 
 -- a name of endpoints or routes whose life is bounded is watched
-pub bounded_is_watched : (m : Managers) (kind : Kind) (name : List ℕ) (world : World) → AreKept m → StandFor m world → All (IsDue (lives_of world)) world.versions
+pub bounded_is_watched : (m : Managers) (kind : Kind) (name : List ℕ) (world : World) → AreManagersKept m → StandFor m world → All (IsDue (lives_of world)) world.versions
     → is_bounded world.versions kind name ≡ true → is_by_name kind ≡ true → is_watched_in m kind name ≡ true
 bounded_is_watched m kind name world kept stand due bounded by_name =
     (λ i. by_name i && list_any (depends_on name) (manager_of m kind).state.table.rows)
@@ -222,7 +222,7 @@ bounded_is_watched m kind name world kept stand due bounded by_name =
     (any_so (λ (v : KeptVersion). is_version_of kind name v && v.bounded) (is_version_of kind name) world.versions (λ v h. both_first (is_version_of kind name v) v.bounded h) bounded)
 
 -- whether the fetch timeout of a name is due is what the machine says
-pub due-awaited : (m : Managers) (kind : Kind) (own : Manager) (due : Bool) (name : List ℕ) (world : World) → own ≡ manager_of m kind → AreKept m → is_by_name kind ≡ true
+pub due-awaited : (m : Managers) (kind : Kind) (own : Manager) (due : Bool) (name : List ℕ) (world : World) → own ≡ manager_of m kind → AreManagersKept m → is_by_name kind ≡ true
     → StandFor m world → InWorldsWatching own.state (λ w k. due ≡ is_awaited_at w k name) → due ≡ is_awaited world.arrivals world.rows kind name
 due-awaited m kind own due name world same kept by_name stand told =
     told world (ap (λ (o : Manager). is_by_name o.state.kind) same ∙ (kept-of m kind kept).kept.rows)

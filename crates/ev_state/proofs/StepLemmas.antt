@@ -4,7 +4,7 @@ use Rattle.ev_types.specs.declared.events.Answer.{Answer}
 use Rattle.ev_model.specs.World.{World}
 use Rattle.ev_managers.specs.declared.moved.Moved.{Moved}
 use Rattle.ev_managers.proofs.FrameLemmas.{see_the_same}
-use Rattle.ev_subscription.specs.Subscriptions.{SubscriptionParts, StandsFor as HasVersions}
+use Rattle.ev_subscription.specs.Subscriptions.{SubscriptionParts, HasVersions}
 use Rattle.ev_state.specs.declared.state.State.{State}
 use Rattle.ev_state.specs.States.{Follows, IsStep}
 

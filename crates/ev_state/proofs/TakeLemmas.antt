@@ -14,12 +14,12 @@ use Rattle.ev_warming.specs.Arrivals.{AreOnValues}
 use Rattle.ev_indexes.specs.Worlds.{rows_of_kind}
 use Rattle.ev_warming.proofs.JudgedLemmas.{values-judged}
 use Rattle.ev_managers.specs.declared.managers.Managers.{Managers}
-use Rattle.ev_managers.specs.Managers.{AreKept, StandFor, MayBeGiven, manager_of}
+use Rattle.ev_managers.specs.Managers.{AreManagersKept, StandFor, MayBeGiven, manager_of}
 use Rattle.ev_managers.specs.Moved.{AreRetired}
 use Rattle.ev_warming.specs.Changes.{has_retired}
 use Rattle.ev_managers.proofs.FrameLemmas.{kept-of, needs-back, see_the_same, stand-of}
 use Rattle.ev_model_laws.specs.VersionsKept.{AreKeptOnce}
-use Rattle.ev_subscription.specs.Subscriptions.{SubscriptionParts, StandsFor as HasVersions, kept_of}
+use Rattle.ev_subscription.specs.Subscriptions.{SubscriptionParts, HasVersions, kept_of}
 use Rattle.ev_targets.specs.Targets.{TargetsParts, HaveBooted}
 use Rattle.ev_state.specs.declared.state.State.{State}
 use Rattle.ev_state.specs.Ages.{AreLater}
@@ -32,7 +32,7 @@ use Rattle.ev_state.proofs.RestLemmas.{SameRest, response_rest, rest_boots, Firs
 
 -- the machine's verdicts may be given
 pub may_be_given : (m : Managers) (kind : Kind) (response : ResponseParts) (verdicts : List Verdict) (world : World)
-    → AreKept m → StandFor m world → response.kind ≡ Some kind → verdicts ≡ verdicts_of (lives_of world) world.versions response
+    → AreManagersKept m → StandFor m world → response.kind ≡ Some kind → verdicts ≡ verdicts_of (lives_of world) world.versions response
     → MayBeGiven m kind verdicts response.items
 may_be_given m kind response verdicts world kept stand of are by_name =
     subst (λ (vs : List Verdict). AreOnValues (manager_of m kind).state.table.rows vs response.items) (sym are)
@@ -72,7 +72,7 @@ taken s m subscription targets kind response verdicts world follows of are stand
     }
 
 -- and what retired is said of that world
-pub taken_retired : (retired : List ℕ) (m after : Managers) (kind : Kind) (response : ResponseParts) (verdicts : List Verdict) (world : World) → AreKept m → AreKept after
+pub taken_retired : (retired : List ℕ) (m after : Managers) (kind : Kind) (response : ResponseParts) (verdicts : List Verdict) (world : World) → AreManagersKept m → AreManagersKept after
     → StandFor m world → StandFor after (add_items kind verdicts response.items (with_removals kind response world)) → AreRetired retired m after
     → HaveRetired retired world (with_first kind (made_names verdicts response.items) (add_items kind verdicts response.items (with_removals kind response world)))
 taken_retired retired m after kind response verdicts world kept kept_after stand stand_after are n =

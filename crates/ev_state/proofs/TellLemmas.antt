@@ -19,13 +19,13 @@ use Rattle.ev_model.specs.Tidy.{tidy, promoted, without_unwatched, without_old_r
 use Rattle.ev_model.specs.Warming.{value_by, assignment_by}
 use Rattle.ev_types.specs.declared.rows.Arrival.TheVariants.{TimedOut}
 use Rattle.ev_generations.specs.Tables.{row_in}
-use Rattle.ev_indexes.specs.Due.{is_among}
+use Rattle.ev_indexes.specs.Due.{is_one_of}
 use Rattle.ev_warming.specs.Changes.{is_over, began_to_serve, began_to_drain}
 use Rattle.ev_indexes.specs.Indexes.{serves, numbers_where}
 use Rattle.ev_indexes.specs.Worlds.{IsSound, rows_of_kind}
 use Rattle.ev_warming.proofs.RemovalLemmas.{row_in-without}
 use Rattle.ev_managers.specs.declared.managers.Managers.{Managers}
-use Rattle.ev_managers.specs.Managers.{AreKept, StandFor}
+use Rattle.ev_managers.specs.Managers.{AreManagersKept, StandFor}
 use Rattle.ev_managers.specs.Moved.{Grows, is_moved, of_either}
 use Rattle.ev_state.specs.Changed.{HaveChanged, dependents_in, dependents_of, listeners_begun}
 use Rattle.ev_state.specs.Retirements.{HaveRetired, retired_of}
@@ -96,10 +96,10 @@ left-changed number world sound = by (is_over (row_in number world.rows)) refl
 
 -- these numbers have those that are put first, and those that retired
 module _ (changed put retired : List ℕ) (m : Managers) (before after : World) (are : changed ≡ put ++ retired)
-    (kept : AreKept m) (stand : StandFor m before) (sound : IsSound after) (have : HaveRetired retired before after) where
-  parts : (n : ℕ) → is_among changed n ≡ false → (is_among put n ≡ false) × (retired_of Cds n before after ≡ false) × (retired_of Lds n before after ≡ false)
+    (kept : AreManagersKept m) (stand : StandFor m before) (sound : IsSound after) (have : HaveRetired retired before after) where
+  parts : (n : ℕ) → is_one_of changed n ≡ false → (is_one_of put n ≡ false) × (retired_of Cds n before after ≡ false) × (retired_of Lds n before after ≡ false)
   parts n other =
-      let outer = none-of put retired n ((λ i. is_among (sym are i) n) ∙ other) in
+      let outer = none-of put retired n ((λ i. is_one_of (sym are i) n) ∙ other) in
       let inner = or_none (retired_of Cds n before after) (retired_of Lds n before after) (sym (have n) ∙ outer.1) in
       (outer.0, inner.0, inner.1)
 
@@ -112,7 +112,7 @@ module _ (changed put retired : List ℕ) (m : Managers) (before after : World) 
       (entered-same changed m.clusters.state m.listeners.state before after (rows-are m Cds before kept stand) (rows-are m Lds before kept stand)
       stand.clusters.sound.table.apart sound.table.apart
       (λ n other. (parts n other).1) (λ n other. (parts n other).2)
-      kind verdicts response names leads (λ n other. (λ i. is_among (sym told i) n) ∙ (parts n other).0))
+      kind verdicts response names leads (λ n other. (λ i. is_one_of (sym told i) n) ∙ (parts n other).0))
 
   -- after the end of a resource, those of its name
   pub ended-changed : (kind : Kind) (name : List ℕ) → after ≡ with_end kind name (forget_version kind name before)
@@ -122,31 +122,31 @@ module _ (changed put retired : List ℕ) (m : Managers) (before after : World) 
       (ended-same changed m.clusters.state m.listeners.state before after (rows-are m Cds before kept stand) (rows-are m Lds before kept stand)
       stand.clusters.sound.table.apart sound.table.apart
       (λ n other. (parts n other).1) (λ n other. (parts n other).2)
-      kind name leads (λ n other. (λ i. is_among (sym told i) n) ∙ (parts n other).0))
+      kind name leads (λ n other. (λ i. is_one_of (sym told i) n) ∙ (parts n other).0))
 
 -- after a health result, the cluster that serves the name
-pub resulted-changed : (changed : List ℕ) (m : Managers) (name : List ℕ) (host : Host) (healthy : Bool) (world : World) → AreKept m
+pub resulted-changed : (changed : List ℕ) (m : Managers) (name : List ℕ) (host : Host) (healthy : Bool) (world : World) → AreManagersKept m
     → StandFor m (with_results host healthy (rows_meant world.arrivals name host world.rows) world)
     → changed ≡ numbers_where (serves name) m.clusters.state.table.rows
     → HaveChanged changed world (with_results host healthy (rows_meant world.arrivals name host world.rows) world)
 resulted-changed changed m name host healthy world kept stand are =
     same-changed changed world (with_results host healthy (rows_meant world.arrivals name host world.rows) world)
     (resulted-same changed m.clusters.state name host healthy world (rows-are m Cds (with_results host healthy (rows_meant world.arrivals name host world.rows) world) kept stand) stand.clusters.sound.table.apart
-    (λ n other. (λ i. is_among (sym are i) n) ∙ other))
+    (λ n other. (λ i. is_one_of (sym are i) n) ∙ other))
 
 -- what was reported, what came to serve or began to drain, and the listeners that come to serve together
-module _ (old more all : List ℕ) (m after last : Managers) (before world : World) (kept : AreKept m) (kept_after : AreKept after) (kept_last : AreKept last)
+module _ (old more all : List ℕ) (m after last : Managers) (before world : World) (kept : AreManagersKept m) (kept_after : AreManagersKept after) (kept_last : AreManagersKept last)
     (stand : StandFor m world) (stand_after : StandFor after (promoted world)) (stand_last : StandFor last (without_old_results (without_unwatched (promoted world))))
     (moved : Grows old more (λ n. of_either is_moved n m after)) where
   abbrev left : World
   left = without_old_results (without_unwatched (promoted world))
 
-  told : (n : ℕ) → is_among more n ≡ false
-      → (is_among old n ≡ false)
+  told : (n : ℕ) → is_one_of more n ≡ false
+      → (is_one_of old n ≡ false)
       × (is_moved n m.clusters.state.table.rows after.clusters.state.table.rows ≡ false)
       × (is_moved n m.listeners.state.table.rows after.listeners.state.table.rows ≡ false)
   told n other =
-      let outer = or_none (is_among old n) (is_moved n m.clusters.state.table.rows after.clusters.state.table.rows || is_moved n m.listeners.state.table.rows after.listeners.state.table.rows)
+      let outer = or_none (is_one_of old n) (is_moved n m.clusters.state.table.rows after.clusters.state.table.rows || is_moved n m.listeners.state.table.rows after.listeners.state.table.rows)
       (sym (moved n) ∙ other) in
       let inner = or_none (is_moved n m.clusters.state.table.rows after.clusters.state.table.rows) (is_moved n m.listeners.state.table.rows after.listeners.state.table.rows) outer.1 in
       (outer.0, inner.0, inner.1)
@@ -160,13 +160,13 @@ module _ (old more all : List ℕ) (m after last : Managers) (before world : Wor
       or_none (began_to_serve n (rows_of_kind kind world.rows) (rows_of_kind kind (promoted world).rows))
       (began_to_drain n (rows_of_kind kind world.rows) (rows_of_kind kind (promoted world).rows)) ((λ i. is_moved n (sym of i) (sym of_after i)) ∙ none)
 
-  clusters_moved : (n : ℕ) → is_among more n ≡ false
+  clusters_moved : (n : ℕ) → is_one_of more n ≡ false
       → (began_to_serve n (rows_of_kind Cds world.rows) (rows_of_kind Cds (promoted world).rows) ≡ false)
       × (began_to_drain n (rows_of_kind Cds world.rows) (rows_of_kind Cds (promoted world).rows) ≡ false)
   clusters_moved n other =
       moved_of Cds m.clusters.state.table.rows after.clusters.state.table.rows n (rows-are m Cds world kept stand) (rows-are after Cds (promoted world) kept_after stand_after) (told n other).1
 
-  listeners_moved : (n : ℕ) → is_among more n ≡ false
+  listeners_moved : (n : ℕ) → is_one_of more n ≡ false
       → (began_to_serve n (rows_of_kind Lds world.rows) (rows_of_kind Lds (promoted world).rows) ≡ false)
       × (began_to_drain n (rows_of_kind Lds world.rows) (rows_of_kind Lds (promoted world).rows) ≡ false)
   listeners_moved n other =
@@ -174,8 +174,8 @@ module _ (old more all : List ℕ) (m after last : Managers) (before world : Wor
 
   pub tidied-changed : all ≡ more ++ listeners_begun world.phase (phase_after left) last.listeners.state → HaveChanged old before world → HaveChanged all before (tidy world)
   tidied-changed are have =
-      let fewer : (n : ℕ) → is_among all n ≡ false → is_among more n ≡ false = λ n other. (split n other).0 in
-      let none : (n : ℕ) → is_among all n ≡ false → is_among [] n ≡ false = λ n other. refl in
+      let fewer : (n : ℕ) → is_one_of all n ≡ false → is_one_of more n ≡ false = λ n other. (split n other).0 in
+      let none : (n : ℕ) → is_one_of all n ≡ false → is_one_of [] n ≡ false = λ n other. refl in
       let first = changed-more old all before world (λ n other. (told n (fewer n other)).0) have in
       let second = changed-more more all world (promoted world) fewer (same-changed more world (promoted world)
       (promoted-same more world stand.clusters.sound.table.apart stand_after.clusters.sound.table.apart
@@ -191,5 +191,5 @@ module _ (old more all : List ℕ) (m after last : Managers) (before world : Wor
       (changed-then all (promoted world) (without_unwatched (promoted world)) (tidy world) third
       (changed-then all (without_unwatched (promoted world)) left (tidy world) fourth fifth)))
     where
-      split : (n : ℕ) → is_among all n ≡ false → (is_among more n ≡ false) × (is_among (listeners_begun world.phase (phase_after left) last.listeners.state) n ≡ false)
-      split n other = none-of more (listeners_begun world.phase (phase_after left) last.listeners.state) n ((λ i. is_among (sym are i) n) ∙ other)
+      split : (n : ℕ) → is_one_of all n ≡ false → (is_one_of more n ≡ false) × (is_one_of (listeners_begun world.phase (phase_after left) last.listeners.state) n ≡ false)
+      split n other = none-of more (listeners_begun world.phase (phase_after left) last.listeners.state) n ((λ i. is_one_of (sym are i) n) ∙ other)

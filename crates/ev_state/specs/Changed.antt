@@ -9,15 +9,15 @@ use Rattle.ev_model.specs.World.{World}
 use Rattle.ev_model.specs.Phase.{is_serving}
 use Rattle.ev_generations.specs.Tables.{numbers_of}
 use Rattle.ev_indexes.specs.declared.state.State.{State}
-use Rattle.ev_indexes.specs.Due.{is_among}
+use Rattle.ev_indexes.specs.Due.{is_one_of}
 use Rattle.ev_indexes.specs.Indexes.{numbers_waiting}
 use Rattle.ev_indexes.specs.Reads.{live_rows}
 use Rattle.ev_indexes.specs.Shown.{cluster_at, listener_at}
 
 -- a picture shows the same of each other number before and after
 pub record HaveChanged (changed : List ℕ) (before after : World) : Type 0 where
-  pub clusters : (number : ℕ) → is_among changed number ≡ false → cluster_at after number ≡ cluster_at before number
-  pub listeners : (number : ℕ) → is_among changed number ≡ false → listener_at after number ≡ listener_at before number
+  pub clusters : (number : ℕ) → is_one_of changed number ≡ false → cluster_at after number ≡ cluster_at before number
+  pub listeners : (number : ℕ) → is_one_of changed number ≡ false → listener_at after number ≡ listener_at before number
 
 -- the numbers of the live generations that depend on this name of endpoints or of routes; one that waits for it both ways stands twice
 abbrev pub dependents_in : State → State → Kind → List ℕ → List ℕ

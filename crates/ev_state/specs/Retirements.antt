@@ -6,7 +6,7 @@ use Rattle.ev_types.specs.declared.contents.Kind.TheVariants.{Cds, Lds}
 use Rattle.ev_types.specs.declared.rows.GenRow.{GenRow}
 use Rattle.ev_model.specs.World.{World}
 use Rattle.ev_generations.specs.Tables.{row_in}
-use Rattle.ev_indexes.specs.Due.{is_among}
+use Rattle.ev_indexes.specs.Due.{is_one_of}
 use Rattle.ev_indexes.specs.Worlds.{rows_of_kind}
 use Rattle.ev_warming.specs.Changes.{has_retired}
 use Rattle.ev_managers.specs.declared.moved.Moved.{Moved}
@@ -18,7 +18,7 @@ retired_of kind number before world = has_retired number (rows_of_kind kind befo
 
 -- these generations retired between the worlds, clusters or listeners, and no others
 abbrev pub HaveRetired : List ℕ → World → World → Type 0
-HaveRetired numbers before world = (number : ℕ) → is_among numbers number ≡ (retired_of Cds number before world || retired_of Lds number before world)
+HaveRetired numbers before world = (number : ℕ) → is_one_of numbers number ≡ (retired_of Cds number before world || retired_of Lds number before world)
 
 -- these retired between the worlds, and of these a picture may show something else
 pub record HaveMoved (moved : Moved) (before world : World) : Type 0 where
@@ -27,5 +27,5 @@ pub record HaveMoved (moved : Moved) (before world : World) : Type 0 where
 
 -- these generations ceased to be live between the worlds, and no others; and one that was over before is as it was
 pub record HaveCeased (numbers : List ℕ) (before world : World) : Type 0 where
-  pub told : (number : ℕ) → is_among numbers number ≡ has_retired number before.rows world.rows
+  pub told : (number : ℕ) → is_one_of numbers number ≡ has_retired number before.rows world.rows
   pub stays : (number : ℕ) (row : GenRow) → row_in number before.rows ≡ Some row → is_live row.status ≡ false → row_in number world.rows ≡ Some row

@@ -12,8 +12,8 @@ use Rattle.ev_model.specs.Watching.{is_by_name}
 use Rattle.ev_generations.specs.Tables.{is_number, row_in}
 use Rattle.ev_indexes.specs.Worlds.{IsSound}
 use Rattle.ev_managers.specs.declared.moved.Moved.{Moved}
-use Rattle.ev_managers.specs.Managers.{AreForgotten, AreKept, StandFor}
-use Rattle.ev_subscription.specs.Subscriptions.{StandsFor as HasVersions}
+use Rattle.ev_managers.specs.Managers.{AreForgotten, AreManagersKept, StandFor}
+use Rattle.ev_subscription.specs.Subscriptions.{HasVersions}
 use Rattle.ev_targets.specs.Targets.{HaveBooted}
 use Rattle.ev_state.specs.declared.state.State.{State}
 use Rattle.ev_state.specs.Ages.{AreLater}
@@ -36,7 +36,7 @@ pub record Follows (s : State) (before world : World) : Type 0 where
 
 -- between two events
 pub record ManagesAt (s : State) (world : World) : Type 0 where
-  pub kept : AreKept s.managers
+  pub kept : AreManagersKept s.managers
   pub forgotten : AreForgotten s.managers
   pub follows : Follows s world world
   pub whole : AllByRecursion (λ (row : GenRow). is_by_name row.kind ≡ false) world.rows
@@ -44,7 +44,7 @@ pub record ManagesAt (s : State) (world : World) : Type 0 where
 -- the state is at the world that the machine's step leads to, but for which generations it has; the answer is the machine's, and these
 -- are what the step moved
 pub record IsStep (s : State) (told : Answer) (these : Moved) (before : World) (stepped : World × Answer) : Type 0 where
-  pub kept : AreKept s.managers
+  pub kept : AreManagersKept s.managers
   pub forgotten : AreForgotten s.managers
   pub follows : Follows s stepped.0 stepped.0
   pub later : AreLater before.made before.rows stepped.0.rows

@@ -1,6 +1,6 @@
 ghost use Rattle.std.specs.Prelude.{◌≡◌, true, IfOk, OnOk};
 ghost use Rattle.ev_model.specs.Watching.{is_by_name};
-ghost use Rattle.ev_managers.specs.Managers.{AreForgotten, AreKept};
+ghost use Rattle.ev_managers.specs.Managers.{AreForgotten, AreManagersKept};
 ghost use Rattle.ev_state.specs.Moves.{ChangesNames, TidiesUp};
 
 use crate::state::State;
@@ -30,8 +30,8 @@ impl State {
         moved: &mut Moved,
         steps: &mut Steps<L>,
     ) -> Result<Asked, AllocError>
-        requires kept { AreKept self.old.managers }
-        ensures kept { OnOk result (AreKept self.new.managers) }
+        requires kept { AreManagersKept self.old.managers }
+        ensures kept { OnOk result (AreManagersKept self.new.managers) }
         ensures forgotten { OnOk result (AreForgotten self.new.managers) }
         ensures over { IfOk result (λ asked. TidiesUp self.old self.new made moved.old moved.new asked) }
     {
@@ -62,7 +62,7 @@ impl State {
         made: u32,
         retired: &[Gen],
     ) -> Result<NameChange, AllocError>
-        requires kept { AreKept self.now.managers }
+        requires kept { AreManagersKept self.now.managers }
         requires by_name { is_by_name kind ≡ true }
         ensures { IfOk result (λ change. ChangesNames self.now.managers kind made retired.now change) }
     {

@@ -1,6 +1,6 @@
 ghost use Rattle.std.specs.Prelude.{◌≡◌, ◌++◌, OnOk};
 ghost use Rattle.ev_indexes.specs.Indexes.{numbers_where, serves};
-ghost use Rattle.ev_managers.specs.Managers.{AreKept};
+ghost use Rattle.ev_managers.specs.Managers.{AreManagersKept};
 ghost use Rattle.ev_state.specs.Changed.{dependents_in, dependents_of, listeners_begun};
 
 use crate::state::State;
@@ -16,7 +16,7 @@ impl State {
         name: &str,
         changed: &mut Seq<Gen>,
     ) -> Result<(), AllocError>
-        requires kept { AreKept self.now.managers }
+        requires kept { AreManagersKept self.now.managers }
         ensures { OnOk result (changed.new ≡ changed.old
             ++ dependents_in self.now.managers.clusters.state self.now.managers.listeners.state kind name.now) }
     {
@@ -34,7 +34,7 @@ impl State {
         response: &Response,
         changed: &mut Seq<Gen>,
     ) -> Result<(), AllocError>
-        requires kept { AreKept self.now.managers }
+        requires kept { AreManagersKept self.now.managers }
         ensures { OnOk result (changed.new ≡ changed.old ++ dependents_of self.now.managers.clusters.state
             self.now.managers.listeners.state kind response.now.items) }
     {
@@ -46,7 +46,7 @@ impl State {
 
     /// Adds the number of the cluster that serves this name to the others, where there is one.
     pub(crate) fn put_active(&self, name: &Name, changed: &mut Seq<Gen>) -> Result<(), AllocError>
-        requires kept { AreKept self.now.managers }
+        requires kept { AreManagersKept self.now.managers }
         ensures { OnOk result (changed.new ≡ changed.old
             ++ numbers_where (serves name.now) self.now.managers.clusters.state.table.rows) }
     {

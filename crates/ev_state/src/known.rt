@@ -1,5 +1,5 @@
 ghost use Rattle.std.specs.Prelude.{◌≡◌};
-ghost use Rattle.ev_managers.specs.Managers.{AreKept};
+ghost use Rattle.ev_managers.specs.Managers.{AreManagersKept};
 
 use ev_managers::Managers;
 use ev_mentions::LiveRow;
@@ -18,20 +18,20 @@ pub(crate) struct Before<'a> {
 }
 
 impl<'a> Model for Before<'a> {
-    ghost use Rattle.ev_managers.specs.Managers.{AreKept};
+    ghost use Rattle.ev_managers.specs.Managers.{AreManagersKept};
     ghost use Rattle.ev_state.specs.Known.{BeforeParts};
 
     ghost Value = { BeforeParts };
 
     ghost view = { λ b. record { clusters = b.managers.now.clusters.state; listeners = b.managers.now.listeners.state; subscription = b.subscription.now } };
 
-    ghost invariant = { λ b. AreKept b.managers.now };
+    ghost invariant = { λ b. AreManagersKept b.managers.now };
 }
 
 impl<'a> Before<'a> {
     /// What these know.
     pub(crate) fn new(managers: &'a Managers, subscription: &'a Subscription) -> Before<'a>
-        requires kept { AreKept managers.now }
+        requires kept { AreManagersKept managers.now }
         ensures { result ≡ record {
           clusters = managers.now.clusters.state;
           listeners = managers.now.listeners.state;

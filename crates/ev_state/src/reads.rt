@@ -2,7 +2,7 @@ ghost use Rattle.std.specs.Prelude.{◌≡◌, option_copied, IfOk};
 ghost use Rattle.ev_model.specs.World.{World};
 ghost use Rattle.ev_generations.specs.Tables.{row_in};
 ghost use Rattle.ev_indexes.specs.Shown.{cluster_at, listener_at};
-ghost use Rattle.ev_managers.specs.Managers.{AreKept};
+ghost use Rattle.ev_managers.specs.Managers.{AreManagersKept};
 
 use crate::state::State;
 use ev_model::{ServedCluster, ServedListener};
@@ -39,8 +39,9 @@ impl State {
     /// What a picture shows of the cluster of this number now: where it is active, its hosts that may be chosen. It costs a look-up of
     /// the number and of the name that the cluster depends on, and one of each of its hosts.
     pub fn cluster(&self, alloc: Global, number: Gen) -> Result<Option<ServedCluster>, AllocError>
-        requires kept { AreKept self.now.managers }
-        ensures { IfOk result (λ served. (world : World) → ManagesAt self.now world → served ≡ cluster_at world number) }
+        requires kept { AreManagersKept self.now.managers }
+        ensures { IfOk result (λ served. (world : World) → ManagesAt self.now world
+            → served ≡ cluster_at world number) }
     {
         let served = self.managers.clusters.state.cluster(alloc, number)?;
         Ok(served)
@@ -49,8 +50,9 @@ impl State {
     /// What a picture shows of the listener of this number now: nothing before listeners serve, and then, where it is active, its chains
     /// with their routes and targets. It costs a look-up of the number, and one of each name that the listener depends on.
     pub fn listener(&self, alloc: Global, number: Gen) -> Result<Option<ServedListener>, AllocError>
-        requires kept { AreKept self.now.managers }
-        ensures { IfOk result (λ served. (world : World) → ManagesAt self.now world → served ≡ listener_at world number) }
+        requires kept { AreManagersKept self.now.managers }
+        ensures { IfOk result (λ served. (world : World) → ManagesAt self.now world
+            → served ≡ listener_at world number) }
     {
         match self.targets.phase() {
             Phase::Serving => {

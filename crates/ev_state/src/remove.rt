@@ -2,7 +2,7 @@ ghost use Rattle.std.specs.Prelude.{◌≡◌, [], option_copied, IfOk, OnOk};
 ghost use Rattle.ev_model.specs.World.{World};
 ghost use Rattle.ev_model.specs.Tidy.{tidy};
 ghost use Rattle.ev_warming.specs.Changes.{is_over};
-ghost use Rattle.ev_managers.specs.Managers.{AreForgotten, AreKept};
+ghost use Rattle.ev_managers.specs.Managers.{AreForgotten, AreManagersKept};
 ghost use Rattle.ev_state.specs.Changed.{HaveChanged};
 ghost use Rattle.ev_state.specs.Retirements.{HaveCeased};
 ghost use Rattle.ev_state.specs.States.{ManagesAt, over_in, without_over};
@@ -22,7 +22,7 @@ impl State {
         alloc: Global,
         steps: &mut Steps<L>,
     ) -> Result<Moved, AllocError>
-        requires kept { AreKept self.old.managers }
+        requires kept { AreManagersKept self.old.managers }
         ensures at { OnOk result ((world : World) → ManagesAt self.old world → ManagesAt self.new (tidy world)) }
         ensures ceased { IfOk result (λ moved. (world : World) → ManagesAt self.old world
             → HaveCeased moved.retired world (tidy world)) }
@@ -38,9 +38,9 @@ impl State {
     /// Takes out and answers the generation of this number, where it drains or was dropped; where none has the number, or it is live,
     /// nothing is done. It takes no memory.
     pub fn remove(&mut self, number: Gen) -> Option<GenRow>
-        requires kept { AreKept self.old.managers }
+        requires kept { AreManagersKept self.old.managers }
         requires forgotten { AreForgotten self.old.managers }
-        ensures kept { AreKept self.new.managers }
+        ensures kept { AreManagersKept self.new.managers }
         ensures forgotten { AreForgotten self.new.managers }
         ensures at { (world : World) → ManagesAt self.old world
             → ManagesAt self.new (record world { rows = without_over number world.rows }) }

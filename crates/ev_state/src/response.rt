@@ -7,8 +7,8 @@ ghost use Rattle.ev_model.specs.Verdicts.{verdicts_of};
 ghost use Rattle.ev_model.specs.Rows.{with_removals, add_items, made_names, with_first};
 ghost use Rattle.ev_model.specs.Requests.{Watched, other_than, requests_by, reply_of};
 ghost use Rattle.ev_model.specs.Step.{respond, responded, answered};
-ghost use Rattle.ev_managers.specs.Managers.{AreForgotten, AreKept};
-ghost use Rattle.ev_subscription.specs.Subscriptions.{StandsFor as HasVersions};
+ghost use Rattle.ev_managers.specs.Managers.{AreForgotten, AreManagersKept};
+ghost use Rattle.ev_subscription.specs.Subscriptions.{HasVersions};
 ghost use Rattle.ev_state.specs.States.{Follows, IsStep, ManagesAt};
 ghost use Rattle.ev_state.specs.Moves.{IsOver};
 ghost use Rattle.ev_state.specs.Retirements.{HaveMoved};
@@ -68,7 +68,7 @@ impl State {
 
     // The verdicts on the resources of a response that wasn't taken yet.
     fn judge(&self, alloc: Global, mentions: &Mentions<'_>) -> Result<Seq<Verdict>, AllocError>
-        requires kept { AreKept self.now.managers }
+        requires kept { AreManagersKept self.now.managers }
         requires typed { IsSome mentions.now.kind }
         ensures one_each { IfOk result (λ verdicts. length verdicts ≡ length mentions.now.items) }
         ensures judged { IfOk result (λ verdicts. (kind : Kind) (world : World) → ManagesAt self.now world
@@ -95,7 +95,7 @@ impl State {
         requires room { 0 < length mentions.now.items → here.made + length mentions.now.items < 2 ^ 32 }
         requires one_each { length verdicts.now ≡ length mentions.now.items }
         requires judged { verdicts.now ≡ verdicts_of (lives_of here) here.versions mentions.now }
-        ensures kept { OnOk result (AreKept self.new.managers) }
+        ensures kept { OnOk result (AreManagersKept self.new.managers) }
         ensures forgotten { OnOk result (AreForgotten self.new.managers) }
         ensures over { IfOk result (λ told. IsOver self.new told.0 told.1 here
             (responded kind mentions.now verdicts.now here)) }
@@ -151,7 +151,7 @@ impl State {
         requires room { here.made + length mentions.now.items < 2 ^ 32 }
         requires one_each { length verdicts.now ≡ length mentions.now.items }
         requires judged { verdicts.now ≡ verdicts_of (lives_of here) here.versions mentions.now }
-        ensures kept { OnOk result (AreKept self.new.managers) }
+        ensures kept { OnOk result (AreManagersKept self.new.managers) }
         ensures follows { OnOk result (Follows self.new here
             (with_first kind (made_names verdicts.now mentions.now.items)
             (add_items kind verdicts.now mentions.now.items (with_removals kind mentions.now here)))) }

@@ -1,6 +1,6 @@
 ghost use Rattle.std.specs.Prelude.{◌≡◌, IfOk};
 ghost use Rattle.ev_model.specs.Signals.{health, ttl_expired};
-ghost use Rattle.ev_managers.specs.Managers.{AreForgotten, AreKept};
+ghost use Rattle.ev_managers.specs.Managers.{AreForgotten, AreManagersKept};
 ghost use Rattle.ev_state.specs.States.{StepBy};
 ghost use Rattle.ev_state.specs.Moves.{MovesOn};
 
@@ -19,7 +19,7 @@ impl State {
         mut moved: Moved,
         steps: &mut Steps<L>,
     ) -> Result<(Answer, Moved), AllocError>
-        requires kept { AreKept self.old.managers }
+        requires kept { AreManagersKept self.old.managers }
         ensures { IfOk result (λ told. MovesOn self.old self.new moved told.0 told.1) }
     {
         let made = self.managers.made;
@@ -39,7 +39,7 @@ impl State {
         healthy: bool,
         steps: &mut Steps<L>,
     ) -> Result<(Answer, Moved), AllocError>
-        requires kept { AreKept self.old.managers }
+        requires kept { AreManagersKept self.old.managers }
         requires forgotten { AreForgotten self.old.managers }
         ensures { IfOk result (λ told. StepBy (health cluster.now host.now healthy) self.old self.new told.0 told.1) }
     {
@@ -61,7 +61,7 @@ impl State {
         name: &Name,
         steps: &mut Steps<L>,
     ) -> Result<(Answer, Moved), AllocError>
-        requires kept { AreKept self.old.managers }
+        requires kept { AreManagersKept self.old.managers }
         requires forgotten { AreForgotten self.old.managers }
         ensures { IfOk result (λ told. StepBy (ttl_expired kind name.now) self.old self.new told.0 told.1) }
     {

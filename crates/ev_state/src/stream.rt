@@ -3,7 +3,7 @@ ghost use Rattle.ev_model.specs.Phase.{is_clusters};
 ghost use Rattle.ev_model.specs.World.{World};
 ghost use Rattle.ev_model.specs.Requests.{connect_requests};
 ghost use Rattle.ev_model.specs.Step.{connect, disconnect};
-ghost use Rattle.ev_managers.specs.Managers.{AreForgotten, AreKept};
+ghost use Rattle.ev_managers.specs.Managers.{AreForgotten, AreManagersKept};
 ghost use Rattle.ev_state.specs.States.{HasWorld, StepBy};
 
 use crate::state::State;
@@ -20,7 +20,7 @@ impl State {
         alloc: Global,
         steps: &mut Steps<L>,
     ) -> Result<(Answer, Moved), AllocError>
-        requires kept { AreKept self.old.managers }
+        requires kept { AreManagersKept self.old.managers }
         requires forgotten { AreForgotten self.old.managers }
         ensures { IfOk result (λ told. StepBy connect self.old self.new told.0 told.1) }
     {
@@ -37,7 +37,7 @@ impl State {
 
     // What is asked for as a stream opens. It goes over all generations, for the names that they depend on.
     fn asked_at_first(&self, alloc: Global) -> Result<Seq<Request>, AllocError>
-        requires kept { AreKept self.now.managers }
+        requires kept { AreManagersKept self.now.managers }
         ensures { IfOk result (λ requests. (world : World) → HasWorld self.now world
             → requests ≡ connect_requests world) }
     {
@@ -66,7 +66,7 @@ impl State {
         alloc: Global,
         steps: &mut Steps<L>,
     ) -> Result<(Answer, Moved), AllocError>
-        requires kept { AreKept self.old.managers }
+        requires kept { AreManagersKept self.old.managers }
         requires forgotten { AreForgotten self.old.managers }
         ensures { IfOk result (λ told. StepBy disconnect self.old self.new told.0 told.1) }
     {

@@ -1,7 +1,7 @@
 ghost use Rattle.std.specs.Prelude.{◌≡◌, true, IfOk};
 ghost use Rattle.ev_model.specs.Signals.{clusters_timeout, fetch_timeout, listeners_timeout, name_timeout};
 ghost use Rattle.ev_model.specs.Watching.{is_by_name};
-ghost use Rattle.ev_managers.specs.Managers.{AreForgotten, AreKept};
+ghost use Rattle.ev_managers.specs.Managers.{AreForgotten, AreManagersKept};
 ghost use Rattle.ev_state.specs.States.{StepBy};
 
 use crate::state::State;
@@ -19,7 +19,7 @@ impl State {
         timeout: &FetchTimeout,
         steps: &mut Steps<L>,
     ) -> Result<(Answer, Moved), AllocError>
-        requires kept { AreKept self.old.managers }
+        requires kept { AreManagersKept self.old.managers }
         requires forgotten { AreForgotten self.old.managers }
         ensures { IfOk result (λ told. StepBy
             (fetch_timeout timeout.now.kind timeout.now.name) self.old self.new told.0 told.1) }
@@ -39,7 +39,7 @@ impl State {
         alloc: Global,
         steps: &mut Steps<L>,
     ) -> Result<(Answer, Moved), AllocError>
-        requires kept { AreKept self.old.managers }
+        requires kept { AreManagersKept self.old.managers }
         requires forgotten { AreForgotten self.old.managers }
         ensures { IfOk result (λ told. StepBy clusters_timeout self.old self.new told.0 told.1) }
     {
@@ -56,7 +56,7 @@ impl State {
         alloc: Global,
         steps: &mut Steps<L>,
     ) -> Result<(Answer, Moved), AllocError>
-        requires kept { AreKept self.old.managers }
+        requires kept { AreManagersKept self.old.managers }
         requires forgotten { AreForgotten self.old.managers }
         ensures { IfOk result (λ told. StepBy listeners_timeout self.old self.new told.0 told.1) }
     {
@@ -75,7 +75,7 @@ impl State {
         name: &Name,
         steps: &mut Steps<L>,
     ) -> Result<(Answer, Moved), AllocError>
-        requires kept { AreKept self.old.managers }
+        requires kept { AreManagersKept self.old.managers }
         requires forgotten { AreForgotten self.old.managers }
         requires by_name { is_by_name kind ≡ true }
         ensures { IfOk result (λ told. StepBy (name_timeout kind name.now) self.old self.new told.0 told.1) }

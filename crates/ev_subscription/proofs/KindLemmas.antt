@@ -26,7 +26,7 @@ use Rattle.ev_model.specs.Verdicts.{is_among, is_removed, items_named}
 use Rattle.ev_model.specs.Versions.{is_before, is_bounded, is_kept, is_version_of, bounded_as, renewed, with_version, without_version}
 use Rattle.ev_model_laws.specs.VersionsKept.{AreByName}
 use Rattle.ev_model_laws.proofs.VersionLemmas.{is_less, placed, version_decides, not_before_itself, with_kept, left_kept, renewed_kept}
-use Rattle.ev_subscription.specs.Subscriptions.{SubscriptionParts, StandsFor, held_of, kept_of, with_held}
+use Rattle.ev_subscription.specs.Subscriptions.{SubscriptionParts, HasVersions, held_of, kept_of, with_held}
 
 -- a version of the kind and name of a new one has its kind
 has_kind : (new kept : KeptVersion) (k : Kind) → is_version_of new.kind new.name kept ≡ true → kind_same kept.kind k ≡ kind_same new.kind k
@@ -242,7 +242,7 @@ with_put Rds versions others s = refl
 
 -- after the change of one kind, the subscription stands for the world with the change
 pub stands_with : (old new : SubscriptionParts) (version : KeptVersion) → new ≡ with_held version.kind (with_version version (held_of old version.kind)) old
-    → (world : World) → StandsFor old world → StandsFor new (record world { versions = with_version version world.versions })
+    → (world : World) → HasVersions old world → HasVersions new (record world { versions = with_version version world.versions })
 stands_with old new version is world was = record {
   node = ap (λ (s : SubscriptionParts). s.node) is ∙ same_node version.kind (with_version version (held_of old version.kind)) old ∙ was.node;
   stream = ap (λ (s : SubscriptionParts). s.stream) is ∙ same_stream version.kind (with_version version (held_of old version.kind)) old ∙ was.stream;
@@ -255,7 +255,7 @@ stands_with old new version is world was = record {
 }
 
 pub stands_without : (old new : SubscriptionParts) (kind : Kind) (name : List ℕ) → new ≡ with_held kind (without_version kind name (held_of old kind)) old
-    → (world : World) → StandsFor old world → StandsFor new (record world { versions = without_version kind name world.versions })
+    → (world : World) → HasVersions old world → HasVersions new (record world { versions = without_version kind name world.versions })
 stands_without old new kind name is world was = record {
   node = ap (λ (s : SubscriptionParts). s.node) is ∙ same_node kind (without_version kind name (held_of old kind)) old ∙ was.node;
   stream = ap (λ (s : SubscriptionParts). s.stream) is ∙ same_stream kind (without_version kind name (held_of old kind)) old ∙ was.stream;
@@ -268,7 +268,7 @@ stands_without old new kind name is world was = record {
 }
 
 pub stands_renewed : (old new : SubscriptionParts) (kind : Kind) (name : List ℕ) → new ≡ with_held kind (renewed kind name (held_of old kind)) old
-    → (world : World) → StandsFor old world → StandsFor new (record world { versions = renewed kind name world.versions })
+    → (world : World) → HasVersions old world → HasVersions new (record world { versions = renewed kind name world.versions })
 stands_renewed old new kind name is world was = record {
   node = ap (λ (s : SubscriptionParts). s.node) is ∙ same_node kind (renewed kind name (held_of old kind)) old ∙ was.node;
   stream = ap (λ (s : SubscriptionParts). s.stream) is ∙ same_stream kind (renewed kind name (held_of old kind)) old ∙ was.stream;
@@ -280,12 +280,12 @@ stands_renewed old new kind name is world was = record {
   kept_once = renewed_kept kind name world.versions was.kept_once;
 }
 
-pub kept_is : (subscription : SubscriptionParts) (world : World) (kind : Kind) (name version : List ℕ) → StandsFor subscription world
+pub kept_is : (subscription : SubscriptionParts) (world : World) (kind : Kind) (name version : List ℕ) → HasVersions subscription world
     → is_kept (held_of subscription kind) kind name version ≡ is_kept world.versions kind name version
 kept_is subscription world kind name version stands =
     ap (λ vs. is_kept vs kind name version) (stands.versions kind) ∙ any_of_kind kind name (λ (kept : KeptVersion). bytes_eq kept.version version) world.versions
 
-pub bounded_is : (subscription : SubscriptionParts) (world : World) (kind : Kind) (name : List ℕ) → StandsFor subscription world
+pub bounded_is : (subscription : SubscriptionParts) (world : World) (kind : Kind) (name : List ℕ) → HasVersions subscription world
     → is_bounded (held_of subscription kind) kind name ≡ is_bounded world.versions kind name
 bounded_is subscription world kind name stands =
     ap (λ vs. is_bounded vs kind name) (stands.versions kind) ∙ any_of_kind kind name (λ (kept : KeptVersion). kept.bounded) world.versions

@@ -10,10 +10,10 @@ use Rattle.ev_types.specs.declared.events.Verdict.TheVariants.{New, Same, Kept}
 use Rattle.ev_model.specs.World.{World}
 use Rattle.ev_model.specs.Rows.{add_item, add_items, add_row, keep_value, keep_version, with_content}
 use Rattle.ev_model_laws.specs.VersionsKept.{AreKeptOnce}
-use Rattle.ev_subscription.specs.Subscriptions.{SubscriptionParts, SameVersions, StandsFor, kept_of}
+use Rattle.ev_subscription.specs.Subscriptions.{SubscriptionParts, SameVersions, HasVersions, kept_of}
 
 -- a subscription stands for each world with the node, the stream and the versions of one that it stands for
-pub stands_as : (s : SubscriptionParts) (world other : World) → SameVersions world other → StandsFor s world → StandsFor s other
+pub stands_as : (s : SubscriptionParts) (world other : World) → SameVersions world other → HasVersions s world → HasVersions s other
 stands_as s world other same stands = record {
   node = stands.node ∙ same.node;
   stream = stands.stream ∙ same.stream;
@@ -23,7 +23,7 @@ stands_as s world other same stands = record {
 
 -- a new generation keeps its version, and no other thing of it is a version
 pub new_stands : (s : SubscriptionParts) (kind : Kind) (item : ItemParts) (body : Body) (world : World)
-    → StandsFor s (with_content (λ content. keep_version kind item) body world) → StandsFor s (with_content (add_row kind item) body world)
+    → HasVersions s (with_content (λ content. keep_version kind item) body world) → HasVersions s (with_content (add_row kind item) body world)
 new_stands s kind item (Good content) world stands =
     stands_as s (keep_version kind item world) (add_row kind item content world) (record { node = refl; stream = refl; versions = refl }) stands
 new_stands s kind item (Bad rule) world stands = stands
@@ -31,7 +31,7 @@ new_stands s kind item Beat world stands = stands
 
 -- a value that came keeps its version
 pub kept_stands : (s : SubscriptionParts) (kind : Kind) (item : ItemParts) (body : Body) (world : World)
-    → StandsFor s (with_content (λ content. keep_version kind item) body world) → StandsFor s (with_content (keep_value kind item) body world)
+    → HasVersions s (with_content (λ content. keep_version kind item) body world) → HasVersions s (with_content (keep_value kind item) body world)
 kept_stands s kind item (Good content) world stands =
     stands_as s (keep_version kind item world) (keep_value kind item content world) (record { node = refl; stream = refl; versions = refl }) stands
 kept_stands s kind item (Bad rule) world stands = stands
@@ -40,13 +40,13 @@ kept_stands s kind item Beat world stands = stands
 -- the version of a resource that is new, the same or kept is all that a subscription learns of it
 pub good_stands : (s : SubscriptionParts) (kind : Kind) (verdict : Verdict) (item : ItemParts) (world : World)
     → (verdict ≡ New) ⊎ ((verdict ≡ Same) ⊎ (verdict ≡ Kept))
-    → StandsFor s (with_content (λ content. keep_version kind item) item.body world) → StandsFor s (add_item kind verdict item world)
+    → HasVersions s (with_content (λ content. keep_version kind item) item.body world) → HasVersions s (add_item kind verdict item world)
 good_stands s kind verdict item world (inl is) stands =
-    subst (λ (v : Verdict). StandsFor s (add_item kind v item world)) (sym is) (new_stands s kind item item.body world stands)
+    subst (λ (v : Verdict). HasVersions s (add_item kind v item world)) (sym is) (new_stands s kind item item.body world stands)
 good_stands s kind verdict item world (inr (inl is)) stands =
-    subst (λ (v : Verdict). StandsFor s (add_item kind v item world)) (sym is) stands
+    subst (λ (v : Verdict). HasVersions s (add_item kind v item world)) (sym is) stands
 good_stands s kind verdict item world (inr (inr is)) stands =
-    subst (λ (v : Verdict). StandsFor s (add_item kind v item world)) (sym is) (kept_stands s kind item item.body world stands)
+    subst (λ (v : Verdict). HasVersions s (add_item kind v item world)) (sym is) (kept_stands s kind item item.body world stands)
 
 -- one resource more has come in
 pub item_more : (kind : Kind) (verdicts : List Verdict) (items : List ItemParts) (place : ℕ) (verdict : Verdict) (item : ItemParts) (world : World)

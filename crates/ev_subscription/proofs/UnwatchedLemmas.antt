@@ -15,7 +15,7 @@ use Rattle.ev_model.specs.Verdicts.{is_among}
 use Rattle.ev_model.specs.Versions.{is_version_of, without_version}
 use Rattle.ev_model.specs.Watching.{is_watched}
 use Rattle.ev_model_laws.proofs.VersionLemmas.{version_decides}
-use Rattle.ev_subscription.specs.Subscriptions.{AreEnded, StandsFor, SubscriptionParts, without_versions}
+use Rattle.ev_subscription.specs.Subscriptions.{AreEnded, HasVersions, SubscriptionParts, without_versions}
 use Rattle.ev_subscription.proofs.KindLemmas.{all_kept, among_more, both_filters, names_more, same_filter}
 use Rattle.ev_subscription.proofs.ResponseLemmas.{stands_as}
 
@@ -104,8 +104,8 @@ module _ (lives : List Live) (endpoints routes : List (List ℕ))
 
 -- where no other name is unwatched, what is forgotten is what isn't watched
 pub unwatched_stand : (s : SubscriptionParts) (endpoints routes : List (List ℕ)) (world : World) → AreEnded Eds endpoints world → AreEnded Rds routes world
-    → StandsFor s (record world { versions = without_versions Rds routes (without_versions Eds endpoints world.versions) })
-    → StandsFor s (without_unwatched world)
+    → HasVersions s (record world { versions = without_versions Rds routes (without_versions Eds endpoints world.versions) })
+    → HasVersions s (without_unwatched world)
 unwatched_stand s endpoints routes world eds rds stands =
     stands_as s (record world { versions = without_versions Rds routes (without_versions Eds endpoints world.versions) }) (without_unwatched world)
     (record {

@@ -4,7 +4,7 @@ use Rattle.ev_types.specs.declared.contents.Kind.{Kind}
 use Rattle.ev_types.specs.declared.contents.Request.{Request}
 use Rattle.ev_model.specs.Requests.{Watched, clusters_request, connect_requests_by, other_than, requests_by, whole_request}
 use Rattle.ev_model.specs.World.{World}
-use Rattle.ev_subscription.specs.Subscriptions.{SubscriptionParts, StandsFor, InWorlds}
+use Rattle.ev_subscription.specs.Subscriptions.{SubscriptionParts, HasVersions, InWorlds}
 use Rattle.ev_subscription.specs.declared.changes.NameChange.{NameChange}
 
 -- a request of this kind that states these versions, and asks for no change of names
@@ -41,7 +41,7 @@ TellsEnded before after change = change.ended ≡ other_than after before
 -- in every world that the subscription stands for, these are the requests of an event that changes what is watched so
 abbrev pub AsksChanges : NameChange → NameChange → Bool → Option Request → SubscriptionParts → List Request → Type 0
 AsksChanges endpoints routes asked reply subscription requests =
-    (world : World) (before after : Watched) → StandsFor subscription world
+    (world : World) (before after : Watched) → HasVersions subscription world
     → TellsBegun before.endpoints after.endpoints endpoints → TellsEnded before.endpoints after.endpoints endpoints
     → TellsBegun before.routes after.routes routes → TellsEnded before.routes after.routes routes
     → requests ≡ requests_by world.stream before after asked world.versions reply

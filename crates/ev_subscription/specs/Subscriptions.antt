@@ -53,7 +53,7 @@ abbrev pub kept_of : Kind → List KeptVersion → List KeptVersion
 kept_of kind versions = filter (λ (kept : KeptVersion). kind_same kept.kind kind) versions
 
 -- the subscription has the node, the stream and the versions of the world, in which each is kept once and in the order of the names
-pub record StandsFor (subscription : SubscriptionParts) (world : World) : Type 0 where
+pub record HasVersions (subscription : SubscriptionParts) (world : World) : Type 0 where
   pub node : subscription.node ≡ world.node
   pub stream : subscription.stream ≡ world.stream
   pub versions : (kind : Kind) → held_of subscription kind ≡ kept_of kind world.versions
@@ -81,11 +81,11 @@ pub record AreEnded (kind : Kind) (names : List (List ℕ)) (world : World) : Ty
 
 -- it is so in every world that the subscription stands for
 abbrev pub InWorlds : SubscriptionParts → (World → Type 0) → Type 0
-InWorlds subscription Said = (world : World) → StandsFor subscription world → Said world
+InWorlds subscription Said = (world : World) → HasVersions subscription world → Said world
 
 -- whatever world the old one stood for, the new one stands for what the change makes of it
 abbrev pub StandsAfter : (World → World) → SubscriptionParts → SubscriptionParts → Type 0
-StandsAfter change old new = (world : World) → StandsFor old world → StandsFor new (change world)
+StandsAfter change old new = (world : World) → HasVersions old world → HasVersions new (change world)
 
 -- the world with the version of this item, where its body is good
 abbrev pub with_good : Kind → ItemParts → World → World
@@ -111,4 +111,4 @@ with_response kind verdicts response world = add_items kind verdicts response.it
 -- stands for that world without what isn't watched
 abbrev pub StandsWithoutEnded : List (List ℕ) → List (List ℕ) → SubscriptionParts → SubscriptionParts → Type 0
 StandsWithoutEnded endpoints routes old new =
-    (world : World) → StandsFor old world → AreEnded Eds endpoints world → AreEnded Rds routes world → StandsFor new (without_unwatched world)
+    (world : World) → HasVersions old world → AreEnded Eds endpoints world → AreEnded Rds routes world → HasVersions new (without_unwatched world)

@@ -15,7 +15,7 @@ use Rattle.ev_model.specs.Phase.{has_active, has_live, has_come, have_come, phas
 use Rattle.ev_model.specs.Tidy.{with_phase}
 use Rattle.ev_indexes.specs.Indexes.{serves, warms}
 use Rattle.ev_indexes.specs.Reads.{has_come_in}
-use Rattle.ev_indexes.specs.Worlds.{rows_of_kind, StandsFor}
+use Rattle.ev_indexes.specs.Worlds.{HasRows, rows_of_kind}
 use Rattle.ev_indexes.specs.declared.state.State.{State}
 use Rattle.ev_targets.specs.Targets.{TargetsParts, HaveBooted}
 
@@ -88,7 +88,7 @@ living kind name rows =
     ∙ any_either (λ (row : GenRow). is_row_of kind name row && is_active row.status) (λ (row : GenRow). is_row_of kind name row && is_warming row.status) rows
 
 -- a name has come by the manager's tables where it has come in the world
-pub come-world : (kind : Kind) (s : State) (world : World) (name : List ℕ) → s.kind ≡ kind → StandsFor s world → has_come_in s.table.rows name ≡ has_come world.rows kind name
+pub come-world : (kind : Kind) (s : State) (world : World) (name : List ℕ) → s.kind ≡ kind → HasRows s world → has_come_in s.table.rows name ≡ has_come world.rows kind name
 unfolding has_come
 come-world kind s world name of_kind stands =
     let are : s.table.rows ≡ rows_of_kind kind world.rows = stands.rows ∙ ap (λ k. rows_of_kind k world.rows) of_kind in
@@ -107,7 +107,7 @@ have_come-same late p q None same = refl
 have_come-same late p q (Some names) same = ap (λ b. late || b) (all_same p q same names)
 
 -- where all three stand for a world, the phase that follows is the world's
-pub phase-stands : (t : TargetsParts) (clusters listeners : State) (world : World) → clusters.kind ≡ Cds → listeners.kind ≡ Lds → HaveBooted t world → StandsFor clusters world → StandsFor listeners world
+pub phase-stands : (t : TargetsParts) (clusters listeners : State) (world : World) → clusters.kind ≡ Cds → listeners.kind ≡ Lds → HaveBooted t world → HasRows clusters world → HasRows listeners world
     → HaveBooted (record t {
       phase = phase_from (have_come t.late_clusters (has_come_in clusters.table.rows) t.first_clusters) (have_come t.late_listeners (has_come_in listeners.table.rows) t.first_listeners) t.phase;
     }) (with_phase world)

@@ -10,7 +10,7 @@ use Rattle.ev_model.specs.Rows.{made_names, noted_once, with_first}
 use Rattle.ev_model.specs.Phase.{have_come, is_clusters}
 use Rattle.ev_model.specs.Tidy.{with_phase}
 use Rattle.ev_indexes.specs.Reads.{has_come_in}
-use Rattle.ev_indexes.specs.Worlds.{StandsFor}
+use Rattle.ev_indexes.specs.Worlds.{HasRows}
 use Rattle.ev_indexes.specs.declared.state.State.{State}
 
 -- the first names of a kind, where a first response came, and whether they are late
@@ -77,4 +77,4 @@ with_late_listeners are_late world = if are_late then record world { late_listen
 -- whatever world the old ones and both managers stood for, the new ones stand for it in the phase that follows
 abbrev pub MoveOn : State → State → TargetsParts → TargetsParts → Type 0
 MoveOn clusters listeners old new =
-    (world : World) → HaveBooted old world → StandsFor clusters world → StandsFor listeners world → HaveBooted new (with_phase world)
+    (world : World) → HaveBooted old world → HasRows clusters world → HasRows listeners world → HaveBooted new (with_phase world)

@@ -37,10 +37,10 @@ use Rattle.ev_expand.specs.Guarding.{Guarded, guarded_by, private_name}
 use Rattle.ev_expand.specs.Private.{first_use}
 use Rattle.ev_expand_laws.specs.Said.{given_lines, lines_in}
 use Rattle.ev_expand_laws.proofs.CountLemmas.{guarded_few}
-use Rattle.ev_secrets.specs.declared.awaited.Awaited.TheVariants.{Secret}
-use Rattle.ev_secrets.specs.References.{by_secrets}
-use Rattle.ev_secrets.specs.Sealing.{is_due, tls_rules}
-use Rattle.ev_secrets.specs.Told.{is_told, told_by}
+use Rattle.ev_tls_secrets.specs.declared.awaited.Awaited.TheVariants.{Secret}
+use Rattle.ev_tls_secrets.specs.References.{by_secrets}
+use Rattle.ev_tls_secrets.specs.Sealing.{is_due, tls_rules}
+use Rattle.ev_tls_secrets.specs.Told.{is_told, told_by}
 use Rattle.ev_expand_laws.specs.Runs.{place_given, run_told}
 use Rattle.ev_tls.specs.Sealed.{StandsBefore, WasTold, sealed_script}
 use Rattle.ev_expand_laws.proofs.DueLemmas.{named_due}

@@ -19,7 +19,7 @@ use Rattle.ev_expand_laws.specs.Said.{lines_in, HasLine, AllAt, input_of_text, e
 use Rattle.ev_expand_laws.specs.Scripts.{IsLineIfWritten, IsExpandable}
 use Rattle.ev_expand_laws.proofs.FormLemmas.{trees_have_lines, trees_are_readable}
 use Rattle.ev_expand_laws.proofs.ScriptLemmas.{text_is_script}
-use Rattle.ev_secrets.specs.Sealing.{tls_rules}
+use Rattle.ev_tls_secrets.specs.Sealing.{tls_rules}
 use Rattle.ev_tls.proofs.ShallowLemmas.{lines_shallow}
 
 lines_written : (settings : Settings) (at : ℕ) (lines : List Data) → AllAt (HasLine settings) at lines → AllAt (IsLineIfWritten (tls_rules settings.profile) settings) at lines

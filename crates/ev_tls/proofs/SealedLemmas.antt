@@ -46,8 +46,8 @@ use Rattle.ev_expand_laws.proofs.OrderLemmas.{IsOfLine, entry_in, is_behind, of_
 use Rattle.ev_expand_laws.proofs.ReadLemmas.{guarded_item, other_item, waiting_reads, waiting_stays}
 use Rattle.ev_expand_laws.proofs.SaidPlaceLemmas.{IsSaid, line_event, line_place, said_is}
 use Rattle.ev_expand_laws.proofs.WaitLemmas.{own_types}
-use Rattle.ev_secrets.specs.References.{body_key, by_secrets, content_key, has_own_hosts, references_of}
-use Rattle.ev_secrets.specs.Sealing.{tls_rules}
+use Rattle.ev_tls_secrets.specs.References.{body_key, by_secrets, content_key, has_own_hosts, references_of}
+use Rattle.ev_tls_secrets.specs.Sealing.{tls_rules}
 use Rattle.ev_tls.specs.Sealed.{IsByLine, IsMadeOf, NamesSecret, Sealed, sealed_script}
 use Rattle.ev_tls.proofs.KeyLemmas.{AsksFor, KeyNames, sealed_by_key}
 use Rattle.ev_tls.proofs.MadeLemmas.{MakesAt, made_there, makes_at}

@@ -25,9 +25,9 @@ use Rattle.ev_expand.specs.Guarding.{Guarded, guarded_same, clusters_in, body_in
 use Rattle.ev_expand_laws.specs.Scripts.{IsShallow, AreShallowAt}
 use Rattle.ev_expand_laws.proofs.DepthLemmas.{IsWithin, field_within, object_within, entries_within, message_within, body_within, clusters_within}
 use Rattle.ev_expand_laws.proofs.GivenLemmas.{all_given, all_fronts}
-use Rattle.ev_secrets.specs.References.{endpoints_in, by_secrets}
-use Rattle.ev_secrets.specs.Told.{gives_value, value_given, given_as, given_with, values_in, value_of}
-use Rattle.ev_secrets.specs.Sealing.{endpoints_by, tls_rules}
+use Rattle.ev_tls_secrets.specs.References.{endpoints_in, by_secrets}
+use Rattle.ev_tls_secrets.specs.Told.{gives_value, value_given, given_as, given_with, values_in, value_of}
+use Rattle.ev_tls_secrets.specs.Sealing.{endpoints_by, tls_rules}
 
 -- ---- endpoints in a line
 

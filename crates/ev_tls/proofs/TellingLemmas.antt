@@ -21,10 +21,10 @@ use Rattle.ev_expand.specs.Fronts.{Front, event_of, fronts, message_of}
 use Rattle.ev_expand.specs.Guarding.{clusters_in, kind_of, listed_as}
 use Rattle.ev_expand_laws.specs.Said.{given_lines, lines_in}
 use Rattle.ev_expand_laws.proofs.ReadLemmas.{waiting_stays}
-use Rattle.ev_secrets.specs.declared.awaited.Awaited.TheVariants.{Secret, Endpoints}
-use Rattle.ev_secrets.specs.References.{by_secrets}
-use Rattle.ev_secrets.specs.Sealing.{tls_rules}
-use Rattle.ev_secrets.specs.Told.{endpoints_told, told_as, told_by, told_with}
+use Rattle.ev_tls_secrets.specs.declared.awaited.Awaited.TheVariants.{Secret, Endpoints}
+use Rattle.ev_tls_secrets.specs.References.{by_secrets}
+use Rattle.ev_tls_secrets.specs.Sealing.{tls_rules}
+use Rattle.ev_tls_secrets.specs.Told.{endpoints_told, told_as, told_by, told_with}
 use Rattle.ev_expand_laws.specs.Runs.{place_given}
 use Rattle.ev_tls.specs.Sealed.{sealed_script}
 use Rattle.ev_expand_laws.proofs.FrontLemmas.{given_at, given_before}

@@ -17,8 +17,8 @@ use Rattle.ev_expand.specs.Private.{first_use}
 use Rattle.ev_expand_laws.specs.Said.{given_lines}
 use Rattle.ev_expand_laws.specs.Waiting.{WaitsAsSaid, has_guarded, following_response, stream_line, waiting_response}
 use Rattle.ev_expand_laws.proofs.ReadLemmas.{following_reads, waiting_reads, waiting_stays}
-use Rattle.ev_secrets.specs.References.{by_secrets}
-use Rattle.ev_secrets.specs.Sealing.{tls_rules}
+use Rattle.ev_tls_secrets.specs.References.{by_secrets}
+use Rattle.ev_tls_secrets.specs.Sealing.{tls_rules}
 use Rattle.ev_expand_laws.proofs.DueLemmas.{IsDueName, due_named}
 use Rattle.ev_expand_laws.proofs.FrontLemmas.{IsGivenAt, front_at, given_before, given_from}
 use Rattle.ev_expand_laws.proofs.ListLemmas.{some_same}

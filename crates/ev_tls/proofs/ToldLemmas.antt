@@ -8,11 +8,11 @@ use Rattle.ev_model_laws.proofs.OperationLists.{IsIn, in_filter, in_front}
 use Rattle.ev_expand.specs.declared.keys.Key.{Key}
 use Rattle.ev_expand.specs.Fronts.{Front, fronts, heard, opens, stream_at, up_to}
 use Rattle.ev_expand.specs.Guarding.{Guarded}
-use Rattle.ev_secrets.specs.declared.awaited.Awaited.{Awaited}
-use Rattle.ev_secrets.specs.declared.awaited.Awaited.TheVariants.{Secret, Endpoints}
-use Rattle.ev_secrets.specs.Awaited.{awaited_by, awaited_decides, awaited_same, services_of}
-use Rattle.ev_secrets.specs.Sealing.{gives_endpoints, has_guarded, is_due}
-use Rattle.ev_secrets.specs.Told.{is_complete, is_told, told_by}
+use Rattle.ev_tls_secrets.specs.declared.awaited.Awaited.{Awaited}
+use Rattle.ev_tls_secrets.specs.declared.awaited.Awaited.TheVariants.{Secret, Endpoints}
+use Rattle.ev_tls_secrets.specs.Awaited.{awaited_by, awaited_decides, awaited_same, services_of}
+use Rattle.ev_tls_secrets.specs.Sealing.{gives_endpoints, has_guarded, is_due}
+use Rattle.ev_tls_secrets.specs.Told.{is_complete, is_told, told_by}
 use Rattle.ev_expand_laws.proofs.FrontLemmas.{fronts_taken}
 use Rattle.ev_expand_laws.proofs.ListLemmas.{all_in, contains_in, get_in, in_any, in_flat, in_map, map_in, taken_get}
 

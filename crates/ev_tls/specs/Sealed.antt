@@ -20,10 +20,10 @@ use Rattle.ev_expand.specs.Guarding.{body_in, clusters_in}
 use Rattle.ev_expand.specs.Private.{first_use}
 use Rattle.ev_expand_laws.specs.Said.{expanded_script, lines_in}
 use Rattle.ev_expand_laws.specs.Runs.{place_given, run_told}
-use Rattle.ev_secrets.specs.declared.awaited.Awaited.TheVariants.{Secret}
-use Rattle.ev_secrets.specs.References.{has_own_hosts, references_of}
-use Rattle.ev_secrets.specs.Sealing.{tls_rules}
-use Rattle.ev_secrets.specs.Told.{told_by}
+use Rattle.ev_tls_secrets.specs.declared.awaited.Awaited.TheVariants.{Secret}
+use Rattle.ev_tls_secrets.specs.References.{has_own_hosts, references_of}
+use Rattle.ev_tls_secrets.specs.Sealing.{tls_rules}
+use Rattle.ev_tls_secrets.specs.Told.{told_by}
 
 -- the script that the command writes
 abbrev pub sealed_script : ScriptTrees → ScriptParts

@@ -3,7 +3,7 @@
 //!
 //! # Choices
 //!
-//! - The text is made by `ev_secrets`; that it is a script is the law of `ev_expand_laws`, whose premises are proved here: trees
+//! - The text is made by `ev_tls_secrets`; that it is a script is the law of `ev_expand_laws`, whose premises are proved here: trees
 //!   that were read are lines of a script, and the endpoints that are sent were in such a line at least as deep.
 #![tactic(auto)]
 
@@ -15,13 +15,13 @@ ghost use Rattle.ev_script.specs.ReadTrees.{IsTreesAnswer};
 ghost use Rattle.ev_script.specs.Script.{script_of};
 ghost use Rattle.ev_expand.specs.Expanding.{IsExpanded};
 ghost use Rattle.ev_expand_laws.specs.Said.{lines_in, input_of_text, expanded_script};
-ghost use Rattle.ev_secrets.specs.Sealing.{tls_rules};
+ghost use Rattle.ev_tls_secrets.specs.Sealing.{tls_rules};
 
 mod laws;
 
 use ev_expand::ExpandError;
 use ev_script::ScriptTrees;
-use ev_secrets::expand;
+use ev_tls_secrets::expand;
 pub use laws::accepts_are_sealed;
 use std::alloc::Global;
 
@@ -34,9 +34,11 @@ use std::alloc::Global;
 /// lines and more.
 pub fn seal(alloc: Global, trees: &ScriptTrees) -> Result<Vec<u8>, ExpandError>
     requires read { (input : Input) × IsTreesAnswer plain_lines input (Ok trees.now) }
-    ensures expanded { IsExpanded (tls_rules trees.now.header.profile) (view trees.now.head) (lines_in trees.now) result }
+    ensures expanded { IsExpanded (tls_rules trees.now.header.profile) (view trees.now.head)
+        (lines_in trees.now) result }
     ensures sound { IfOk result (λ text. HasNoFault plain_lines (input_of_text text.items)) }
-    ensures script { IfOk result (λ text. script_of false text.items ≡ Some (expanded_script (tls_rules trees.now.header.profile) trees.now)) }
+    ensures script { IfOk result (λ text. script_of false text.items
+        ≡ Some (expanded_script (tls_rules trees.now.header.profile) trees.now)) }
     ensures kept { OnOk result (IsScript (expanded_script (tls_rules trees.now.header.profile) trees.now)) }
 {
     expand(alloc, trees.header.profile, &trees.head, &trees.lines)

@@ -13,7 +13,7 @@ use Rattle.ev_script.specs.Members.{tree_of}
 use Rattle.ev_script.specs.Lines.{line_of}
 use Rattle.ev_script.specs.Content.{first_of, first_tree, IsLineOf}
 use Rattle.ev_script.specs.Faults.{worker_of, plain_lines, index_at}
-use Rattle.ev_script.specs.ReadLines.{AreRead, AreKept}
+use Rattle.ev_script.specs.ReadLines.{AreRead, AreLinesKept}
 use Rattle.ev_script.specs.ReadScript.{IsHeaderOf}
 use Rattle.ev_script.proofs.FirstLemmas.{no_fault}
 use Rattle.ev_script.proofs.PlaceLemmas.{ends_within}
@@ -74,7 +74,7 @@ are_read header lines head trees are = record {
     by_index (suc i) some h = line_behind header lines head trees are i (omega arith)
 
 are_kept : (header : Header) (lines : List Line) (head : Data) (trees : List Data) → AreScript header lines head trees
-    → AreKept (IsLine header.profile) (texts_of head trees) lines
+    → AreLinesKept (IsLine header.profile) (texts_of head trees) lines
 are_kept header lines head trees are = λ i other h.
     record {
       tree = get_or trees i null;
@@ -101,5 +101,5 @@ script_is header lines head trees are =
           (λ asked ended. let no : false ≡ true = asked in cc),
       whole_script plain_lines IsLine false (lines_of text) header lines keeps_plain
           (subst (λ (ts : List (List ℕ)). IsHeaderOf (get_or ts 0 []) header) (sym texts) (heads_text header lines head trees are)) read
-          (subst (λ (ts : List (List ℕ)). AreKept (IsLine header.profile) ts lines) (sym texts) (are_kept header lines head trees are)) long,
+          (subst (λ (ts : List (List ℕ)). AreLinesKept (IsLine header.profile) ts lines) (sym texts) (are_kept header lines head trees are)) long,
     )

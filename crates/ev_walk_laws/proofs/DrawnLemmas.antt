@@ -19,7 +19,7 @@ use Rattle.ev_model.specs.World.{opening}
 use Rattle.ev_model.specs.Operations.{Operation, actor_same, actor_decides, is_automatic, is_earlier, is_full_at, line_operations, followers, step_behind, last_settle, all_operations, operations_of, entry_of, entries_of}
 use Rattle.ev_model.specs.Finding.{operations_left, journal_told}
 use Rattle.ev_run_laws.specs.Drawing.{NumbersSuffice}
-use Rattle.ev_run_laws.proofs.NumberLemmas.{entry_made}
+use Rattle.ev_run_laws.proofs.NumberLemmas.{entry_draws}
 use Rattle.ev_walk_laws.specs.Walks.{NothingFound, IsNextFor, journal_before, world_behind}
 use Rattle.ev_walk_laws.proofs.NextLemmas.{HasNext, journal_more, left_other, left_own, next_actor, next_allowed, next_entry, next_of_none}
 
@@ -139,7 +139,7 @@ module _ (format : Format) (script : ScriptParts) (kept : IsScript script) (jour
   suffice = suffice_by (actor_same o.actor Stream) refl
 
   drawn : (world_behind format script (journal ++ entry_of o row.answer ∷ [])).made ≤ (world_behind format script journal).made + items_in o.event
-  drawn = entry_made format (opening script.workers script.node) journal (entry_of o row.answer)
+  drawn = entry_draws format (opening script.workers script.node) journal (entry_of o row.answer)
 
   room_by : (b : Bool) → actor_same o.actor Stream ≡ b → HasRoom format script (journal ++ entry_of o row.answer ∷ [])
   room_by true is =

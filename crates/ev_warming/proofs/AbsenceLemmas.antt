@@ -21,7 +21,7 @@ use Rattle.ev_model.specs.Verdicts.{is_among, is_removed}
 use Rattle.ev_model.specs.Rows.{arrived, absent_names, versions_left, with_removals, refuse}
 use Rattle.ev_indexes.specs.declared.state.State.{State}
 use Rattle.ev_indexes.specs.Indexes.{depends_on}
-use Rattle.ev_indexes.specs.Worlds.{needs_of, StandsFor}
+use Rattle.ev_indexes.specs.Worlds.{HasRows, needs_of}
 use Rattle.ev_indexes.specs.Needs.{HaveNames, is_needed}
 use Rattle.ev_warming.specs.Changes.{is_unlisted}
 use Rattle.ev_warming.specs.Arrivals.{told_where}
@@ -65,11 +65,11 @@ told-is false kind name world before = λ i. record world { arrivals = world.arr
 pub absent-more : (s t : State) (world : World) (response : ResponseParts) (kind : Kind) (rows : List GenRow) (i : ℕ) (name : List ℕ)
     → i < length response.removed → name ≡ get_or response.removed i name
     → is_watched (lives_of world) kind name ≡ list_any (depends_on name) rows
-    → StandsFor s (with_absent response kind world (take i response.removed))
-    → ((w : World) → StandsFor s w → w.made ≡ world.made → StandsFor t (told_where (is_unlisted response name && list_any (depends_on name) rows) kind Absent name w))
-    → StandsFor t (with_absent response kind world (take (i + 1) response.removed))
+    → HasRows s (with_absent response kind world (take i response.removed))
+    → ((w : World) → HasRows s w → w.made ≡ world.made → HasRows t (told_where (is_unlisted response name && list_any (depends_on name) rows) kind Absent name w))
+    → HasRows t (with_absent response kind world (take (i + 1) response.removed))
 absent-more s t world response kind rows i name within is watched before step =
-    subst (StandsFor t)
+    subst (HasRows t)
     ((λ j. told_where (sym test j) kind Absent name (with_absent response kind world (take i response.removed)))
     ∙ told-is (is_absent response kind world name) kind name world (map (arrived world.made kind Absent) (filter (is_absent response kind world) (take i response.removed)))
     ∙ (λ j. record world { arrivals = world.arrivals ++ sym more j }))
@@ -90,8 +90,8 @@ absent-more s t world response kind rows i name within is watched before step =
         ∙ map-append (arrived world.made kind Absent) (filter (is_absent response kind world) (take i response.removed)) (filter (is_absent response kind world) (name ∷ []))
         ∙ ap (λ xs. map (arrived world.made kind Absent) (filter (is_absent response kind world) (take i response.removed)) ++ xs) (absent-one world.made kind name (is_absent response kind world name))
 
-pub absent-none : (s : State) (world : World) (response : ResponseParts) (kind : Kind) → StandsFor s world → StandsFor s (with_absent response kind world [])
-absent-none s world response kind stands = subst (λ (came : List Arrived). StandsFor s (record world { arrivals = came })) (sym (append-nil world.arrivals)) stands
+pub absent-none : (s : State) (world : World) (response : ResponseParts) (kind : Kind) → HasRows s world → HasRows s (with_absent response kind world [])
+absent-none s world response kind stands = subst (λ (came : List Arrived). HasRows s (record world { arrivals = came })) (sym (append-nil world.arrivals)) stands
 
 -- removals, where versions are left aside
 absences-are : (kind : Kind) (response : ResponseParts) (world : World) → is_by_name kind ≡ false
@@ -103,10 +103,10 @@ absences-are Eds response world h = absurd (true≢false h)
 absences-are Rds response world h = absurd (true≢false h)
 
 pub absences-stand : (s : State) (world : World) (kind : Kind) (response : ResponseParts) → is_by_name kind ≡ false
-    → StandsFor s (record world { arrivals = world.arrivals ++ map (arrived world.made (needs_of kind) Absent) (absent_names (needs_of kind) response world) })
-    → StandsFor s (with_removals (needs_of kind) response world)
+    → HasRows s (record world { arrivals = world.arrivals ++ map (arrived world.made (needs_of kind) Absent) (absent_names (needs_of kind) response world) })
+    → HasRows s (with_removals (needs_of kind) response world)
 absences-stand s world kind response rows stands =
-    subst (StandsFor s) (absences-are kind response world rows)
+    subst (HasRows s) (absences-are kind response world rows)
     (versions-stand s (record world { arrivals = world.arrivals ++ map (arrived world.made (needs_of kind) Absent) (absent_names (needs_of kind) response world) }) (versions_left (needs_of kind) response world.versions) stands)
 
 -- a refusal
@@ -117,11 +117,11 @@ refusal-is Lds name world h = refl
 refusal-is Eds name world h = absurd (true≢false h)
 refusal-is Rds name world h = absurd (true≢false h)
 
-pub refusal-stands : (s t : State) (world : World) (name : List ℕ) → is_by_name s.kind ≡ false → StandsFor s world
-    → StandsFor t (told_where (list_any (depends_on name) s.table.rows) (needs_of s.kind) bad name world) → StandsFor t (refuse (needs_of s.kind) name world)
+pub refusal-stands : (s t : State) (world : World) (name : List ℕ) → is_by_name s.kind ≡ false → HasRows s world
+    → HasRows t (told_where (list_any (depends_on name) s.table.rows) (needs_of s.kind) bad name world) → HasRows t (refuse (needs_of s.kind) name world)
 refusal-stands s t world name rows stands told =
-    subst (StandsFor t) ((λ i. told_where (sym (watched-same s world stands rows name) i) (needs_of s.kind) bad name world) ∙ refusal-is s.kind name world rows) told
+    subst (HasRows t) ((λ i. told_where (sym (watched-same s world stands rows name) i) (needs_of s.kind) bad name world) ∙ refusal-is s.kind name world rows) told
 
 -- nothing came
-pub quiet-stands : (s : State) (world : World) (b : Bool) (kind : Kind) (arrival : Arrival) (name : List ℕ) → b ≡ false → StandsFor s world → StandsFor s (told_where b kind arrival name world)
-quiet-stands s world b kind arrival name e stands = subst (λ (w : Bool). StandsFor s (told_where w kind arrival name world)) (sym e) stands
+pub quiet-stands : (s : State) (world : World) (b : Bool) (kind : Kind) (arrival : Arrival) (name : List ℕ) → b ≡ false → HasRows s world → HasRows s (told_where b kind arrival name world)
+quiet-stands s world b kind arrival name e stands = subst (λ (w : Bool). HasRows s (told_where w kind arrival name world)) (sym e) stands

@@ -19,7 +19,7 @@ use Rattle.ev_model.specs.Watching.{dependencies_of}
 use Rattle.ev_generations.specs.Tables.{GenerationsParts, IsTable, is_number, row_in, status_with, with_status, numbers_of}
 use Rattle.ev_indexes.specs.declared.state.State.{State}
 use Rattle.ev_indexes.specs.Addresses.{AddressesKept, HoldsAddress, listens_at}
-use Rattle.ev_indexes.specs.Due.{is_among}
+use Rattle.ev_indexes.specs.Due.{is_one_of}
 use Rattle.ev_indexes.specs.Kept.{Sets}
 use Rattle.ev_indexes.specs.Standings.{NamesKept, nobody, standing_in}
 use Rattle.ev_indexes.specs.Watched.{WatchesKept, watch_in, numbers_without, watched_for, with_last}
@@ -58,9 +58,9 @@ module _ (s : State) (x : IsIndexed s) (name : List ℕ) where
   drop-none none =
       sym (statuses_same s.table.rows)
       ∙ statuses_agree (λ (r : GenRow). r.status) (replaced_status s.kind name) s.table.rows
-      (all_then (λ (r : GenRow). (is_among (numbers_where (warms name) s.table.rows) r.number ≡ warms name r) × (r.kind ≡ s.kind)) (λ (r : GenRow). r.status ≡ replaced_status s.kind name r) s.table.rows
-      (λ r (h, k). λ i. cond ((sym (λ j. is_among ((sym (x.warming name) ∙ ap option_to_list none) j) r.number) ∙ h ∙ warms_of s.kind name r k) i) Dropped r.status)
-      (both_all (λ (r : GenRow). is_among (numbers_where (warms name) s.table.rows) r.number ≡ warms name r) (λ (r : GenRow). r.kind ≡ s.kind) s.table.rows
+      (all_then (λ (r : GenRow). (is_one_of (numbers_where (warms name) s.table.rows) r.number ≡ warms name r) × (r.kind ≡ s.kind)) (λ (r : GenRow). r.status ≡ replaced_status s.kind name r) s.table.rows
+      (λ r (h, k). λ i. cond ((sym (λ j. is_one_of ((sym (x.warming name) ∙ ap option_to_list none) j) r.number) ∙ h ∙ warms_of s.kind name r k) i) Dropped r.status)
+      (both_all (λ (r : GenRow). is_one_of (numbers_where (warms name) s.table.rows) r.number ≡ warms name r) (λ (r : GenRow). r.kind ≡ s.kind) s.table.rows
       (where-members (warms name) s.table.rows x.table.apart) x.kinds))
 
   module _ (p : ℕ) (at : (standing_in s.names name).warming ≡ Some p) where
@@ -68,7 +68,7 @@ module _ (s : State) (x : IsIndexed s) (name : List ℕ) where
     members = sym (x.warming name) ∙ ap option_to_list at
 
     theirs : (row : GenRow) × (row_in p s.table.rows ≡ Some row) × (warms name row ≡ true)
-    theirs = found-where (warms name) p s.table.rows x.table.apart ((λ i. is_among (members i) p) ∙ or-false (nat_eq p p) ∙ eq-eqb p p refl)
+    theirs = found-where (warms name) p s.table.rows x.table.apart ((λ i. is_one_of (members i) p) ∙ or-false (nat_eq p p) ∙ eq-eqb p p refl)
 
     waiting : is_warming theirs.0.status ≡ true
     waiting = (and_parts (is_warming theirs.0.status) (bytes_eq theirs.0.name name) theirs.2).0
@@ -83,9 +83,9 @@ module _ (s : State) (x : IsIndexed s) (name : List ℕ) where
     drop-rows =
         (λ i. with_status p (removed i) s.table.rows)
         ∙ statuses_agree (status_with p Dropped) (replaced_status s.kind name) s.table.rows
-        (all_then (λ (r : GenRow). (is_among (numbers_where (warms name) s.table.rows) r.number ≡ warms name r) × (r.kind ≡ s.kind)) (λ (r : GenRow). status_with p Dropped r ≡ replaced_status s.kind name r) s.table.rows
-        (λ r (h, k). λ i. cond ((flipped p r.number ∙ sym (or-false (nat_eq r.number p)) ∙ (λ j. is_among (sym members j) r.number) ∙ h ∙ warms_of s.kind name r k) i) Dropped r.status)
-        (both_all (λ (r : GenRow). is_among (numbers_where (warms name) s.table.rows) r.number ≡ warms name r) (λ (r : GenRow). r.kind ≡ s.kind) s.table.rows
+        (all_then (λ (r : GenRow). (is_one_of (numbers_where (warms name) s.table.rows) r.number ≡ warms name r) × (r.kind ≡ s.kind)) (λ (r : GenRow). status_with p Dropped r ≡ replaced_status s.kind name r) s.table.rows
+        (λ r (h, k). λ i. cond ((flipped p r.number ∙ sym (or-false (nat_eq r.number p)) ∙ (λ j. is_one_of (sym members j) r.number) ∙ h ∙ warms_of s.kind name r k) i) Dropped r.status)
+        (both_all (λ (r : GenRow). is_one_of (numbers_where (warms name) s.table.rows) r.number ≡ warms name r) (λ (r : GenRow). r.kind ≡ s.kind) s.table.rows
         (where-members (warms name) s.table.rows x.table.apart) x.kinds))
 
     pub drop-alone : (t : State) → IsIndexed t → t.table.rows ≡ with_status p (removed_status (status_in (row_in p s.table.rows))) s.table.rows
@@ -121,7 +121,7 @@ module _ (s : State) (x : IsIndexed s) (name : List ℕ) (content : Content) (al
     (watches : WatchesKept)
     (more : (q : List ℕ) → watch_in watches q ≡ watched_for (s.table.made + 1) q (dependencies_of content) (watch_in s.watches q))
     (addresses : AddressesKept) (held : HoldsAddress s.addresses addresses (s.table.made + 1) content)
-    (due : List ℕ) (looked : (n : ℕ) → is_among due n ≡ cond (is_among ((s.table.made + 1) ∷ []) n) (is_due_at watches s.results n table.rows) (is_among s.due n)) where
+    (due : List ℕ) (looked : (n : ℕ) → is_one_of due n ≡ cond (is_one_of ((s.table.made + 1) ∷ []) n) (is_due_at watches s.results n table.rows) (is_one_of s.due n)) where
   pushed : (test : GenRow → Bool) → numbers_where test table.rows ≡ numbers_where test s.table.rows ++ cond (test (new_row s.kind s.table.made name content)) ((s.table.made + 1) ∷ []) []
   pushed test = ap (numbers_where test) rows ∙ where-push test (new_row s.kind s.table.made name content) s.table.rows
 
@@ -129,7 +129,7 @@ module _ (s : State) (x : IsIndexed s) (name : List ℕ) (content : Content) (al
   agrees q = record { told = λ i. (more q i).told; timed = λ i. (more q i).timed; value = λ i. (more q i).value }
 
   -- the new number is among none of the others
-  away : (test : GenRow → Bool) → is_among (numbers_where test s.table.rows) (s.table.made + 1) ≡ false
+  away : (test : GenRow → Bool) → is_one_of (numbers_where test s.table.rows) (s.table.made + 1) ≡ false
   away test = among-row test (s.table.made + 1) s.table.rows x.table.apart ∙ ap (passes test) (x.table.drawn (s.table.made + 1) (omega arith))
 
   active_too : (q : List ℕ) (b : Bool) → bytes_eq name q ≡ b
@@ -152,7 +152,7 @@ module _ (s : State) (x : IsIndexed s) (name : List ℕ) (content : Content) (al
   put_too test ns index false = index ∙ sym (append-nil (numbers_where test s.table.rows))
 
   due_too : (n : ℕ) (b : Bool) → nat_eq n (s.table.made + 1) ≡ b
-      → cond (b || false) (is_due_at watches s.results n table.rows) (is_among s.due n) ≡ is_due_at watches s.results n table.rows
+      → cond (b || false) (is_due_at watches s.results n table.rows) (is_one_of s.due n) ≡ is_due_at watches s.results n table.rows
   due_too n true e = refl
   due_too n false e =
       x.due n ∙ sym (is_due_at-agrees s.watches watches s.results agrees n s.table.rows)

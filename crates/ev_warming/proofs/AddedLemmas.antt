@@ -19,7 +19,7 @@ use Rattle.ev_endpoints.specs.Results.{result_in}
 use Rattle.ev_generations.specs.Tables.{is_number, row_in}
 use Rattle.ev_indexes.specs.declared.state.State.{State}
 use Rattle.ev_indexes.specs.Indexes.{IsIndexed, SameMarks}
-use Rattle.ev_indexes.specs.Worlds.{needs_of, rows_of_kind, StandsFor}
+use Rattle.ev_indexes.specs.Worlds.{HasRows, needs_of, rows_of_kind}
 use Rattle.ev_indexes.proofs.SoundLemmas.{sound-added}
 use Rattle.ev_indexes.proofs.WorldLemmas.{rows_of_kind-with_statuses}
 use Rattle.ev_warming.proofs.PromotedLemmas.{there_before}
@@ -56,10 +56,10 @@ there_early kind made name content rows n below there =
     by None h = h
     by (Some row) h = h
 
-pub added-stands : (s t : State) (world : World) (name : List ℕ) (content : Content) → IsName name → content_kind content ≡ s.kind → IsIndexed s → StandsFor s world → s.table.made ≡ world.made
+pub added-stands : (s t : State) (world : World) (name : List ℕ) (content : Content) → IsName name → content_kind content ≡ s.kind → IsIndexed s → HasRows s world → s.table.made ≡ world.made
     → t.kind ≡ s.kind → t.results ≡ s.results → t.table.made ≡ s.table.made + 1 → SameMarks s.watches t.watches
     → t.table.rows ≡ rows_with_new s.kind s.table.made name content s.table.rows
-    → StandsFor t (record world { rows = rows_with_new s.kind world.made name content world.rows; made = world.made + 1 }) × (t.table.made ≡ world.made + 1)
+    → HasRows t (record world { rows = rows_with_new s.kind world.made name content world.rows; made = world.made + 1 }) × (t.table.made ≡ world.made + 1)
 added-stands s t world name content named typed x stands level kind results made marks rows =
     let there : (n : ℕ) → n ≤ s.table.made → IsSome (row_in n t.table.rows) → IsSome (row_in n s.table.rows) =
     λ n below there. there_early s.kind s.table.made name content s.table.rows n below (subst (λ (rs : List GenRow). IsSome (row_in n rs)) rows there) in (

@@ -25,7 +25,7 @@ use Rattle.ev_indexes.specs.Kept.{Sets}
 use Rattle.ev_indexes.specs.Watched.{WatchesKept, unwatched, watch_in, with_arrival}
 use Rattle.ev_indexes.specs.Indexes.{SameMarks}
 use Rattle.ev_warming.specs.Promotion.{status_drained}
-use Rattle.ev_indexes.specs.Worlds.{needs_of, rows_of_kind, StandsFor}
+use Rattle.ev_indexes.specs.Worlds.{HasRows, needs_of, rows_of_kind}
 use Rattle.ev_indexes.proofs.RowLemmas.{all_then, statuses_agree}
 use Rattle.ev_warming.proofs.PromotionLemmas.{with_statuses-twice}
 use Rattle.ev_indexes.proofs.SoundLemmas.{sound-with_statuses}
@@ -83,7 +83,7 @@ value-with_arrival made Bad watch = refl
 value-with_arrival made TimedOut watch = refl
 value-with_arrival made (Ended content) watch = refl
 
-module _ (s : State) (world : World) (stands : StandsFor s world) (name : List ℕ) (arrival : Arrival) (watches : WatchesKept)
+module _ (s : State) (world : World) (stands : HasRows s world) (name : List ℕ) (arrival : Arrival) (watches : WatchesKept)
     (sets : Sets unwatched s.watches watches name (with_arrival world.made arrival (watch_in s.watches name))) where
   abbrev new : Arrived
   new = arrived world.made (needs_of s.kind) arrival name
@@ -127,7 +127,7 @@ module _ (s : State) (world : World) (stands : StandsFor s world) (name : List �
           ∙ (λ i. last_or (stands.value q i) (filter_map content_in (arrival ∷ [])))
       by false e = stands.value q
 
-  pub arrived-stands : (due : List ℕ) → StandsFor (record s { watches = watches; due = due }) (record world { arrivals = world.arrivals ++ new ∷ [] })
+  pub arrived-stands : (due : List ℕ) → HasRows (record s { watches = watches; due = due }) (record world { arrivals = world.arrivals ++ new ∷ [] })
   arrived-stands due = record {
     sound = record { table = stands.sound.table; typed = stands.sound.typed; named = stands.sound.named; heard = stands.sound.heard };
     rows = stands.rows;
@@ -139,8 +139,8 @@ module _ (s : State) (world : World) (stands : StandsFor s world) (name : List �
   }
 
 -- other statuses by one rule, in the state and in the world
-pub statused-stands : (s t : State) (world : World) (f : GenRow → RowStatus) → StandsFor s world → t.kind ≡ s.kind → t.results ≡ s.results → SameMarks s.watches t.watches
-    → t.table.rows ≡ with_statuses f s.table.rows → StandsFor t (record world { rows = with_statuses f world.rows })
+pub statused-stands : (s t : State) (world : World) (f : GenRow → RowStatus) → HasRows s world → t.kind ≡ s.kind → t.results ≡ s.results → SameMarks s.watches t.watches
+    → t.table.rows ≡ with_statuses f s.table.rows → HasRows t (record world { rows = with_statuses f world.rows })
 statused-stands s t world f stands kind results marks rows = record {
   sound = sound-with_statuses world f stands.sound;
   rows = rows ∙ ap (with_statuses f) stands.rows ∙ sym (rows_of_kind-with_statuses s.kind f world.rows) ∙ (λ i. rows_of_kind (sym kind i) (with_statuses f world.rows));

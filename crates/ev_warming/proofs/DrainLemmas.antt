@@ -14,7 +14,7 @@ use Rattle.ev_model.specs.Tidy.{status_by}
 use Rattle.ev_endpoints.specs.Results.{ResultsKept}
 use Rattle.ev_generations.specs.Tables.{row_in, status_with, with_status, numbers_of}
 use Rattle.ev_generations.proofs.TableLemmas.{row_in-with_statuses, number-row_in}
-use Rattle.ev_indexes.specs.Due.{is_among}
+use Rattle.ev_indexes.specs.Due.{is_one_of}
 use Rattle.ev_indexes.specs.Watched.{WatchesKept}
 use Rattle.ev_indexes.specs.Ready.{is_ready_in, is_due_found}
 use Rattle.ev_indexes.specs.Indexes.{serves, numbers_where, status_in}
@@ -30,10 +30,10 @@ status-promoted ready rows n row at =
     ap status_in (row_in-with_statuses n f rows) ∙ (λ i. status_in (option_map (λ (r : GenRow). record r { status = f r }) (at i)))
 
 -- a number whose row isn't there, or fails the test, isn't among those that pass
-pub absent-where : (test : GenRow → Bool) (n : ℕ) (rows : List GenRow) → IsDistinct nat_eq (numbers_of rows) → row_in n rows ≡ None → is_among (numbers_where test rows) n ≡ false
-absent-where test n rows apart none = by (is_among (numbers_where test rows) n) refl
+pub absent-where : (test : GenRow → Bool) (n : ℕ) (rows : List GenRow) → IsDistinct nat_eq (numbers_of rows) → row_in n rows ≡ None → is_one_of (numbers_where test rows) n ≡ false
+absent-where test n rows apart none = by (is_one_of (numbers_where test rows) n) refl
   where
-    by : (b : Bool) → is_among (numbers_where test rows) n ≡ b → b ≡ false
+    by : (b : Bool) → is_one_of (numbers_where test rows) n ≡ b → b ≡ false
     by true e =
         let found = found-where test n rows apart e in
         let clash : None ≡ Some found.0 = sym none ∙ found.1 in
@@ -41,10 +41,10 @@ absent-where test n rows apart none = by (is_among (numbers_where test rows) n) 
     by false e = refl
 
 pub fails-where : (test : GenRow → Bool) (n : ℕ) (row : GenRow) (rows : List GenRow) → IsDistinct nat_eq (numbers_of rows) → row_in n rows ≡ Some row → test row ≡ false
-    → is_among (numbers_where test rows) n ≡ false
-fails-where test n row rows apart at fails = by (is_among (numbers_where test rows) n) refl
+    → is_one_of (numbers_where test rows) n ≡ false
+fails-where test n row rows apart at fails = by (is_one_of (numbers_where test rows) n) refl
   where
-    by : (b : Bool) → is_among (numbers_where test rows) n ≡ b → b ≡ false
+    by : (b : Bool) → is_one_of (numbers_where test rows) n ≡ b → b ≡ false
     by true e =
         let found = found-where test n rows apart e in
         let both : Some found.0 ≡ Some row = sym found.1 ∙ at in
@@ -113,45 +113,45 @@ module _ (ready : GenRow → Bool) (rows after all : List GenRow) (number : ℕ)
       (λ i. is_draining (status_in (row_in n (sym first i)))) ∙ ap is_draining (status-promoted ready rows n r at)
       ∙ (λ i. is_draining (status_by (succeeded_by ready rows r) (does i) (warms i)))
 
-  pub drained-one : (n : ℕ) → (is_among (option_to_list active) n || began_to_drain n after all) ≡ began_to_drain n rows all
+  pub drained-one : (n : ℕ) → (is_one_of (option_to_list active) n || began_to_drain n after all) ≡ began_to_drain n rows all
   drained-one n = by (row_in n rows) refl
     where
       cold : is_active own.status ≡ false
       cold = (λ i. is_active (warm-is own.status warm i))
 
       over : (r : GenRow) → row_in n rows ≡ Some r → (b : Bool) → serves own.name r ≡ b → (c : Bool) → nat_eq number r.number ≡ c
-          → (is_among (option_to_list active) n || (is_active (cond c Active (cond b Draining r.status)) && is_draining (status_in (row_in n all)))) ≡ (is_active r.status && is_draining (status_in (row_in n all)))
+          → (is_one_of (option_to_list active) n || (is_active (cond c Active (cond b Draining r.status)) && is_draining (status_in (row_in n all)))) ≡ (is_active r.status && is_draining (status_in (row_in n all)))
       over r at true e true f =
           absurd (true≢false (sym warm ∙ (λ i. is_warming (sym (own-is n r at f) i).status) ∙ cold-active r.status (and_parts (is_active r.status) (bytes_eq r.name own.name) e).0))
       over r at true e false f =
-          (λ i. is_among (before i) n || (false && is_draining (status_in (row_in n all))))
+          (λ i. is_one_of (before i) n || (false && is_draining (status_in (row_in n all))))
           ∙ (λ i. among-where (serves own.name) n r rows at e i || (false && is_draining (status_in (row_in n all))))
           ∙ sym (λ i. (and_parts (is_active r.status) (bytes_eq r.name own.name) e).0 i && gone n r at e f i)
       over r at false e true f =
-          (λ i. is_among (before i) n || is_draining (status_in (row_in n all)))
+          (λ i. is_one_of (before i) n || is_draining (status_in (row_in n all)))
           ∙ (λ i. fails-where (serves own.name) n r rows apart at e i || stays n r at (own-is n r at f) i)
           ∙ (λ i. sym ((λ j. is_active (own-is n r at f j).status) ∙ cold) i && is_draining (status_in (row_in n all)))
       over r at false e false f =
-          (λ i. is_among (before i) n || (is_active r.status && is_draining (status_in (row_in n all))))
+          (λ i. is_one_of (before i) n || (is_active r.status && is_draining (status_in (row_in n all))))
           ∙ (λ i. fails-where (serves own.name) n r rows apart at e i || (is_active r.status && is_draining (status_in (row_in n all))))
 
-      by : (o : Option GenRow) → row_in n rows ≡ o → (is_among (option_to_list active) n || began_to_drain n after all) ≡ began_to_drain n rows all
+      by : (o : Option GenRow) → row_in n rows ≡ o → (is_one_of (option_to_list active) n || began_to_drain n after all) ≡ began_to_drain n rows all
       by None at =
-          (λ i. is_among (before i) n || (is_active (status_in (status-after n None at i)) && is_draining (status_in (row_in n all))))
+          (λ i. is_one_of (before i) n || (is_active (status_in (status-after n None at i)) && is_draining (status_in (row_in n all))))
           ∙ (λ i. absent-where (serves own.name) n rows apart at i || false)
           ∙ (λ i. is_active (status_in (sym at i)) && is_draining (status_in (row_in n all)))
       by (Some r) at =
-          (λ i. is_among (option_to_list active) n || (is_active (status_in (status-after n (Some r) at i)) && is_draining (status_in (row_in n all))))
+          (λ i. is_one_of (option_to_list active) n || (is_active (status_in (status-after n (Some r) at i)) && is_draining (status_in (row_in n all))))
           ∙ over r at (serves own.name r) refl (nat_eq number r.number) refl
           ∙ (λ i. is_active (status_in (sym at i)) && is_draining (status_in (row_in n all)))
 
 -- one more of those that began to drain
-pub drained-more : (drained : List ℕ) (active : Option ℕ) (n : ℕ) (rest now was : Bool) → (is_among (option_to_list active) n || rest) ≡ now → (is_among drained n || now) ≡ was
-    → (is_among (drained ++ option_to_list active) n || rest) ≡ was
+pub drained-more : (drained : List ℕ) (active : Option ℕ) (n : ℕ) (rest now was : Bool) → (is_one_of (option_to_list active) n || rest) ≡ now → (is_one_of drained n || now) ≡ was
+    → (is_one_of (drained ++ option_to_list active) n || rest) ≡ was
 drained-more drained active n rest now was step inv =
     (λ i. list_any-append (nat_eq n) drained (option_to_list active) i || rest)
-    ∙ by (is_among drained n) (is_among (option_to_list active) n)
-    ∙ (λ i. is_among drained n || step i) ∙ inv
+    ∙ by (is_one_of drained n) (is_one_of (option_to_list active) n)
+    ∙ (λ i. is_one_of drained n || step i) ∙ inv
   where
     by : (a b : Bool) → ((a || b) || rest) ≡ (a || (b || rest))
     by true b = refl

@@ -19,7 +19,7 @@ use Rattle.ev_indexes.specs.declared.state.State.{State}
 use Rattle.ev_indexes.specs.Watched.{WatchesKept, unwatched, watch_in, has_watcher}
 use Rattle.ev_indexes.specs.Ready.{assignment_in, are_results_in, is_answered_in, is_ready_in, is_due_found, is_due_at}
 use Rattle.ev_indexes.specs.Indexes.{IsIndexed, depends_on, waits, numbers_where}
-use Rattle.ev_indexes.specs.Due.{is_among}
+use Rattle.ev_indexes.specs.Due.{is_one_of}
 use Rattle.ev_indexes.specs.Needs.{is_needed}
 use Rattle.ev_warming.specs.Forgetting.{needs_in, is_need_of, is_idle, keeps_result, loses_result, IsUnheard, IsTidyBut}
 use Rattle.ev_indexes.proofs.WhereLemmas.{any-found, flipped}
@@ -178,9 +178,9 @@ cond_more false false false u v = refl
 module _ (s : State) (stale : List ℕ) (tidy : IsTidyBut s stale) (watches : WatchesKept)
     (forgot : (q : List ℕ) → watch_in watches q ≡ cond (is_need_of s.table.rows stale q && is_idle s.table.rows q) unwatched (watch_in s.watches q))
     (results : ResultsKept)
-    (trimmed : (n : ℕ) (h : Host) → result_in results n h ≡ cond (is_among stale n && loses_result s.watches h (row_in n s.table.rows)) None (result_in s.results n h)) where
+    (trimmed : (n : ℕ) (h : Host) → result_in results n h ≡ cond (is_one_of stale n && loses_result s.watches h (row_in n s.table.rows)) None (result_in s.results n h)) where
   pub tidy-forgot : IsTidyBut (record s { watches = watches; results = results }) []
-  tidy-forgot = record { marks = λ q none no. marks q none (is_need_of s.table.rows stale q) refl; results = λ n row h at no lost. gone n row h at lost (is_among stale n) refl }
+  tidy-forgot = record { marks = λ q none no. marks q none (is_need_of s.table.rows stale q) refl; results = λ n row h at no lost. gone n row h at lost (is_one_of stale n) refl }
     where
       marks : (q : List ℕ) → list_any (depends_on q) s.table.rows ≡ false → (b : Bool) → is_need_of s.table.rows stale q ≡ b → IsUnheard (watch_in watches q)
       marks q none true e =
@@ -188,14 +188,14 @@ module _ (s : State) (stale : List ℕ) (tidy : IsTidyBut s stale) (watches : Wa
       marks q none false e =
           subst IsUnheard (sym (forgot q ∙ (λ i. cond (e i && is_idle s.table.rows q) unwatched (watch_in s.watches q)))) (tidy.marks q none e)
 
-      gone : (n : ℕ) (row : GenRow) (h : Host) → row_in n s.table.rows ≡ Some row → keeps_result watches h row ≡ false → (b : Bool) → is_among stale n ≡ b → result_in results n h ≡ None
+      gone : (n : ℕ) (row : GenRow) (h : Host) → row_in n s.table.rows ≡ Some row → keeps_result watches h row ≡ false → (b : Bool) → is_one_of stale n ≡ b → result_in results n h ≡ None
       gone n row h at lost b e =
           let was : loses_result s.watches h (row_in n s.table.rows) ≡ true =
           sym (loses-same s.table.rows s.watches watches (is_need_of s.table.rows stale) forgot n h) ∙ (λ i. loses_result watches h (at i)) ∙ ap not lost in
           trimmed n h ∙ (λ i. cond (e i && was i) None (result_in s.results n h))
           ∙ by b e (not-true (keeps_result s.watches h row) ((λ i. loses_result s.watches h (sym at i)) ∙ was))
         where
-          by : (b : Bool) → is_among stale n ≡ b → keeps_result s.watches h row ≡ false → cond (b && true) None (result_in s.results n h) ≡ None
+          by : (b : Bool) → is_one_of stale n ≡ b → keeps_result s.watches h row ≡ false → cond (b && true) None (result_in s.results n h) ≡ None
           by true e lost = refl
           by false e lost = tidy.results n row h at e lost
 
@@ -217,20 +217,20 @@ watch-more rows old now new stale i number within is before step q =
 
 pub result-more : (rows : List GenRow) (watches now : WatchesKept) (old mid new : ResultsKept) (stale : List ℕ) (i number : ℕ) → i < length stale → number ≡ get_or stale i number
     → ((q : List ℕ) → watch_in now q ≡ cond (is_need_of rows (take i stale) q && is_idle rows q) unwatched (watch_in watches q))
-    → ((n : ℕ) (h : Host) → result_in mid n h ≡ cond (is_among (take i stale) n && loses_result watches h (row_in n rows)) None (result_in old n h))
+    → ((n : ℕ) (h : Host) → result_in mid n h ≡ cond (is_one_of (take i stale) n && loses_result watches h (row_in n rows)) None (result_in old n h))
     → ((n : ℕ) (h : Host) → result_in new n h ≡ cond (nat_eq number n && loses_result now h (row_in n rows)) None (result_in mid n h))
-    → (n : ℕ) (h : Host) → result_in new n h ≡ cond (is_among (take (i + 1) stale) n && loses_result watches h (row_in n rows)) None (result_in old n h)
+    → (n : ℕ) (h : Host) → result_in new n h ≡ cond (is_one_of (take (i + 1) stale) n && loses_result watches h (row_in n rows)) None (result_in old n h)
 result-more rows watches now old mid new stale i number within is forgot before step n h =
     step n h
     ∙ (λ j. cond (nat_eq number n && loses-same rows watches now (is_need_of rows (take i stale)) forgot n h j) None (before n h j))
-    ∙ cond_more (is_among (take i stale) n) (nat_eq number n) (loses_result watches h (row_in n rows)) None (result_in old n h)
+    ∙ cond_more (is_one_of (take i stale) n) (nat_eq number n) (loses_result watches h (row_in n rows)) None (result_in old n h)
     ∙ (λ j. cond (sym one j && loses_result watches h (row_in n rows)) None (result_in old n h))
   where
-    one : is_among (take (i + 1) stale) n ≡ (is_among (take i stale) n || nat_eq number n)
+    one : is_one_of (take (i + 1) stale) n ≡ (is_one_of (take i stale) n || nat_eq number n)
     one =
         list_any_more (nat_eq n) stale i number within
-        ∙ (λ j. is_among (take i stale) n || nat_eq n (sym is j))
-        ∙ (λ j. is_among (take i stale) n || flipped n number j)
+        ∙ (λ j. is_one_of (take i stale) n || nat_eq n (sym is j))
+        ∙ (λ j. is_one_of (take i stale) n || flipped n number j)
 
 -- a name is idle where no number is in its index
 pub idle-index : (s : State) → IsIndexed s → (q : List ℕ) → not (has_watcher (watch_in s.watches q)) ≡ is_idle s.table.rows q

@@ -21,10 +21,10 @@ use Rattle.ev_endpoints.specs.Results.{ResultsKept, result_in}
 use Rattle.ev_generations.specs.Tables.{row_in, numbers_of}
 use Rattle.ev_generations.proofs.TableLemmas.{number-row_in}
 use Rattle.ev_indexes.specs.declared.state.State.{State}
-use Rattle.ev_indexes.specs.Due.{is_among}
+use Rattle.ev_indexes.specs.Due.{is_one_of}
 use Rattle.ev_indexes.specs.Watched.{WatchesKept, unwatched, watch_in}
 use Rattle.ev_indexes.specs.Indexes.{depends_on}
-use Rattle.ev_indexes.specs.Worlds.{needs_of, rows_of_kind, StandsFor}
+use Rattle.ev_indexes.specs.Worlds.{HasRows, needs_of, rows_of_kind}
 use Rattle.ev_indexes.specs.Needs.{is_needed}
 use Rattle.ev_warming.specs.Forgetting.{is_need_of, is_idle, keeps_result, loses_result, IsUnheard, IsTidyBut}
 use Rattle.ev_indexes.proofs.WhereLemmas.{any-found, all-found}
@@ -61,7 +61,7 @@ swapped true b c = refl
 swapped false true c = refl
 swapped false false c = refl
 
-pub watched-same : (s : State) (world : World) → StandsFor s world → is_by_name s.kind ≡ false → (q : List ℕ) → is_watched (lives_of world) (needs_of s.kind) q ≡ list_any (depends_on q) s.table.rows
+pub watched-same : (s : State) (world : World) → HasRows s world → is_by_name s.kind ≡ false → (q : List ℕ) → is_watched (lives_of world) (needs_of s.kind) q ≡ list_any (depends_on q) s.table.rows
 watched-same s world stands k q =
     any-lives (λ (live : Live). has_dependency (needs_of s.kind) q live.content) world.rows
     ∙ any_agrees (λ (r : GenRow). is_live r.status && has_dependency (needs_of s.kind) q r.content) (λ (r : GenRow). kind_same r.kind s.kind && depends_on q r) world.rows
@@ -180,8 +180,8 @@ there-is (Some row) h = (row, refl)
 module _ (s : State) (stale : List ℕ) (tidy : IsTidyBut s stale) (watches : WatchesKept)
     (forgot : (q : List ℕ) → watch_in watches q ≡ cond (is_need_of s.table.rows stale q && is_idle s.table.rows q) unwatched (watch_in s.watches q))
     (results : ResultsKept)
-    (trimmed : (n : ℕ) (h : Host) → result_in results n h ≡ cond (is_among stale n && loses_result s.watches h (row_in n s.table.rows)) None (result_in s.results n h))
-    (world : World) (stands : StandsFor s world) (rows : is_by_name s.kind ≡ false) where
+    (trimmed : (n : ℕ) (h : Host) → result_in results n h ≡ cond (is_one_of stale n && loses_result s.watches h (row_in n s.table.rows)) None (result_in s.results n h))
+    (world : World) (stands : HasRows s world) (rows : is_by_name s.kind ≡ false) where
   abbrev arrivals : List Arrived
   arrivals = arrivals_watched (lives_of world) world.arrivals
 
@@ -242,7 +242,7 @@ module _ (s : State) (stale : List ℕ) (tidy : IsTidyBut s stale) (watches : Wa
     kept k =
         let was : loses_result s.watches h (row_in n s.table.rows) ≡ false =
         sym (loses-same s.table.rows s.watches watches (is_need_of s.table.rows stale) forgot n h) ∙ (λ i. loses_result watches h (at i)) ∙ ap not k in
-        trimmed n h ∙ (λ i. cond (is_among stale n && was i) None (result_in s.results n h)) ∙ by (is_among stale n)
+        trimmed n h ∙ (λ i. cond (is_one_of stale n && was i) None (result_in s.results n h)) ∙ by (is_one_of stale n)
       where
         by : (b : Bool) → cond (b && false) None (result_in s.results n h) ≡ result_in s.results n h
         by true = refl
@@ -270,7 +270,7 @@ module _ (s : State) (stale : List ℕ) (tidy : IsTidyBut s stale) (watches : Wa
         by true k = (λ i. unwrap_or (kept k i) false) ∙ stands.healthy n h (subst IsSome (sym at) refl)
         by false k = (λ i. unwrap_or (lost k i) false)
 
-  pub forgot-stands : StandsFor (record s { watches = watches; results = results }) (without_old_results (without_unwatched world))
+  pub forgot-stands : HasRows (record s { watches = watches; results = results }) (without_old_results (without_unwatched world))
   forgot-stands = record {
     sound = record {
       table = stands.sound.table;

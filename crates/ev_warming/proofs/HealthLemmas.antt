@@ -25,14 +25,14 @@ use Rattle.ev_endpoints.specs.Results.{ResultsKept, result_in, Notes}
 use Rattle.ev_generations.specs.Tables.{row_in, numbers_of}
 use Rattle.ev_generations.proofs.TableLemmas.{number-row_in}
 use Rattle.ev_indexes.specs.declared.state.State.{State}
-use Rattle.ev_indexes.specs.Due.{is_among, has_number}
+use Rattle.ev_indexes.specs.Due.{is_one_of, has_number}
 use Rattle.ev_indexes.specs.Standings.{standing_in}
 use Rattle.ev_indexes.specs.Watched.{WatchesKept}
 use Rattle.ev_indexes.specs.Ready.{are_results_in, assignment_in, is_answered_in, is_due_at, is_due_found, takes_result}
 use Rattle.ev_indexes.specs.Indexes.{IsIndexed, serves, warms, passes}
 use Rattle.ev_warming.specs.Forgetting.{IsTidyBut, keeps_result}
 use Rattle.ev_warming.specs.Health.{takes_at, is_meant_in, numbers_meant, NotesEach}
-use Rattle.ev_indexes.specs.Worlds.{StandsFor, rows_of_kind}
+use Rattle.ev_indexes.specs.Worlds.{HasRows, rows_of_kind}
 use Rattle.ev_indexes.proofs.WhereLemmas.{flipped, among-row}
 use Rattle.ev_indexes.proofs.RowLemmas.{all_then, both_all, any-some, filter-rows_of_kind, filter_agrees}
 use Rattle.ev_indexes.proofs.SoundLemmas.{contents-of}
@@ -62,7 +62,7 @@ is_due_at-results watches old new n rows same = by (row_in n rows) refl
 -- a result was noted for one number, and its row was looked at anew
 pub indexed-noted : (s : State) (number : ℕ) (row : GenRow) (host : Host) (healthy : Bool) (results : ResultsKept) (due : List ℕ) → IsIndexed s → row_in number s.table.rows ≡ Some row
     → Notes s.results results number host healthy
-    → ((n : ℕ) → is_among due n ≡ cond (is_among (number ∷ []) n) (is_due_at s.watches results n s.table.rows) (is_among s.due n))
+    → ((n : ℕ) → is_one_of due n ≡ cond (is_one_of (number ∷ []) n) (is_due_at s.watches results n s.table.rows) (is_one_of s.due n))
     → IsIndexed (record s { results = results; due = due })
 indexed-noted s number row host healthy results due x found notes looked = record {
   table = x.table;
@@ -72,7 +72,7 @@ indexed-noted s number row host healthy results due x found notes looked = recor
   unlimited = x.unlimited;
   limited = x.limited;
   holders = x.holders;
-  due = λ n. looked n ∙ by n (is_among (number ∷ []) n) refl;
+  due = λ n. looked n ∙ by n (is_one_of (number ∷ []) n) refl;
   drawn = λ n h above. notes n h ∙ far n h above (nat_eq number n) refl;
 }
   where
@@ -82,14 +82,14 @@ indexed-noted s number row host healthy results due x found notes looked = recor
         cc
     far n h above false e = x.drawn n h above
 
-    apart : (n : ℕ) → is_among (number ∷ []) n ≡ false → nat_eq number n ≡ false
+    apart : (n : ℕ) → is_one_of (number ∷ []) n ≡ false → nat_eq number n ≡ false
     apart n e = flipped number n ∙ first (nat_eq n number) e
       where
         first : (b : Bool) → (b || false) ≡ false → b ≡ false
         first true h = h
         first false h = refl
 
-    by : (n : ℕ) (b : Bool) → is_among (number ∷ []) n ≡ b → cond b (is_due_at s.watches results n s.table.rows) (is_among s.due n) ≡ is_due_at s.watches results n s.table.rows
+    by : (n : ℕ) (b : Bool) → is_one_of (number ∷ []) n ≡ b → cond b (is_due_at s.watches results n s.table.rows) (is_one_of s.due n) ≡ is_due_at s.watches results n s.table.rows
     by n true e = refl
     by n false e =
         x.due n
@@ -104,17 +104,17 @@ notes-one old new number host healthy notes n h = notes n h ∙ (λ i. cond (sam
     alone true = refl
     alone false = refl
 
-    same : nat_eq number n ≡ is_among (number ∷ []) n
+    same : nat_eq number n ≡ is_one_of (number ∷ []) n
     same = flipped number n ∙ alone (nat_eq n number)
 
 -- a number that takes the result or none of both
 among-taken : (q : GenRow → Bool) (rows : List GenRow) (o : Option ℕ) (m : Bool) → m ≡ passes q (option_and_then (λ n. row_in n rows) o) → (n : ℕ)
-    → is_among (cond m (option_to_list o) []) n ≡ (is_among (option_to_list o) n && passes q (row_in n rows))
+    → is_one_of (cond m (option_to_list o) []) n ≡ (is_one_of (option_to_list o) n && passes q (row_in n rows))
 among-taken q rows None true e n = refl
 among-taken q rows None false e n = refl
 among-taken q rows (Some k) m e n = by (nat_eq n k) refl m e
   where
-    by : (b : Bool) → nat_eq n k ≡ b → (m : Bool) → m ≡ passes q (row_in k rows) → is_among (cond m (k ∷ []) []) n ≡ ((b || false) && passes q (row_in n rows))
+    by : (b : Bool) → nat_eq n k ≡ b → (m : Bool) → m ≡ passes q (row_in k rows) → is_one_of (cond m (k ∷ []) []) n ≡ ((b || false) && passes q (row_in n rows))
     by true f true e = (λ i. f i || false) ∙ e ∙ (λ i. passes q (row_in (sym (eqb-true n k f) i) rows))
     by true f false e = e ∙ (λ i. passes q (row_in (sym (eqb-true n k f) i) rows))
     by false f true e = λ i. f i || false
@@ -128,19 +128,19 @@ either_way Active false t = refl
 either_way Draining b t = refl
 either_way Dropped b t = refl
 
-among-some : (ns : List ℕ) (n : ℕ) → is_among ns n ≡ true → has_number ns ≡ true
+among-some : (ns : List ℕ) (n : ℕ) → is_one_of ns n ≡ true → has_number ns ≡ true
 among-some [] n h = h
 among-some (k ∷ ns) n h = refl
 
-none-some : (ns : List ℕ) → ((n : ℕ) → is_among ns n ≡ false) → has_number ns ≡ false
+none-some : (ns : List ℕ) → ((n : ℕ) → is_one_of ns n ≡ false) → has_number ns ≡ false
 none-some [] none = refl
-none-some (k ∷ ns) none = absurd (true≢false ((λ i. sym (eq-eqb k k refl) i || is_among ns k) ∙ none k))
+none-some (k ∷ ns) none = absurd (true≢false ((λ i. sym (eq-eqb k k refl) i || is_one_of ns k) ∙ none k))
 
 holder : (watches : WatchesKept) (host : Host) (rows : List GenRow) (o : Option ℕ) (m : Bool) → m ≡ takes_at watches host o rows → m ≡ true
-    → (n : ℕ) × (is_among (cond m (option_to_list o) []) n ≡ true)
+    → (n : ℕ) × (is_one_of (cond m (option_to_list o) []) n ≡ true)
 holder watches host rows None m e h = absurd (true≢false (sym h ∙ e))
 holder watches host rows (Some k) m e h =
-    (k, (λ i. is_among (cond (h i) (k ∷ []) []) k) ∙ (λ i. eq-eqb k k refl i || false))
+    (k, (λ i. is_one_of (cond (h i) (k ∷ []) []) k) ∙ (λ i. eq-eqb k k refl i || false))
 
 module _ (s : State) (x : IsIndexed s) (name : List ℕ) (host : Host) (served warmed : Bool)
     (takes_served : served ≡ takes_at s.watches host (standing_in s.names name).active s.table.rows)
@@ -149,13 +149,13 @@ module _ (s : State) (x : IsIndexed s) (name : List ℕ) (host : Host) (served w
   takes row = takes_result s.watches host row.content
 
   -- the numbers that the result is for are those of the one that serves and of the one that warms, where they take it
-  pub among-meant : (n : ℕ) → is_among (numbers_meant s.watches name host s.table.rows) n
-      ≡ (is_among (cond served (option_to_list (standing_in s.names name).active) []) n || is_among (cond warmed (option_to_list (standing_in s.names name).warming) []) n)
+  pub among-meant : (n : ℕ) → is_one_of (numbers_meant s.watches name host s.table.rows) n
+      ≡ (is_one_of (cond served (option_to_list (standing_in s.names name).active) []) n || is_one_of (cond warmed (option_to_list (standing_in s.names name).warming) []) n)
   among-meant n =
       among-row (is_meant_in s.watches name host) n s.table.rows x.table.apart ∙ by (row_in n s.table.rows)
       ∙ (λ i. (sym (among-row (serves name) n s.table.rows x.table.apart) i && passes takes (row_in n s.table.rows))
       || (sym (among-row (warms name) n s.table.rows x.table.apart) i && passes takes (row_in n s.table.rows)))
-      ∙ (λ i. (is_among (sym (x.active name) i) n && passes takes (row_in n s.table.rows)) || (is_among (sym (x.warming name) i) n && passes takes (row_in n s.table.rows)))
+      ∙ (λ i. (is_one_of (sym (x.active name) i) n && passes takes (row_in n s.table.rows)) || (is_one_of (sym (x.warming name) i) n && passes takes (row_in n s.table.rows)))
       ∙ (λ i. sym (among-taken takes s.table.rows (standing_in s.names name).active served takes_served n) i
       || sym (among-taken takes s.table.rows (standing_in s.names name).warming warmed takes_warmed n) i)
     where
@@ -169,8 +169,8 @@ module _ (s : State) (x : IsIndexed s) (name : List ℕ) (host : Host) (served w
       → NotesEach s.results new (numbers_meant s.watches name host s.table.rows) host healthy
   notes-both healthy middle new first second n h =
       second n h
-      ∙ (λ i. cond (is_among (cond warmed (option_to_list (standing_in s.names name).warming) []) n && host_same host h) (Some healthy) (first n h i))
-      ∙ by (is_among (cond served (option_to_list (standing_in s.names name).active) []) n) (is_among (cond warmed (option_to_list (standing_in s.names name).warming) []) n) (host_same host h)
+      ∙ (λ i. cond (is_one_of (cond warmed (option_to_list (standing_in s.names name).warming) []) n && host_same host h) (Some healthy) (first n h i))
+      ∙ by (is_one_of (cond served (option_to_list (standing_in s.names name).active) []) n) (is_one_of (cond warmed (option_to_list (standing_in s.names name).warming) []) n) (host_same host h)
       ∙ (λ i. cond (sym (among-meant n) i && host_same host h) (Some healthy) (result_in s.results n h))
     where
       by : (a b c : Bool) → cond (b && c) (Some healthy) (cond (a && c) (Some healthy) (result_in s.results n h)) ≡ cond ((a || b) && c) (Some healthy) (result_in s.results n h)
@@ -189,12 +189,12 @@ module _ (s : State) (x : IsIndexed s) (name : List ℕ) (host : Host) (served w
       ∙ by served warmed
       (λ h. let there = holder s.watches host s.table.rows (standing_in s.names name).active served takes_served h in
       among-some (numbers_meant s.watches name host s.table.rows) there.0
-      (among-meant there.0 ∙ (λ i. there.1 i || is_among (cond warmed (option_to_list (standing_in s.names name).warming) []) there.0)))
+      (among-meant there.0 ∙ (λ i. there.1 i || is_one_of (cond warmed (option_to_list (standing_in s.names name).warming) []) there.0)))
       (λ h. let there = holder s.watches host s.table.rows (standing_in s.names name).warming warmed takes_warmed h in
       among-some (numbers_meant s.watches name host s.table.rows) there.0
-      (among-meant there.0 ∙ (λ i. is_among (cond served (option_to_list (standing_in s.names name).active) []) there.0 || there.1 i) ∙ or-true (is_among (cond served (option_to_list (standing_in s.names name).active) []) there.0)))
+      (among-meant there.0 ∙ (λ i. is_one_of (cond served (option_to_list (standing_in s.names name).active) []) there.0 || there.1 i) ∙ or-true (is_one_of (cond served (option_to_list (standing_in s.names name).active) []) there.0)))
       (λ h k. none-some (numbers_meant s.watches name host s.table.rows) (λ n. among-meant n
-      ∙ (λ i. is_among (cond (h i) (option_to_list (standing_in s.names name).active) []) n || is_among (cond (k i) (option_to_list (standing_in s.names name).warming) []) n)))
+      ∙ (λ i. is_one_of (cond (h i) (option_to_list (standing_in s.names name).active) []) n || is_one_of (cond (k i) (option_to_list (standing_in s.names name).warming) []) n)))
     where
       by : (a b : Bool) → (a ≡ true → has_number (numbers_meant s.watches name host s.table.rows) ≡ true) → (b ≡ true → has_number (numbers_meant s.watches name host s.table.rows) ≡ true)
           → (a ≡ false → b ≡ false → has_number (numbers_meant s.watches name host s.table.rows) ≡ false) → has_number (numbers_meant s.watches name host s.table.rows) ≡ (a || b)
@@ -204,10 +204,10 @@ module _ (s : State) (x : IsIndexed s) (name : List ℕ) (host : Host) (served w
 
 -- what a result of a host adds for each of these rows
 has_result-more : (rows : List GenRow) (host : Host) (healthy : Bool) (n : ℕ) (h : Host)
-    → has_result (map (result_for host healthy) rows) n h ≡ (is_among (numbers_of rows) n && host_same host h)
+    → has_result (map (result_for host healthy) rows) n h ≡ (is_one_of (numbers_of rows) n && host_same host h)
 has_result-more [] host healthy n h = refl
 has_result-more (row ∷ rows) host healthy n h =
-    (λ i. (flipped row.number n i && host_same host h) || has_result-more rows host healthy n h i) ∙ by (nat_eq n row.number) (is_among (numbers_of rows) n) (host_same host h)
+    (λ i. (flipped row.number n i && host_same host h) || has_result-more rows host healthy n h i) ∙ by (nat_eq n row.number) (is_one_of (numbers_of rows) n) (host_same host h)
   where
     by : (a b c : Bool) → ((a && c) || (b && c)) ≡ ((a || b) && c)
     by true true true = refl
@@ -218,12 +218,12 @@ has_result-more (row ∷ rows) host healthy n h =
 
 -- the last result of a host once these rows have one more
 last-more : (rows : List GenRow) (host : Host) (healthy : Bool) (n : ℕ) (h : Host) (o : Option Bool)
-    → last_or o (map (λ (r : HealthResult). r.healthy) (filter (is_result_of n h) (map (result_for host healthy) rows))) ≡ cond (is_among (numbers_of rows) n && host_same host h) (Some healthy) o
+    → last_or o (map (λ (r : HealthResult). r.healthy) (filter (is_result_of n h) (map (result_for host healthy) rows))) ≡ cond (is_one_of (numbers_of rows) n && host_same host h) (Some healthy) o
 last-more [] host healthy n h o = refl
 last-more (row ∷ rows) host healthy n h o =
     (λ i. last_or o (map (λ (r : HealthResult). r.healthy) (cond (flipped row.number n i && host_same host h) (result_for host healthy row ∷ filter (is_result_of n h) (map (result_for host healthy) rows))
     (filter (is_result_of n h) (map (result_for host healthy) rows)))))
-    ∙ by (nat_eq n row.number) (is_among (numbers_of rows) n) (host_same host h) (last-more rows host healthy n h)
+    ∙ by (nat_eq n row.number) (is_one_of (numbers_of rows) n) (host_same host h) (last-more rows host healthy n h)
   where
     by : (a b c : Bool) → ((o : Option Bool) → last_or o (map (λ (r : HealthResult). r.healthy) (filter (is_result_of n h) (map (result_for host healthy) rows))) ≡ cond (b && c) (Some healthy) o)
         → last_or o (map (λ (r : HealthResult). r.healthy) (cond (a && c) (result_for host healthy row ∷ filter (is_result_of n h) (map (result_for host healthy) rows)) (filter (is_result_of n h) (map (result_for host healthy) rows))))
@@ -238,7 +238,7 @@ last-more (row ∷ rows) host healthy n h o =
     by false b c more = more o
 
 -- clusters that stand for a world
-module _ (s : State) (world : World) (stands : StandsFor s world) (x : IsIndexed s) (cds : s.kind ≡ Cds) (name : List ℕ) (host : Host) where
+module _ (s : State) (world : World) (stands : HasRows s world) (x : IsIndexed s) (cds : s.kind ≡ Cds) (name : List ℕ) (host : Host) where
   -- the result is for the same rows
   pub rows_meant-same : rows_meant world.arrivals name host world.rows ≡ filter (is_meant_in s.watches name host) s.table.rows
   rows_meant-same =
@@ -274,18 +274,18 @@ module _ (s : State) (world : World) (stands : StandsFor s world) (x : IsIndexed
       ∙ sym (any-some (is_meant world.arrivals name host) world.rows)
 
   pub noted-stands : (healthy : Bool) (results : ResultsKept) (due : List ℕ) → NotesEach s.results results (numbers_meant s.watches name host s.table.rows) host healthy
-      → StandsFor (record s { results = results; due = due }) (with_results host healthy (rows_meant world.arrivals name host world.rows) world)
+      → HasRows (record s { results = results; due = due }) (with_results host healthy (rows_meant world.arrivals name host world.rows) world)
   noted-stands healthy results due notes = record {
     sound = record { table = stands.sound.table; typed = stands.sound.typed; named = stands.sound.named; heard = heard_too };
     rows = stands.rows;
     told = stands.told;
     timed = stands.timed;
     value = stands.value;
-    resulted = λ n h there. (λ i. is_some (notes n h i)) ∙ some_by n h (is_among (numbers_meant s.watches name host s.table.rows) n && host_same host h) ∙ (λ i. stands.resulted n h there i || (is_among (numbers_of (sym rows_meant-same i)) n && host_same host h))
+    resulted = λ n h there. (λ i. is_some (notes n h i)) ∙ some_by n h (is_one_of (numbers_meant s.watches name host s.table.rows) n && host_same host h) ∙ (λ i. stands.resulted n h there i || (is_one_of (numbers_of (sym rows_meant-same i)) n && host_same host h))
         ∙ (λ i. has_result world.results n h || sym (has_result-more (rows_meant world.arrivals name host world.rows) host healthy n h) i)
         ∙ sym (list_any-append (is_result_of n h) world.results (map (result_for host healthy) (rows_meant world.arrivals name host world.rows)));
-    healthy = λ n h there. (λ i. unwrap_or (notes n h i) false) ∙ or_by n h there (is_among (numbers_meant s.watches name host s.table.rows) n && host_same host h)
-        ∙ (λ i. unwrap_or (cond (is_among (numbers_of (sym rows_meant-same i)) n && host_same host h) (Some healthy)
+    healthy = λ n h there. (λ i. unwrap_or (notes n h i) false) ∙ or_by n h there (is_one_of (numbers_meant s.watches name host s.table.rows) n && host_same host h)
+        ∙ (λ i. unwrap_or (cond (is_one_of (numbers_of (sym rows_meant-same i)) n && host_same host h) (Some healthy)
         (last_or None (map (λ (r : HealthResult). r.healthy) (filter (is_result_of n h) world.results)))) false)
         ∙ ap (λ o. unwrap_or o false) (sym (last-more (rows_meant world.arrivals name host world.rows) host healthy n h (last_or None (map (λ (r : HealthResult). r.healthy) (filter (is_result_of n h) world.results)))))
         ∙ ap (λ o. unwrap_or o false) (sym (last-both n h));
@@ -324,11 +324,11 @@ pub noted-tidy : (s : State) → IsIndexed s → (name : List ℕ) (host : Host)
     → (stale : List ℕ) → IsTidyBut s stale → IsTidyBut (record s { results = results; due = due }) stale
 noted-tidy s x name host healthy results due notes stale tidy = record {
   marks = tidy.marks;
-  results = λ n row h found fresh lost. notes n h ∙ by n row h found fresh lost (is_among (numbers_meant s.watches name host s.table.rows) n) refl (host_same host h) refl;
+  results = λ n row h found fresh lost. notes n h ∙ by n row h found fresh lost (is_one_of (numbers_meant s.watches name host s.table.rows) n) refl (host_same host h) refl;
 }
   where
-    by : (n : ℕ) (row : GenRow) (h : Host) → row_in n s.table.rows ≡ Some row → is_among stale n ≡ false → keeps_result s.watches h row ≡ false
-        → (a : Bool) → is_among (numbers_meant s.watches name host s.table.rows) n ≡ a → (b : Bool) → host_same host h ≡ b → cond (a && b) (Some healthy) (result_in s.results n h) ≡ None
+    by : (n : ℕ) (row : GenRow) (h : Host) → row_in n s.table.rows ≡ Some row → is_one_of stale n ≡ false → keeps_result s.watches h row ≡ false
+        → (a : Bool) → is_one_of (numbers_meant s.watches name host s.table.rows) n ≡ a → (b : Bool) → host_same host h ≡ b → cond (a && b) (Some healthy) (result_in s.results n h) ≡ None
     by n row h found fresh lost true e true f =
         let meant : is_meant_in s.watches name host row ≡ true =
         (λ i. passes (is_meant_in s.watches name host) (sym found i)) ∙ sym (among-row (is_meant_in s.watches name host) n s.table.rows x.table.apart) ∙ e in

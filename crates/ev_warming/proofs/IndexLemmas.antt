@@ -21,7 +21,7 @@ use Rattle.ev_indexes.specs.declared.names.Standing.{Standing}
 use Rattle.ev_indexes.specs.declared.watches.Watch.{Watch}
 use Rattle.ev_indexes.specs.declared.state.State.{State}
 use Rattle.ev_indexes.specs.Addresses.{AddressesKept, ReleasesAddress, listens_at, numbers_at}
-use Rattle.ev_indexes.specs.Due.{is_among}
+use Rattle.ev_indexes.specs.Due.{is_one_of}
 use Rattle.ev_indexes.specs.Kept.{Sets}
 use Rattle.ev_indexes.specs.Standings.{NamesKept, nobody, standing_in}
 use Rattle.ev_indexes.specs.Watched.{WatchesKept, unwatched, watch_in, watched_less, with_arrival, numbers_without, has_watcher, watchers_of, unwatched_for}
@@ -48,7 +48,7 @@ named-live s number row x found live = by (lookup (bytes_eq row.name) s.names) r
   where
     nothing : (test : GenRow → Bool) (o : Option ℕ) → option_to_list o ≡ numbers_where test s.table.rows → o ≡ None → test row ≡ true → ⊥
     nothing test o index none passes =
-        true≢false (sym (among-where test number row s.table.rows found passes) ∙ (λ i. is_among (sym index i) number) ∙ (λ i. is_among (option_to_list (none i)) number))
+        true≢false (sym (among-where test number row s.table.rows found passes) ∙ (λ i. is_one_of (sym index i) number) ∙ (λ i. is_one_of (option_to_list (none i)) number))
 
     empty : lookup (bytes_eq row.name) s.names ≡ None → (status : RowStatus) → row.status ≡ status → is_live status ≡ true → ⊥
     empty none Warming e h =
@@ -102,7 +102,7 @@ module _ (s : State) (name : List ℕ) (made : ℕ) (arrival : Arrival) (watches
       let same : watch_in watches q ≡ watch_in s.watches q = sets q ∙ (λ i. cond (far i) (with_arrival made arrival (watch_in s.watches name)) (watch_in s.watches q)) in
       record { told = λ i. (same i).told; timed = λ i. (same i).timed; value = λ i. (same i).value }
 
-  elsewhere : (n : ℕ) → is_among (numbers_waiting s.table.rows name) n ≡ false → is_due_at watches s.results n s.table.rows ≡ is_due_at s.watches s.results n s.table.rows
+  elsewhere : (n : ℕ) → is_one_of (numbers_waiting s.table.rows name) n ≡ false → is_due_at watches s.results n s.table.rows ≡ is_due_at s.watches s.results n s.table.rows
   elsewhere n away = by (row_in n s.table.rows) refl
     where
       over : (row : GenRow) → row_in n s.table.rows ≡ Some row → (w : Bool) → is_warming row.status ≡ w → (needs : Bool) → is_needed name (dependencies_of row.content) ≡ needs
@@ -122,7 +122,7 @@ module _ (s : State) (name : List ℕ) (made : ℕ) (arrival : Arrival) (watches
   waiting-after = (λ i. part (λ (w : Watch). w.unlimited) (unlimited-with_arrival made arrival) name i ++ part (λ (w : Watch). w.limited) (limited-with_arrival made arrival) name i) ∙ watchers-index s x name
 
   pub indexed-arrived : (due : List ℕ)
-      → ((n : ℕ) → is_among due n ≡ cond (is_among (watchers_of (watch_in watches name)) n) (is_due_at watches s.results n s.table.rows) (is_among s.due n))
+      → ((n : ℕ) → is_one_of due n ≡ cond (is_one_of (watchers_of (watch_in watches name)) n) (is_due_at watches s.results n s.table.rows) (is_one_of s.due n))
       → IsIndexed (record s { watches = watches; due = due })
   indexed-arrived due looked = record {
     table = x.table;
@@ -132,16 +132,16 @@ module _ (s : State) (name : List ℕ) (made : ℕ) (arrival : Arrival) (watches
     unlimited = λ q. part (λ (w : Watch). w.unlimited) (unlimited-with_arrival made arrival) q ∙ x.unlimited q;
     limited = λ q. part (λ (w : Watch). w.limited) (limited-with_arrival made arrival) q ∙ x.limited q;
     holders = x.holders;
-    due = λ n. looked n ∙ by n (is_among (watchers_of (watch_in watches name)) n) refl;
+    due = λ n. looked n ∙ by n (is_one_of (watchers_of (watch_in watches name)) n) refl;
     drawn = x.drawn;
   }
     where
-      by : (n : ℕ) (b : Bool) → is_among (watchers_of (watch_in watches name)) n ≡ b
-          → cond b (is_due_at watches s.results n s.table.rows) (is_among s.due n) ≡ is_due_at watches s.results n s.table.rows
+      by : (n : ℕ) (b : Bool) → is_one_of (watchers_of (watch_in watches name)) n ≡ b
+          → cond b (is_due_at watches s.results n s.table.rows) (is_one_of s.due n) ≡ is_due_at watches s.results n s.table.rows
       by n true e = refl
       by n false e =
           x.due n
-          ∙ sym (elsewhere n ((λ i. is_among (sym waiting-after i) n) ∙ e))
+          ∙ sym (elsewhere n ((λ i. is_one_of (sym waiting-after i) n) ∙ e))
 
 pub is_due_at-agrees : (old new : WatchesKept) (results : ResultsKept) → ((q : List ℕ) → Agrees old new q) → (n : ℕ) (rows : List GenRow) → is_due_at new results n rows ≡ is_due_at old results n rows
 is_due_at-agrees old new results agrees n rows = by (row_in n rows)
@@ -170,7 +170,7 @@ module _ (s : State) (number : ℕ) (row : GenRow) (status : RowStatus) (x : IsI
       by true e =
           ap option_to_list (gone e)
           ∙ sym ((λ i. numbers_without number (sym index i))
-          ∙ without-one number o ((λ i. is_among (index i) number) ∙ among-where test number row s.table.rows found e))
+          ∙ without-one number o ((λ i. is_one_of (index i) number) ∙ among-where test number row s.table.rows found e))
       by false e = ap option_to_list (stays e) ∙ index ∙ sym (where-absent test number row s.table.rows found x.table.apart e)
 
   -- the one that warmed, or served, is gone
@@ -179,7 +179,7 @@ module _ (s : State) (number : ℕ) (row : GenRow) (status : RowStatus) (x : IsI
       (cond (is_warming row.status) (record (standing_in s.names row.name) { warming = None }) (record (standing_in s.names row.name) { active = None })))
       (less : (q : List ℕ) → watch_in watches q ≡ unwatched_for number q (dependencies_of row.content) (watch_in s.watches q))
       (released : ReleasesAddress s.addresses addresses number row.content)
-      (dues : (n : ℕ) → is_among due n ≡ (not (nat_eq number n) && is_among s.due n)) where
+      (dues : (n : ℕ) → is_one_of due n ≡ (not (nat_eq number n) && is_one_of s.due n)) where
     cold : (st : RowStatus) → is_live st ≡ false → (is_warming st ≡ false) × (is_active st ≡ false)
     cold Warming h = absurd (true≢false h)
     cold Active h = absurd (true≢false h)
@@ -269,7 +269,7 @@ module _ (s : State) (number : ℕ) (row : GenRow) (x : IsIndexed s) (found : ro
     (table : GenerationsParts) (rows : table.rows ≡ with_status number Active s.table.rows) (made : table.made ≡ s.table.made)
     (warm : is_warming row.status ≡ true) (alone : (standing_in s.names row.name).active ≡ None) (names : NamesKept) (due : List ℕ)
     (stands : Sets nobody s.names names row.name (record { active = Some number; warming = None }))
-    (dues : (n : ℕ) → is_among due n ≡ (not (nat_eq number n) && is_among s.due n)) where
+    (dues : (n : ℕ) → is_one_of due n ≡ (not (nat_eq number n) && is_one_of s.due n)) where
   active_at : (q : List ℕ) (b : Bool) → bytes_eq row.name q ≡ b
       → option_to_list (cond b (record { active = Some number; warming = None }) (standing_in s.names q)).active ≡ numbers_where (serves q) (with_status number Active s.table.rows)
   active_at q true e =

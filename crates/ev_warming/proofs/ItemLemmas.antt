@@ -19,7 +19,7 @@ use Rattle.ev_model.specs.Versions.{with_version, renewed}
 use Rattle.ev_model.specs.Warming.{is_for, is_word, is_timeout}
 use Rattle.ev_model.specs.Watching.{is_by_name}
 use Rattle.ev_indexes.specs.declared.state.State.{State}
-use Rattle.ev_indexes.specs.Worlds.{StandsFor, needs_of}
+use Rattle.ev_indexes.specs.Worlds.{HasRows, needs_of}
 use Rattle.ev_warming.specs.Arrivals.{IsOnValue, with_arrived}
 use Rattle.ev_warming.specs.Worlds.{FollowsDrawing, with_generation}
 use Rattle.ev_warming.proofs.ResponseLemmas.{versions-stand}
@@ -30,14 +30,14 @@ pub new-stands : (s t : State) (made : ℕ) (kind : Kind) (item : ItemParts) (co
     → FollowsDrawing made s t (with_generation kind item.name content) → FollowsDrawing made s t (add_item kind New item)
 new-stands s t made kind item content body follows = λ world stands drawn.
     let after = follows world stands drawn in
-    subst (λ (b : Body). StandsFor t (with_content (add_row kind item) b world) × (t.table.made ≡ (with_content (add_row kind item) b world).made)) (sym body)
+    subst (λ (b : Body). HasRows t (with_content (add_row kind item) b world) × (t.table.made ≡ (with_content (add_row kind item) b world).made)) (sym body)
     (versions-stand t (with_generation kind item.name content world) (with_version (version_in kind item) world.versions) after.0, after.1)
 
 -- a good resource that is kept arrives
 pub kept-stands : (t : State) (world : World) (kind : Kind) (item : ItemParts) (content : Content) → item.body ≡ Good content
-    → StandsFor t (with_arrived kind (Value content) item.name world) → StandsFor t (add_item kind Kept item world)
+    → HasRows t (with_arrived kind (Value content) item.name world) → HasRows t (add_item kind Kept item world)
 kept-stands t world kind item content body stands =
-    subst (λ (b : Body). StandsFor t (with_content (keep_value kind item) b world)) (sym body)
+    subst (λ (b : Body). HasRows t (with_content (keep_value kind item) b world)) (sym body)
     (versions-stand t (with_arrived kind (Value content) item.name world) (with_version (version_in kind item) world.versions) stands)
 
 -- what came of the rows' own kind came for no name that they wait for
@@ -47,7 +47,7 @@ own-apart Eds rows = absurd (true≢false rows)
 own-apart Lds rows = refl
 own-apart Rds rows = absurd (true≢false rows)
 
-own-arrived : (s : State) (world : World) (arrival : Arrival) (name : List ℕ) → is_by_name s.kind ≡ false → StandsFor s world → StandsFor s (with_arrived s.kind arrival name world)
+own-arrived : (s : State) (world : World) (arrival : Arrival) (name : List ℕ) → is_by_name s.kind ≡ false → HasRows s world → HasRows s (with_arrived s.kind arrival name world)
 own-arrived s world arrival name rows stands = record {
   sound = record { table = stands.sound.table; typed = stands.sound.typed; named = stands.sound.named; heard = stands.sound.heard };
   rows = stands.rows;
@@ -72,21 +72,21 @@ own-arrived s world arrival name rows stands = record {
 
 -- the state stands for the world after a change that draws no number
 abbrev Stays : State → World → World → Type 0
-Stays s world after = StandsFor s after × (world.made ≡ after.made)
+Stays s world after = HasRows s after × (world.made ≡ after.made)
 
 content-stays : (s : State) (world : World) (change : Content → World → World) → ((content : Content) → Stays s world (change content world)) → (body : Body)
-    → StandsFor s world → Stays s world (with_content change body world)
+    → HasRows s world → Stays s world (with_content change body world)
 content-stays s world change stays (Good content) stands = stays content
 content-stays s world change stays (Bad rule) stands = (stands, refl)
 content-stays s world change stays Beat stands = (stands, refl)
 
-same-stays : (s : State) (world : World) (kind : Kind) (item : ItemParts) → StandsFor s world → Stays s world (add_item kind Same item world)
+same-stays : (s : State) (world : World) (kind : Kind) (item : ItemParts) → HasRows s world → Stays s world (add_item kind Same item world)
 same-stays s world kind item stands =
     content-stays s world (λ content. keep_version kind item) (λ content. (versions-stand s world (with_version (version_in kind item) world.versions) stands, refl)) item.body stands
 
 -- a resource of the rows' own kind that makes none changes only what they don't look at
-pub other-stays : (s : State) (world : World) (verdict : Verdict) (item : ItemParts) → is_by_name s.kind ≡ false → (verdict ≡ New → ⊥) → StandsFor s world
-    → StandsFor s (add_item s.kind verdict item world) × (world.made ≡ (add_item s.kind verdict item world).made)
+pub other-stays : (s : State) (world : World) (verdict : Verdict) (item : ItemParts) → is_by_name s.kind ≡ false → (verdict ≡ New → ⊥) → HasRows s world
+    → HasRows s (add_item s.kind verdict item world) × (world.made ≡ (add_item s.kind verdict item world).made)
 other-stays s world New item rows old stands = absurd (old refl)
 other-stays s world Same item rows old stands = same-stays s world s.kind item stands
 other-stays s world Kept item rows old stands =
@@ -108,7 +108,7 @@ other-stays s world (Refused rule) item rows old stands = by s.kind rows
 
 -- of what rows wait for, a resource that is neither kept nor refused changes nothing that they look at
 pub idle-stands : (s : State) (world : World) (kind : Kind) (verdict : Verdict) (watched : Bool) (item : ItemParts) → IsOnValue verdict watched → (verdict ≡ Kept → ⊥)
-    → ((rule : ℕ) → verdict ≡ Refused rule → ⊥) → StandsFor s world → StandsFor s (add_item kind verdict item world)
+    → ((rule : ℕ) → verdict ≡ Refused rule → ⊥) → HasRows s world → HasRows s (add_item kind verdict item world)
 idle-stands s world kind New watched item on kept refused stands = absurd on
 idle-stands s world kind Same watched item on kept refused stands = (same-stays s world kind item stands).0
 idle-stands s world kind Kept watched item on kept refused stands = absurd (kept refl)

@@ -24,7 +24,7 @@ use Rattle.ev_indexes.specs.declared.state.State.{State}
 use Rattle.ev_warming.specs.Arrivals.{IsOnValue, AreOnValues}
 use Rattle.ev_indexes.specs.Indexes.{depends_on}
 use Rattle.ev_indexes.specs.Reads.{live_rows}
-use Rattle.ev_indexes.specs.Worlds.{needs_of, StandsFor}
+use Rattle.ev_indexes.specs.Worlds.{HasRows, needs_of}
 use Rattle.ev_warming.proofs.ForgottenLemmas.{watched-same}
 
 -- what is needed is asked for by name
@@ -108,7 +108,7 @@ watched-left kind response name (row ∷ rows) named all = over (is_live row.sta
     over true rest = by (kind_same row.kind kind) (is_removed response row.name) refl rest
     over false rest = rest
 
-pub values-judged : (s : State) (response : ResponseParts) (world : World) → is_by_name s.kind ≡ false → response.kind ≡ Some (needs_of s.kind) → StandsFor s world
+pub values-judged : (s : State) (response : ResponseParts) (world : World) → is_by_name s.kind ≡ false → response.kind ≡ Some (needs_of s.kind) → HasRows s world
     → AreOnValues s.table.rows (verdicts_of (lives_of world) world.versions response) response.items
 values-judged s response world rowed typed stands =
     subst (λ (o : Option Kind). AreOnValues s.table.rows (verdicts_by o (lives_of world) world.versions response) response.items) (sym typed)

@@ -19,13 +19,13 @@ use Rattle.ev_indexes.specs.declared.state.State.{State}
 use Rattle.ev_indexes.specs.Ready.{is_ready_in}
 use Rattle.ev_indexes.specs.Indexes.{IsIndexed, SameMarks}
 use Rattle.ev_warming.specs.Promotion.{succeeded_by, rows_promoted}
-use Rattle.ev_indexes.specs.Worlds.{needs_of, rows_of_kind, StandsFor}
+use Rattle.ev_indexes.specs.Worlds.{HasRows, needs_of, rows_of_kind}
 use Rattle.ev_indexes.proofs.WhereLemmas.{own-rows}
 use Rattle.ev_indexes.proofs.SoundLemmas.{contents-of, sound-with_statuses}
 use Rattle.ev_indexes.proofs.RowLemmas.{any_agrees, all_then, both_all, statuses_agree}
 use Rattle.ev_indexes.proofs.WorldLemmas.{rows_of_kind-with_statuses, any-rows_of_kind, ready_too}
 
-module _ (s : State) (world : World) (stands : StandsFor s world) (x : IsIndexed s) where
+module _ (s : State) (world : World) (stands : HasRows s world) (x : IsIndexed s) where
   ready_all : AllByRecursion (λ (r : GenRow). is_ready_in s.watches s.results r ≡ is_ready_by world.arrivals world.results r) s.table.rows
   ready_all =
       all_then (λ (r : GenRow). (content_kind r.content ≡ s.kind) × (row_in r.number s.table.rows ≡ Some r)) (λ (r : GenRow). is_ready_in s.watches s.results r ≡ is_ready_by world.arrivals world.results r)
@@ -62,8 +62,8 @@ there_before number f rows there = by (row_in number rows) (subst IsSome (row_in
     by (Some row) h = refl
 
 -- what stands for a world stands for the promoted world once it has promoted
-pub promoted-stands : (s t : State) (world : World) → IsIndexed s → StandsFor s world → t.kind ≡ s.kind → t.results ≡ s.results → SameMarks s.watches t.watches
-    → t.table.rows ≡ rows_promoted (is_ready_in s.watches s.results) s.table.rows → StandsFor t (promoted world)
+pub promoted-stands : (s t : State) (world : World) → IsIndexed s → HasRows s world → t.kind ≡ s.kind → t.results ≡ s.results → SameMarks s.watches t.watches
+    → t.table.rows ≡ rows_promoted (is_ready_in s.watches s.results) s.table.rows → HasRows t (promoted world)
 promoted-stands s t world x stands kind results marks rows =
     let f = λ (r : GenRow). status_by (succeeded_by (is_ready_in s.watches s.results) s.table.rows r) (is_ready_in s.watches s.results r) r.status in
     record {

@@ -11,7 +11,7 @@ use Rattle.ev_model.specs.Tidy.{status_by}
 use Rattle.ev_model.specs.Watching.{sorted_names}
 use Rattle.ev_generations.specs.Tables.{row_in, numbers_of}
 use Rattle.ev_generations.proofs.TableLemmas.{row_in-with_statuses}
-use Rattle.ev_indexes.specs.Due.{is_among}
+use Rattle.ev_indexes.specs.Due.{is_one_of}
 use Rattle.ev_warming.specs.Changes.{began_to_drain}
 use Rattle.ev_indexes.specs.Indexes.{status_in}
 use Rattle.ev_warming.specs.Promotion.{succeeded_by, rows_promoted}
@@ -34,7 +34,7 @@ needs-live f (row ∷ rows) all =
 
 -- a promotion by which none begins to drain
 module _ (ready : GenRow → Bool) (rows after : List GenRow) (apart : IsDistinct nat_eq (numbers_of rows)) (promoted : after ≡ rows_promoted ready rows)
-    (drained : List ℕ) (none : drained ≡ []) (told : (n : ℕ) → is_among drained n ≡ began_to_drain n rows after) where
+    (drained : List ℕ) (none : drained ≡ []) (told : (n : ℕ) → is_one_of drained n ≡ began_to_drain n rows after) where
   abbrev after_of : GenRow → RowStatus
   after_of r = status_by (succeeded_by ready rows r) (ready r) r.status
 
@@ -50,7 +50,7 @@ module _ (ready : GenRow → Bool) (rows after : List GenRow) (apart : IsDistinc
   each r own =
       stays r.status (succeeded_by ready rows r) (ready r)
       (sym ((λ i. is_active (status_in (own i)) && is_draining (status_in ((ap (row_in r.number) promoted ∙ row_in-with_statuses r.number after_of rows ∙ ap (option_map (λ (row : GenRow). record row { status = after_of row })) own) i))))
-      ∙ sym (told r.number) ∙ (λ i. is_among (none i) r.number))
+      ∙ sym (told r.number) ∙ (λ i. is_one_of (none i) r.number))
 
   pub quiet-names : names_watched after ≡ names_watched rows
   quiet-names =

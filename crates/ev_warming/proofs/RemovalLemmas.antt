@@ -18,7 +18,7 @@ use Rattle.ev_warming.specs.declared.manager.Manager.{Manager}
 use Rattle.ev_indexes.specs.Ready.{is_ready_in, is_due_found, is_due_at}
 use Rattle.ev_indexes.specs.Addresses.{listens_at}
 use Rattle.ev_indexes.specs.Indexes.{depends_on, waits, serves, warms, numbers_where, holds}
-use Rattle.ev_indexes.specs.Worlds.{rows_of_kind, StandsFor}
+use Rattle.ev_indexes.specs.Worlds.{HasRows, rows_of_kind}
 use Rattle.ev_indexes.specs.Needs.{HaveNames, is_needed}
 use Rattle.ev_warming.specs.Changes.{is_over}
 use Rattle.ev_warming.specs.Forgetting.{is_need_of}
@@ -195,7 +195,7 @@ module _ (m : Manager) (number : ℕ) (kept : IsKept m) (forgotten : m.stale ≡
       none true o e = refl
       none false o e = e
 
-  pub stands-without : (world : World) → StandsFor m.state world → StandsFor (record m.state { table = table }) (record world { rows = without_row number world.rows })
+  pub stands-without : (world : World) → HasRows m.state world → HasRows (record m.state { table = table }) (record world { rows = without_row number world.rows })
   stands-without world stands = record {
     sound = record {
       table = record {

@@ -23,12 +23,12 @@ use Rattle.ev_model.specs.Rows.{versions_left, with_statuses, removed_status, ro
 use Rattle.ev_model.specs.Signals.{ended_status, rows_ended}
 use Rattle.ev_indexes.specs.declared.state.State.{State}
 use Rattle.ev_warming.specs.Changes.{is_unlisted, status_left_by}
-use Rattle.ev_indexes.specs.Worlds.{StandsFor}
+use Rattle.ev_indexes.specs.Worlds.{HasRows}
 use Rattle.ev_indexes.proofs.RowLemmas.{all_then, statuses_agree}
 use Rattle.ev_warming.proofs.PromotionLemmas.{statuses_same, with_statuses-twice}
 
 -- a state doesn't look at versions
-pub versions-stand : (s : State) (world : World) (versions : List KeptVersion) → StandsFor s world → StandsFor s (record world { versions = versions })
+pub versions-stand : (s : State) (world : World) (versions : List KeptVersion) → HasRows s world → HasRows s (record world { versions = versions })
 versions-stand s world versions stands = record {
   sound = record { table = stands.sound.table; typed = stands.sound.typed; named = stands.sound.named; heard = stands.sound.heard };
   rows = stands.rows;
@@ -114,31 +114,31 @@ unnamed-left kind response name rows bad named =
     by row h true true e = absurd (bad (subst IsName (sym ((bytes_decide name row.name).0 e)) h))
 
 -- the same rows in a world that a state stands for
-pub rows-stand : (s : State) (world : World) (rows : List GenRow) → world.rows ≡ rows → StandsFor s world → StandsFor s (record world { rows = rows })
-rows-stand s world rows e stands = subst (λ (rs : List GenRow). StandsFor s (record world { rows = rs })) e stands
+pub rows-stand : (s : State) (world : World) (rows : List GenRow) → world.rows ≡ rows → HasRows s world → HasRows s (record world { rows = rows })
+rows-stand s world rows e stands = subst (λ (rs : List GenRow). HasRows s (record world { rows = rs })) e stands
 
 -- one removed name
 pub ended-stands : (s : State) (world : World) (kind : Kind) (response : ResponseParts) (name : List ℕ) → is_unlisted response name ≡ true
-    → StandsFor s (record world { rows = rows_ended kind name world.rows }) → StandsFor s (record world { rows = with_statuses (status_left_by kind response (name ∷ [])) world.rows })
+    → HasRows s (record world { rows = rows_ended kind name world.rows }) → HasRows s (record world { rows = with_statuses (status_left_by kind response (name ∷ [])) world.rows })
 ended-stands s world kind response name free stands =
-    subst (λ (rs : List GenRow). StandsFor s (record world { rows = rs })) (ended-left kind response name world.rows free) stands
+    subst (λ (rs : List GenRow). HasRows s (record world { rows = rs })) (ended-left kind response name world.rows free) stands
 
 pub listed-stands : (s : State) (world : World) (kind : Kind) (response : ResponseParts) (name : List ℕ) → is_unlisted response name ≡ false
-    → StandsFor s world → StandsFor s (record world { rows = with_statuses (status_left_by kind response (name ∷ [])) world.rows })
+    → HasRows s world → HasRows s (record world { rows = with_statuses (status_left_by kind response (name ∷ [])) world.rows })
 listed-stands s world kind response name listed stands = rows-stand s world (with_statuses (status_left_by kind response (name ∷ [])) world.rows) (listed-left kind response name world.rows listed) stands
 
 pub unnamed-stands : (s : State) (world : World) (kind : Kind) (response : ResponseParts) (name : List ℕ) → (IsName name → ⊥)
-    → StandsFor s world → StandsFor s (record world { rows = with_statuses (status_left_by kind response (name ∷ [])) world.rows })
+    → HasRows s world → HasRows s (record world { rows = with_statuses (status_left_by kind response (name ∷ [])) world.rows })
 unnamed-stands s world kind response name bad stands =
     rows-stand s world (with_statuses (status_left_by kind response (name ∷ [])) world.rows) (unnamed-left kind response name world.rows bad stands.sound.named) stands
 
 -- one removed name after others
 pub more-stands : (s t : State) (world : World) (kind : Kind) (response : ResponseParts) (names : List (List ℕ)) (i : ℕ) (name : List ℕ) → i < length names → name ≡ get_or names i name
-    → StandsFor s (record world { rows = with_statuses (status_left_by kind response (take i names)) world.rows })
-    → ((w : World) → StandsFor s w → StandsFor t (record w { rows = with_statuses (status_left_by kind response (name ∷ [])) w.rows }))
-    → StandsFor t (record world { rows = with_statuses (status_left_by kind response (take (i + 1) names)) world.rows })
+    → HasRows s (record world { rows = with_statuses (status_left_by kind response (take i names)) world.rows })
+    → ((w : World) → HasRows s w → HasRows t (record w { rows = with_statuses (status_left_by kind response (name ∷ [])) w.rows }))
+    → HasRows t (record world { rows = with_statuses (status_left_by kind response (take (i + 1) names)) world.rows })
 more-stands s t world kind response names i name within is before step =
-    subst (λ (rs : List GenRow). StandsFor t (record world { rows = rs }))
+    subst (λ (rs : List GenRow). HasRows t (record world { rows = rs }))
     (left-more kind response (take i names) name world.rows
     ∙ (λ j. with_statuses (status_left_by kind response (take i names ++ is j ∷ [])) world.rows)
     ∙ (λ j. with_statuses (status_left_by kind response (sym (take_more names i name within) j)) world.rows))
@@ -152,7 +152,7 @@ nothing-left kind response rows = sym (statuses_same rows) ∙ (λ i. with_statu
     by row true = refl
     by row false = refl
 
-pub nothing-stands : (s : State) (world : World) (response : ResponseParts) → StandsFor s world → StandsFor s (record world { rows = with_statuses (status_left_by s.kind response []) world.rows })
+pub nothing-stands : (s : State) (world : World) (response : ResponseParts) → HasRows s world → HasRows s (record world { rows = with_statuses (status_left_by s.kind response []) world.rows })
 nothing-stands s world response stands = rows-stand s world (with_statuses (status_left_by s.kind response []) world.rows) (nothing-left s.kind response world.rows) stands
 
 -- one resource more has come in
@@ -171,10 +171,10 @@ removals-are Lds response world h = refl
 removals-are Eds response world h = absurd (true≢false h)
 removals-are Rds response world h = absurd (true≢false h)
 
-pub removals-stand : (s : State) (world : World) (kind : Kind) (response : ResponseParts) → is_by_name kind ≡ false → StandsFor s (record world { rows = rows_left kind response world.rows })
-    → StandsFor s (with_removals kind response world)
+pub removals-stand : (s : State) (world : World) (kind : Kind) (response : ResponseParts) → is_by_name kind ≡ false → HasRows s (record world { rows = rows_left kind response world.rows })
+    → HasRows s (with_removals kind response world)
 removals-stand s world kind response rows stands =
-    subst (StandsFor s) (removals-are kind response world rows)
+    subst (HasRows s) (removals-are kind response world rows)
     (versions-stand s (record world { rows = rows_left kind response world.rows }) (versions_left kind response world.versions) stands)
 
 -- removals draw no number

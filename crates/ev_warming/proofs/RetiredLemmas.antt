@@ -16,7 +16,7 @@ use Rattle.ev_model.specs.Rows.{with_statuses, replaced_status, removed_status, 
 use Rattle.ev_model.specs.Signals.{ended_status, rows_ended}
 use Rattle.ev_generations.specs.Tables.{is_number, row_in, numbers_of}
 use Rattle.ev_generations.proofs.TableLemmas.{row_in-with_statuses}
-use Rattle.ev_indexes.specs.Due.{is_among}
+use Rattle.ev_indexes.specs.Due.{is_one_of}
 use Rattle.ev_indexes.specs.Indexes.{serves, warms, numbers_where}
 use Rattle.ev_warming.specs.Changes.{is_over, has_retired, Tells}
 use Rattle.ev_indexes.proofs.WhereLemmas.{among-where}
@@ -25,7 +25,7 @@ use Rattle.ev_indexes.proofs.RowLemmas.{all-at}
 
 -- nothing changed, and nothing is reported
 pub tells-none : (rows : List GenRow) (numbers : List ℕ) → Tells rows rows numbers numbers
-tells-none rows numbers = record { told = λ n. by (is_among numbers n) (is_over (row_in n rows)); stays = λ n h. h }
+tells-none rows numbers = record { told = λ n. by (is_one_of numbers n) (is_over (row_in n rows)); stays = λ n h. h }
   where
     by : (a b : Bool) → a ≡ (a || (b && not b))
     by true b = refl
@@ -35,7 +35,7 @@ tells-none rows numbers = record { told = λ n. by (is_among numbers n) (is_over
 -- one change after another
 pub tells-then : (first second third : List GenRow) (xs ys zs : List ℕ) → Tells first second xs ys → Tells second third ys zs → Tells first third xs zs
 tells-then first second third xs ys zs p q = record {
-  told = λ n. q.told n ∙ (λ i. p.told n i || has_retired n second third) ∙ by (is_among xs n) (is_over (row_in n first)) (is_over (row_in n second)) (is_over (row_in n third)) (p.stays n) (q.stays n);
+  told = λ n. q.told n ∙ (λ i. p.told n i || has_retired n second third) ∙ by (is_one_of xs n) (is_over (row_in n first)) (is_over (row_in n second)) (is_over (row_in n third)) (p.stays n) (q.stays n);
   stays = λ n h. q.stays n (p.stays n h);
 }
   where
@@ -51,12 +51,12 @@ tells-then first second third xs ys zs p q = record {
 
 -- other statuses
 pub tells-statused : (f : GenRow → RowStatus) (before after : List GenRow) (numbers more : List ℕ) → after ≡ with_statuses f before
-    → ((n : ℕ) (row : GenRow) → row_in n before ≡ Some row → is_among more n ≡ (is_live row.status && not (is_live (f row))))
-    → ((n : ℕ) → row_in n before ≡ None → is_among more n ≡ false)
+    → ((n : ℕ) (row : GenRow) → row_in n before ≡ Some row → is_one_of more n ≡ (is_live row.status && not (is_live (f row))))
+    → ((n : ℕ) → row_in n before ≡ None → is_one_of more n ≡ false)
     → ((row : GenRow) → is_live row.status ≡ false → is_live (f row) ≡ false)
     → Tells before after numbers (numbers ++ more)
 tells-statused f before after numbers more rows some none ended = record {
-  told = λ n. list_any-append (nat_eq n) numbers more ∙ (λ i. is_among numbers n || gone n (row_in n before) refl i);
+  told = λ n. list_any-append (nat_eq n) numbers more ∙ (λ i. is_one_of numbers n || gone n (row_in n before) refl i);
   stays = λ n h. (λ i. is_over (found n i)) ∙ stays (row_in n before) h;
 }
   where
@@ -69,7 +69,7 @@ tells-statused f before after numbers more rows some none ended = record {
     flip false true = refl
     flip false false = refl
 
-    gone : (n : ℕ) (o : Option GenRow) → row_in n before ≡ o → is_among more n ≡ has_retired n before after
+    gone : (n : ℕ) (o : Option GenRow) → row_in n before ≡ o → is_one_of more n ≡ has_retired n before after
     gone n None at =
         none n at ∙ (λ i. is_over (option_map (λ (r : GenRow). record r { status = f r }) (sym at i)) && not (is_over (row_in n before)))
         ∙ (λ i. is_over (sym (found n) i) && not (is_over (row_in n before)))
@@ -85,7 +85,7 @@ tells-statused f before after numbers more rows some none ended = record {
 -- one row more, which warms
 pub tells-more : (before after : List GenRow) (new : GenRow) (numbers : List ℕ) → after ≡ before ++ new ∷ [] → is_live new.status ≡ true → Tells before after numbers numbers
 tells-more before after new numbers rows live = record {
-  told = λ n. by (is_among numbers n) (is_over (row_in n before)) ∙ (λ i. is_among numbers n || (sym (same n) i && not (is_over (row_in n before))));
+  told = λ n. by (is_one_of numbers n) (is_over (row_in n before)) ∙ (λ i. is_one_of numbers n || (sym (same n) i && not (is_over (row_in n before))));
   stays = λ n h. same n ∙ h;
 }
   where
@@ -105,10 +105,10 @@ tells-more before after new numbers rows live = record {
         ∙ over (row_in n before) (nat_eq n new.number)
 
 -- whether the number of a row is among those that pass
-passing : (test : GenRow → Bool) (n : ℕ) (row : GenRow) (rows : List GenRow) → IsDistinct nat_eq (numbers_of rows) → row_in n rows ≡ Some row → is_among (numbers_where test rows) n ≡ test row
+passing : (test : GenRow → Bool) (n : ℕ) (row : GenRow) (rows : List GenRow) → IsDistinct nat_eq (numbers_of rows) → row_in n rows ≡ Some row → is_one_of (numbers_where test rows) n ≡ test row
 passing test n row rows apart at = by (test row) refl
   where
-    by : (b : Bool) → test row ≡ b → is_among (numbers_where test rows) n ≡ b
+    by : (b : Bool) → test row ≡ b → is_one_of (numbers_where test rows) n ≡ b
     by true e = among-where test n row rows at e
     by false e = fails-where test n row rows apart at e
 
@@ -131,17 +131,17 @@ module _ (kind : Kind) (name : List ℕ) (rows : List GenRow) (apart : IsDistinc
       by Draining true b e = refl
       by Dropped true b e = refl
 
-      some : (n : ℕ) (row : GenRow) → row_in n rows ≡ Some row → is_among (option_to_list warming ++ option_to_list active) n ≡ (is_live row.status && not (is_live (ended_status kind name row)))
+      some : (n : ℕ) (row : GenRow) → row_in n rows ≡ Some row → is_one_of (option_to_list warming ++ option_to_list active) n ≡ (is_live row.status && not (is_live (ended_status kind name row)))
       some n row at =
           list_any-append (nat_eq n) (option_to_list warming) (option_to_list active)
-          ∙ (λ i. is_among (w i) n || is_among (a i) n)
+          ∙ (λ i. is_one_of (w i) n || is_one_of (a i) n)
           ∙ (λ i. passing (warms name) n row rows apart at i || passing (serves name) n row rows apart at i)
           ∙ by row.status (kind_same row.kind kind) (bytes_eq row.name name) (own_kind n row at)
 
-      none : (n : ℕ) → row_in n rows ≡ None → is_among (option_to_list warming ++ option_to_list active) n ≡ false
+      none : (n : ℕ) → row_in n rows ≡ None → is_one_of (option_to_list warming ++ option_to_list active) n ≡ false
       none n at =
           list_any-append (nat_eq n) (option_to_list warming) (option_to_list active)
-          ∙ (λ i. is_among (w i) n || is_among (a i) n)
+          ∙ (λ i. is_one_of (w i) n || is_one_of (a i) n)
           ∙ (λ i. absent-where (warms name) n rows apart at i || absent-where (serves name) n rows apart at i)
 
       ended : (row : GenRow) → is_live row.status ≡ false → is_live (ended_status kind name row) ≡ false
@@ -172,13 +172,13 @@ module _ (kind : Kind) (name : List ℕ) (rows : List GenRow) (apart : IsDistinc
       by Draining true b e = refl
       by Dropped true b e = refl
 
-      some : (n : ℕ) (row : GenRow) → row_in n rows ≡ Some row → is_among (option_to_list warming) n ≡ (is_live row.status && not (is_live (replaced_status kind name row)))
+      some : (n : ℕ) (row : GenRow) → row_in n rows ≡ Some row → is_one_of (option_to_list warming) n ≡ (is_live row.status && not (is_live (replaced_status kind name row)))
       some n row at =
-          (λ i. is_among (w i) n) ∙ passing (warms name) n row rows apart at
+          (λ i. is_one_of (w i) n) ∙ passing (warms name) n row rows apart at
           ∙ by row.status (kind_same row.kind kind) (bytes_eq row.name name) (own_kind n row at)
 
-      none : (n : ℕ) → row_in n rows ≡ None → is_among (option_to_list warming) n ≡ false
-      none n at = (λ i. is_among (w i) n) ∙ absent-where (warms name) n rows apart at
+      none : (n : ℕ) → row_in n rows ≡ None → is_one_of (option_to_list warming) n ≡ false
+      none n at = (λ i. is_one_of (w i) n) ∙ absent-where (warms name) n rows apart at
 
       ended : (row : GenRow) → is_live row.status ≡ false → is_live (replaced_status kind name row) ≡ false
       ended row over = ended-by row.status (kind_same row.kind kind && bytes_eq row.name name) over

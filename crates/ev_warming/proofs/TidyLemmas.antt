@@ -28,7 +28,7 @@ use Rattle.ev_generations.proofs.TableLemmas.{row_in-with_statuses}
 use Rattle.ev_indexes.specs.declared.names.Standing.{Standing}
 use Rattle.ev_indexes.specs.declared.watches.Watch.{Watch}
 use Rattle.ev_indexes.specs.declared.state.State.{State}
-use Rattle.ev_indexes.specs.Due.{is_among}
+use Rattle.ev_indexes.specs.Due.{is_one_of}
 use Rattle.ev_indexes.specs.Kept.{Sets}
 use Rattle.ev_indexes.specs.Standings.{standing_in}
 use Rattle.ev_indexes.specs.Watched.{WatchesKept, unwatched, watch_in, with_arrival, watchers_of}
@@ -36,7 +36,7 @@ use Rattle.ev_indexes.specs.Ready.{assignment_in}
 use Rattle.ev_indexes.specs.Indexes.{IsIndexed, depends_on, serves, warms, numbers_where, status_in, SameMarks}
 use Rattle.ev_warming.specs.Promotion.{succeeded_by, rows_promoted}
 use Rattle.ev_warming.specs.Changes.{began_to_drain}
-use Rattle.ev_indexes.specs.Worlds.{StandsFor}
+use Rattle.ev_indexes.specs.Worlds.{HasRows}
 use Rattle.ev_indexes.specs.Needs.{is_needed}
 use Rattle.ev_warming.specs.Forgetting.{needs_in, is_need_of, keeps_result, IsUnheard, IsTidyBut}
 use Rattle.ev_indexes.proofs.WhereLemmas.{any-found, own-rows, among-where}
@@ -60,11 +60,11 @@ any-row test rows apart any = go rows (own-rows rows apart) any
         by false e h rest = rest h
 
 -- a number that is among these and passes
-any-among : (p : ℕ → Bool) (numbers : List ℕ) (n : ℕ) → is_among numbers n ≡ true → p n ≡ true → list_any p numbers ≡ true
+any-among : (p : ℕ → Bool) (numbers : List ℕ) (n : ℕ) → is_one_of numbers n ≡ true → p n ≡ true → list_any p numbers ≡ true
 any-among p [] n here passes = absurd (true≢false (sym here))
 any-among p (m ∷ numbers) n here passes = by (nat_eq n m) refl here (λ h. any-among p numbers n h passes)
   where
-    by : (b : Bool) → nat_eq n m ≡ b → (b || is_among numbers n) ≡ true → (is_among numbers n ≡ true → list_any p numbers ≡ true) → (p m || list_any p numbers) ≡ true
+    by : (b : Bool) → nat_eq n m ≡ b → (b || is_one_of numbers n) ≡ true → (is_one_of numbers n ≡ true → list_any p numbers ≡ true) → (p m || list_any p numbers) ≡ true
     by true e h rest = ap (λ b. b || list_any p numbers) (ap p (sym (eqb-true n m e)) ∙ passes)
     by false e h rest = or_right (p m) (list_any p numbers) (rest h)
 
@@ -95,7 +95,7 @@ unheard-same old new told timed value u = record { told = told ∙ u.told; timed
 -- statuses change, and the numbers of those that retire are reported
 module _ (s t : State) (f : GenRow → RowStatus) (stale more : List ℕ) (apart : IsDistinct nat_eq (numbers_of s.table.rows))
     (rows : t.table.rows ≡ with_statuses f s.table.rows) (marks : SameMarks s.watches t.watches) (results : t.results ≡ s.results)
-    (told : (n : ℕ) (row : GenRow) → row_in n s.table.rows ≡ Some row → is_live row.status ≡ true → is_live (f row) ≡ false → is_among more n ≡ true)
+    (told : (n : ℕ) (row : GenRow) → row_in n s.table.rows ≡ Some row → is_live row.status ≡ true → is_live (f row) ≡ false → is_one_of more n ≡ true)
     (ended : (row : GenRow) → is_live row.status ≡ false → is_live (f row) ≡ false)
     (tidy : IsTidyBut s stale) where
   row-after : (n : ℕ) → row_in n t.table.rows ≡ option_map (λ (r : GenRow). record r { status = f r }) (row_in n s.table.rows)
@@ -144,9 +144,9 @@ module _ (s t : State) (f : GenRow → RowStatus) (stale more : List ℕ) (apart
   }
     where
       gone : (n : ℕ) (row : GenRow) (h : Host) (o : Option GenRow) → row_in n s.table.rows ≡ o → option_map (λ (r : GenRow). record r { status = f r }) o ≡ Some row
-          → (is_among stale n || is_among more n) ≡ false → keeps_result t.watches h row ≡ false → result_in s.results n h ≡ None
+          → (is_one_of stale n || is_one_of more n) ≡ false → keeps_result t.watches h row ≡ false → result_in s.results n h ≡ None
       gone n row h None e at absent lost = cc
-      gone n row h (Some r) e at absent lost = tidy.results n r h e (none-first (is_among stale n) (is_among more n) absent) (by (is_live r.status) refl (is_live (f r)) refl)
+      gone n row h (Some r) e at absent lost = tidy.results n r h e (none-first (is_one_of stale n) (is_one_of more n) absent) (by (is_live r.status) refl (is_live (f r)) refl)
         where
           same : record r { status = f r } ≡ row
           same = cc
@@ -157,7 +157,7 @@ module _ (s t : State) (f : GenRow → RowStatus) (stale more : List ℕ) (apart
               (λ i. has_host h (sym (assignment_in-agrees s.watches t.watches r.content (agrees-all s.watches t.watches (marks-agree s.watches t.watches marks) (dependencies_of r.content))) i))
               ∙ (λ i. sym m i && has_host h (assignment_in t.watches r.content))
               ∙ (λ i. keeps_result t.watches h (same i)) ∙ lost
-          by true l false m = absurd (true≢false (sym (told n r e l m) ∙ none-second (is_among stale n) (is_among more n) absent))
+          by true l false m = absurd (true≢false (sym (told n r e l m) ∙ none-second (is_one_of stale n) (is_one_of more n) absent))
 
 -- a row more
 module _ (s t : State) (new : GenRow) (stale : List ℕ)
@@ -184,7 +184,7 @@ module _ (s t : State) (new : GenRow) (stale : List ℕ)
   }
     where
       gone : (n : ℕ) (row : GenRow) (h : Host) (o : Option GenRow) → row_in n s.table.rows ≡ o → option_or o (cond (nat_eq n new.number) (Some new) None) ≡ Some row
-          → is_among stale n ≡ false → keeps_result t.watches h row ≡ false → result_in s.results n h ≡ None
+          → is_one_of stale n ≡ false → keeps_result t.watches h row ≡ false → result_in s.results n h ≡ None
       gone n row h None e at absent lost = by (nat_eq n new.number) refl at
         where
           by : (b : Bool) → nat_eq n new.number ≡ b → cond b (Some new) None ≡ Some row → result_in s.results n h ≡ None
@@ -199,17 +199,17 @@ module _ (s t : State) (new : GenRow) (stale : List ℕ)
 -- what is live of a name retires
 ended-told : (kind : Kind) (name : List ℕ) (rows : List GenRow) (standing : Standing) → option_to_list standing.active ≡ numbers_where (serves name) rows → option_to_list standing.warming ≡ numbers_where (warms name) rows
     → (n : ℕ) (row : GenRow) → row_in n rows ≡ Some row → is_live row.status ≡ true → is_live (ended_status kind name row) ≡ false
-    → is_among (option_to_list standing.warming ++ option_to_list standing.active) n ≡ true
+    → is_one_of (option_to_list standing.warming ++ option_to_list standing.active) n ≡ true
 ended-told kind name rows standing active warming n row at live over =
     list_any-append (nat_eq n) (option_to_list standing.warming) (option_to_list standing.active)
     ∙ by row.status refl (kind_same row.kind kind) (bytes_eq row.name name) refl live over
   where
     by : (st : RowStatus) → row.status ≡ st → (k b : Bool) → bytes_eq row.name name ≡ b → is_live st ≡ true → is_live (cond (k && b) (removed_status st) st) ≡ false
-        → (is_among (option_to_list standing.warming) n || is_among (option_to_list standing.active) n) ≡ true
-    by Warming e true true f l o = λ i. ((λ j. is_among (warming j) n) ∙ among-where (warms name) n row rows at (λ j. is_warming (e j) && f j)) i || is_among (option_to_list standing.active) n
+        → (is_one_of (option_to_list standing.warming) n || is_one_of (option_to_list standing.active) n) ≡ true
+    by Warming e true true f l o = λ i. ((λ j. is_one_of (warming j) n) ∙ among-where (warms name) n row rows at (λ j. is_warming (e j) && f j)) i || is_one_of (option_to_list standing.active) n
     by Active e true true f l o =
-        (λ i. is_among (option_to_list standing.warming) n || ((λ j. is_among (active j) n) ∙ among-where (serves name) n row rows at (λ j. is_active (e j) && f j)) i)
-        ∙ or-true (is_among (option_to_list standing.warming) n)
+        (λ i. is_one_of (option_to_list standing.warming) n || ((λ j. is_one_of (active j) n) ∙ among-where (serves name) n row rows at (λ j. is_active (e j) && f j)) i)
+        ∙ or-true (is_one_of (option_to_list standing.warming) n)
     by Warming e true false f l o = absurd (true≢false o)
     by Active e true false f l o = absurd (true≢false o)
     by Warming e false b f l o = absurd (true≢false o)
@@ -239,12 +239,12 @@ tidy-ended s t name standing stale x is rows marks results tidy =
 
 -- the one that warms under a name is dropped, and a new one warms
 replaced-told : (kind : Kind) (name : List ℕ) (rows : List GenRow) (warming : Option ℕ) → option_to_list warming ≡ numbers_where (warms name) rows
-    → (n : ℕ) (row : GenRow) → row_in n rows ≡ Some row → is_live row.status ≡ true → is_live (replaced_status kind name row) ≡ false → is_among (option_to_list warming) n ≡ true
+    → (n : ℕ) (row : GenRow) → row_in n rows ≡ Some row → is_live row.status ≡ true → is_live (replaced_status kind name row) ≡ false → is_one_of (option_to_list warming) n ≡ true
 replaced-told kind name rows warming index n row at live over = by row.status refl (kind_same row.kind kind) (bytes_eq row.name name) refl live over
   where
     by : (st : RowStatus) → row.status ≡ st → (k b : Bool) → bytes_eq row.name name ≡ b → is_live st ≡ true → is_live (cond ((k && b) && is_warming st) Dropped st) ≡ false
-        → is_among (option_to_list warming) n ≡ true
-    by Warming e true true f l o = (λ j. is_among (index j) n) ∙ among-where (warms name) n row rows at (λ j. is_warming (e j) && f j)
+        → is_one_of (option_to_list warming) n ≡ true
+    by Warming e true true f l o = (λ j. is_one_of (index j) n) ∙ among-where (warms name) n row rows at (λ j. is_warming (e j) && f j)
     by Active e true true f l o = absurd (true≢false o)
     by Warming e true false f l o = absurd (true≢false o)
     by Active e true false f l o = absurd (true≢false o)
@@ -277,7 +277,7 @@ tidy-added s t name content warming stale x is rows marks results tidy =
 
 -- those that served drain where one of their name is promoted
 module _ (s t : State) (ready : GenRow → Bool) (drained stale : List ℕ) (x : IsIndexed s) (rows : t.table.rows ≡ rows_promoted ready s.table.rows)
-    (told : (n : ℕ) → is_among drained n ≡ began_to_drain n s.table.rows t.table.rows) (marks : SameMarks s.watches t.watches) (results : t.results ≡ s.results) (tidy : IsTidyBut s stale) where
+    (told : (n : ℕ) → is_one_of drained n ≡ began_to_drain n s.table.rows t.table.rows) (marks : SameMarks s.watches t.watches) (results : t.results ≡ s.results) (tidy : IsTidyBut s stale) where
   abbrev status_of : GenRow → RowStatus
   status_of row = status_by (succeeded_by ready s.table.rows row) (ready row) row.status
 
@@ -289,7 +289,7 @@ module _ (s t : State) (ready : GenRow → Bool) (drained stale : List ℕ) (x :
   goes Draining a b l o = absurd (true≢false (sym l))
   goes Dropped a b l o = absurd (true≢false (sym l))
 
-  over : (n : ℕ) (row : GenRow) → row_in n s.table.rows ≡ Some row → is_live row.status ≡ true → is_live (status_of row) ≡ false → is_among drained n ≡ true
+  over : (n : ℕ) (row : GenRow) → row_in n s.table.rows ≡ Some row → is_live row.status ≡ true → is_live (status_of row) ≡ false → is_one_of drained n ≡ true
   over n row at live o =
       told n
       ∙ (λ i. is_active (status_in (at i)) && is_draining (status_in (row_in n (rows i))))
@@ -328,15 +328,15 @@ tidy-arrived s t name made arrival stale x watched table sets results tidy = rec
         (sym (list_any-append (λ n. is_needed q (needs_in (row_in n s.table.rows))) stale (watchers_of (watch_in s.watches name)))
         ∙ (λ i. is_need_of (sym table i).rows (stale ++ (watchers_of (watch_in s.watches name))) q) ∙ unneeded)))
 
-    gone : (n : ℕ) (row : GenRow) (h : Host) → row_in n s.table.rows ≡ Some row → (is_among stale n || is_among (watchers_of (watch_in s.watches name)) n) ≡ false → keeps_result t.watches h row ≡ false
+    gone : (n : ℕ) (row : GenRow) (h : Host) → row_in n s.table.rows ≡ Some row → (is_one_of stale n || is_one_of (watchers_of (watch_in s.watches name)) n) ≡ false → keeps_result t.watches h row ≡ false
         → (l : Bool) → is_live row.status ≡ l → (needs : Bool) → is_needed name (dependencies_of row.content) ≡ needs → result_in s.results n h ≡ None
     gone n row h at absent lost false l needs f =
-        tidy.results n row h at (none-first (is_among stale n) (is_among (watchers_of (watch_in s.watches name)) n) absent) (λ i. l i && has_host h (assignment_in s.watches row.content))
+        tidy.results n row h at (none-first (is_one_of stale n) (is_one_of (watchers_of (watch_in s.watches name)) n) absent) (λ i. l i && has_host h (assignment_in s.watches row.content))
     gone n row h at absent lost true l true f =
-        absurd (true≢false (sym ((λ i. is_among (watchers-index s x name i) n) ∙ among-depends name n row s.table.rows at (λ i. l i && f i))
-        ∙ none-second (is_among stale n) (is_among (watchers_of (watch_in s.watches name)) n) absent))
+        absurd (true≢false (sym ((λ i. is_one_of (watchers-index s x name i) n) ∙ among-depends name n row s.table.rows at (λ i. l i && f i))
+        ∙ none-second (is_one_of stale n) (is_one_of (watchers_of (watch_in s.watches name)) n) absent))
     gone n row h at absent lost true l false f =
-        tidy.results n row h at (none-first (is_among stale n) (is_among (watchers_of (watch_in s.watches name)) n) absent)
+        tidy.results n row h at (none-first (is_one_of stale n) (is_one_of (watchers_of (watch_in s.watches name)) n) absent)
         ((λ i. is_live row.status && has_host h (sym (assignment_in-agrees s.watches t.watches row.content (agrees-other s.watches t.watches name other (dependencies_of row.content) f)) i)) ∙ lost)
       where
         other : (q : List ℕ) → bytes_eq q name ≡ false → Agrees s.watches t.watches q
@@ -345,7 +345,7 @@ tidy-arrived s t name made arrival stale x watched table sets results tidy = rec
             record { told = λ i. (same q far i).told; timed = λ i. (same q far i).timed; value = λ i. (same q far i).value }
 
 -- where nothing happened there is nothing to forget
-pub tidy-new : (s : State) → StandsFor s (opening 0 []) → IsTidyBut s []
+pub tidy-new : (s : State) → HasRows s (opening 0 []) → IsTidyBut s []
 tidy-new s stands = record {
   marks = λ q none unneeded. record { told = stands.told q; timed = stands.timed q; value = stands.value q };
   results = λ n row h at absent lost.

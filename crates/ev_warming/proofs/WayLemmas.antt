@@ -14,7 +14,7 @@ use Rattle.ev_generations.specs.Tables.{row_in, status_with, with_status}
 use Rattle.ev_generations.proofs.TableLemmas.{row_in-with_statuses, number-row_in}
 use Rattle.ev_endpoints.specs.Results.{ResultsKept}
 use Rattle.ev_indexes.specs.declared.state.State.{State}
-use Rattle.ev_indexes.specs.Due.{is_among}
+use Rattle.ev_indexes.specs.Due.{is_one_of}
 use Rattle.ev_indexes.specs.Standings.{standing_in}
 use Rattle.ev_indexes.specs.Watched.{numbers_without, WatchesKept}
 use Rattle.ev_indexes.specs.Ready.{is_ready_in, is_due_in, is_due_found}
@@ -50,8 +50,8 @@ module _ (s : State) (x : IsIndexed s) (name : List ℕ) where
   way-none none =
       sym (statuses_same s.table.rows)
       ∙ statuses_agree (λ (r : GenRow). r.status) (status_drained name) s.table.rows
-      (all_then (λ (r : GenRow). is_among (numbers_where (serves name) s.table.rows) r.number ≡ serves name r) (λ (r : GenRow). r.status ≡ status_drained name r) s.table.rows
-      (λ r h. λ i. cond ((sym (λ j. is_among ((sym (x.active name) ∙ ap option_to_list none) j) r.number) ∙ h) i) Draining r.status)
+      (all_then (λ (r : GenRow). is_one_of (numbers_where (serves name) s.table.rows) r.number ≡ serves name r) (λ (r : GenRow). r.status ≡ status_drained name r) s.table.rows
+      (λ r h. λ i. cond ((sym (λ j. is_one_of ((sym (x.active name) ∙ ap option_to_list none) j) r.number) ∙ h) i) Draining r.status)
       (where-members (serves name) s.table.rows x.table.apart))
 
   module _ (p : ℕ) (at : (standing_in s.names name).active ≡ Some p) where
@@ -59,7 +59,7 @@ module _ (s : State) (x : IsIndexed s) (name : List ℕ) where
     members = sym (x.active name) ∙ ap option_to_list at
 
     theirs : (row : GenRow) × (row_in p s.table.rows ≡ Some row) × (serves name row ≡ true)
-    theirs = found-where (serves name) p s.table.rows x.table.apart ((λ i. is_among (members i) p) ∙ or-false (nat_eq p p) ∙ eq-eqb p p refl)
+    theirs = found-where (serves name) p s.table.rows x.table.apart ((λ i. is_one_of (members i) p) ∙ or-false (nat_eq p p) ∙ eq-eqb p p refl)
 
     serving : is_active theirs.0.status ≡ true
     serving = (and_parts (is_active theirs.0.status) (bytes_eq theirs.0.name name) theirs.2).0
@@ -74,8 +74,8 @@ module _ (s : State) (x : IsIndexed s) (name : List ℕ) where
     way-rows =
         (λ i. with_status p (removed i) s.table.rows)
         ∙ statuses_agree (status_with p Draining) (status_drained name) s.table.rows
-        (all_then (λ (r : GenRow). is_among (numbers_where (serves name) s.table.rows) r.number ≡ serves name r) (λ (r : GenRow). status_with p Draining r ≡ status_drained name r) s.table.rows
-        (λ r h. λ i. cond ((flipped p r.number ∙ sym (or-false (nat_eq r.number p)) ∙ (λ j. is_among (sym members j) r.number) ∙ h) i) Draining r.status)
+        (all_then (λ (r : GenRow). is_one_of (numbers_where (serves name) s.table.rows) r.number ≡ serves name r) (λ (r : GenRow). status_with p Draining r ≡ status_drained name r) s.table.rows
+        (λ r h. λ i. cond ((flipped p r.number ∙ sym (or-false (nat_eq r.number p)) ∙ (λ j. is_one_of (sym members j) r.number) ∙ h) i) Draining r.status)
         (where-members (serves name) s.table.rows x.table.apart))
 
     pub way-row : (number : ℕ) (row : GenRow) (status : RowStatus) → row_in number s.table.rows ≡ Some row → is_warming row.status ≡ true
@@ -92,10 +92,10 @@ module _ (s : State) (x : IsIndexed s) (name : List ℕ) where
             let own : theirs.0 ≡ row = cc in
             true≢false (sym warm ∙ (λ i. is_warming (sym own i).status) ∙ cold-active theirs.0.status serving))
 
-    pub way-due : (n : ℕ) → (not (nat_eq p n) && is_among s.due n) ≡ is_among s.due n
+    pub way-due : (n : ℕ) → (not (nat_eq p n) && is_one_of s.due n) ≡ is_one_of s.due n
     way-due n = by (nat_eq p n) refl
       where
-        by : (b : Bool) → nat_eq p n ≡ b → (not b && is_among s.due n) ≡ is_among s.due n
+        by : (b : Bool) → nat_eq p n ≡ b → (not b && is_one_of s.due n) ≡ is_one_of s.due n
         by true e =
             sym (x.due n
             ∙ (λ i. is_due_found s.watches s.results (row_in (sym (eqb-true p n e) i) s.table.rows))
@@ -113,7 +113,7 @@ module _ (s : State) (x : IsIndexed s) (name : List ℕ) where
         ∙ without-one p (Some p) (or-false (nat_eq p p) ∙ eq-eqb p p refl))
 
 -- a generation that is due serves
-module _ (s : State) (x : IsIndexed s) (number : ℕ) (row : GenRow) (found : row_in number s.table.rows ≡ Some row) (due : is_among s.due number ≡ true) where
+module _ (s : State) (x : IsIndexed s) (number : ℕ) (row : GenRow) (found : row_in number s.table.rows ≡ Some row) (due : is_one_of s.due number ≡ true) where
   is_due : is_due_in s.watches s.results row ≡ true
   is_due = (λ i. is_due_found s.watches s.results (sym found i)) ∙ sym (x.due number) ∙ due
 
@@ -130,17 +130,17 @@ module _ (s : State) (x : IsIndexed s) (number : ℕ) (row : GenRow) (found : ro
   lone =
       let o = (standing_in s.names row.name).warming in
       sym (x.warming row.name)
-      ∙ ap option_to_list (only number o ((λ i. is_among (x.warming row.name i) number) ∙ among-where (warms row.name) number row s.table.rows found named))
+      ∙ ap option_to_list (only number o ((λ i. is_one_of (x.warming row.name i) number) ∙ among-where (warms row.name) number row s.table.rows found named))
 
-  key : (r : GenRow) → is_among (numbers_where (warms row.name) s.table.rows) r.number ≡ warms row.name r → nat_eq number r.number ≡ warms row.name r
-  key r h = flipped number r.number ∙ sym (or-false (nat_eq r.number number)) ∙ (λ j. is_among (sym lone j) r.number) ∙ h
+  key : (r : GenRow) → is_one_of (numbers_where (warms row.name) s.table.rows) r.number ≡ warms row.name r → nat_eq number r.number ≡ warms row.name r
+  key r h = flipped number r.number ∙ sym (or-false (nat_eq r.number number)) ∙ (λ j. is_one_of (sym lone j) r.number) ∙ h
 
   once : (rows : List GenRow) → rows ≡ with_statuses (status_drained row.name) s.table.rows → with_status number Active rows ≡ rows_once row.name s.table.rows
   once rows e =
       ap (with_status number Active) e
       ∙ with_statuses-twice (status_with number Active) (status_drained row.name) s.table.rows
       ∙ statuses_agree (λ (r : GenRow). status_with number Active (row_with (status_drained row.name r) r)) (status_once row.name) s.table.rows
-      (all_then (λ (r : GenRow). is_among (numbers_where (warms row.name) s.table.rows) r.number ≡ warms row.name r)
+      (all_then (λ (r : GenRow). is_one_of (numbers_where (warms row.name) s.table.rows) r.number ≡ warms row.name r)
       (λ (r : GenRow). status_with number Active (row_with (status_drained row.name r) r) ≡ status_once row.name r) s.table.rows
       (λ r h. λ i. cond (key r h i) Active (status_drained row.name r))
       (where-members (warms row.name) s.table.rows x.table.apart))
@@ -152,10 +152,10 @@ module _ (s : State) (x : IsIndexed s) (number : ℕ) (row : GenRow) (found : ro
       ∙ rows_promoted-once (is_ready_in s.watches s.results) (λ status r. refl) row.name s.kind s.table.rows x.kinds
       (any-found (λ (r : GenRow). warms row.name r && is_ready_in s.watches s.results r) number row s.table.rows found
       (and_from (warms row.name row) (is_ready_in s.watches s.results row) named ready))
-      (all_then (λ (r : GenRow). (is_among (numbers_where (warms row.name) s.table.rows) r.number ≡ warms row.name r) × (nat_eq number r.number ≡ true → r ≡ row))
+      (all_then (λ (r : GenRow). (is_one_of (numbers_where (warms row.name) s.table.rows) r.number ≡ warms row.name r) × (nat_eq number r.number ≡ true → r ≡ row))
       (λ (r : GenRow). warms row.name r ≡ true → is_ready_in s.watches s.results r ≡ true) s.table.rows
       (λ r (h, q) w. (λ i. is_ready_in s.watches s.results (q (key r h ∙ w) i)) ∙ ready)
-      (both_all (λ (r : GenRow). is_among (numbers_where (warms row.name) s.table.rows) r.number ≡ warms row.name r) (λ (r : GenRow). nat_eq number r.number ≡ true → r ≡ row)
+      (both_all (λ (r : GenRow). is_one_of (numbers_where (warms row.name) s.table.rows) r.number ≡ warms row.name r) (λ (r : GenRow). nat_eq number r.number ≡ true → r ≡ row)
       s.table.rows (where-members (warms row.name) s.table.rows x.table.apart) (all-found number row s.table.rows found x.table.apart)))
 
 -- readiness by the same marks is the same
@@ -171,18 +171,18 @@ pub promoted-done : (s : State) → IsIndexed s → s.due ≡ [] → rows_promot
 promoted-done s x none =
     rows_promoted-none (is_ready_in s.watches s.results) s.table.rows
     (all_then (λ (r : GenRow). row_in r.number s.table.rows ≡ Some r) (λ (r : GenRow). is_due_in s.watches s.results r ≡ false) s.table.rows
-    (λ r own. (λ i. is_due_found s.watches s.results (sym own i)) ∙ sym (x.due r.number) ∙ (λ i. is_among (none i) r.number))
+    (λ r own. (λ i. is_due_found s.watches s.results (sym own i)) ∙ sym (x.due r.number) ∙ (λ i. is_one_of (none i) r.number))
     (own-rows s.table.rows x.table.apart))
 
 -- one more of those that were due has come to serve
-pub served-more : (served due rest : List ℕ) (number n : ℕ) → is_among due number ≡ true → is_among rest n ≡ (not (nat_eq number n) && is_among due n)
-    → (is_among (served ++ number ∷ []) n || is_among rest n) ≡ (is_among served n || is_among due n)
+pub served-more : (served due rest : List ℕ) (number n : ℕ) → is_one_of due number ≡ true → is_one_of rest n ≡ (not (nat_eq number n) && is_one_of due n)
+    → (is_one_of (served ++ number ∷ []) n || is_one_of rest n) ≡ (is_one_of served n || is_one_of due n)
 served-more served due rest number n there left =
     (λ i. list_any-append (nat_eq n) served (number ∷ []) i || left i)
-    ∙ (λ i. (is_among served n || (flipped n number i || false)) || (not (nat_eq number n) && is_among due n))
-    ∙ by (is_among served n) (nat_eq number n) refl
+    ∙ (λ i. (is_one_of served n || (flipped n number i || false)) || (not (nat_eq number n) && is_one_of due n))
+    ∙ by (is_one_of served n) (nat_eq number n) refl
   where
-    by : (a b : Bool) → nat_eq number n ≡ b → ((a || (b || false)) || (not b && is_among due n)) ≡ (a || is_among due n)
+    by : (a b : Bool) → nat_eq number n ≡ b → ((a || (b || false)) || (not b && is_one_of due n)) ≡ (a || is_one_of due n)
     by true b e = refl
-    by false true e = sym ((λ i. is_among due (sym (eqb-true number n e) i)) ∙ there)
+    by false true e = sym ((λ i. is_one_of due (sym (eqb-true number n e) i)) ∙ there)
     by false false e = refl

@@ -12,7 +12,7 @@ use Rattle.ev_model.specs.Signals.{is_draining, rows_ended}
 use Rattle.ev_model.specs.Verdicts.{items_named, is_among}
 use Rattle.ev_generations.specs.Tables.{row_in, with_status}
 use Rattle.ev_indexes.specs.declared.state.State.{State}
-use Rattle.ev_indexes.specs.Due.{is_among as among}
+use Rattle.ev_indexes.specs.Due.{is_one_of}
 use Rattle.ev_indexes.specs.Indexes.{status_in, name_in, serves, warms, numbers_where}
 use Rattle.ev_indexes.specs.Ready.{is_ready_in, is_due_at}
 use Rattle.ev_indexes.specs.Reads.{names_watched}
@@ -47,7 +47,7 @@ status_left_by kind response names row =
 
 -- the second list has the first one's numbers and those of the rows that retired in between, and a row that is over stays over
 pub record Tells (before after : List GenRow) (numbers more : List ℕ) : Type 0 where
-  pub told : (number : ℕ) → among more number ≡ (among numbers number || has_retired number before after)
+  pub told : (number : ℕ) → is_one_of more number ≡ (is_one_of numbers number || has_retired number before after)
   pub stays : (number : ℕ) → is_over (row_in number before) ≡ true → is_over (row_in number after) ≡ true
 
 -- what was reported to have retired grows by what retired in between
@@ -56,19 +56,21 @@ TellsRetired old new numbers more = Tells old.table.rows new.table.rows numbers 
 
 -- these are the numbers of the rows that retired in between
 abbrev pub HaveRetired : List ℕ → State → State → Type 0
-HaveRetired numbers old new = (number : ℕ) → among numbers number ≡ has_retired number old.table.rows new.table.rows
+HaveRetired numbers old new = (number : ℕ) → is_one_of numbers number ≡ has_retired number old.table.rows new.table.rows
 
 -- these are the numbers of the rows that are due
 abbrev pub AreDue : List ℕ → State → Type 0
-AreDue numbers s = (number : ℕ) → among numbers number ≡ is_due_at s.watches s.results number s.table.rows
+AreDue numbers s = (number : ℕ) → is_one_of numbers number ≡ is_due_at s.watches s.results number s.table.rows
 
 -- these are the numbers of the rows that came to serve in between
 abbrev pub CameToServe : List ℕ → State → State → Type 0
-CameToServe numbers old new = (number : ℕ) → among numbers number ≡ began_to_serve number old.table.rows new.table.rows
+CameToServe numbers old new =
+    (number : ℕ) → is_one_of numbers number ≡ began_to_serve number old.table.rows new.table.rows
 
 -- these are the numbers of the rows that began to drain in between
 abbrev pub BeganToDrain : List ℕ → State → State → Type 0
-BeganToDrain numbers old new = (number : ℕ) → among numbers number ≡ began_to_drain number old.table.rows new.table.rows
+BeganToDrain numbers old new =
+    (number : ℕ) → is_one_of numbers number ≡ began_to_drain number old.table.rows new.table.rows
 
 -- where none of these drains, the same names are watched as before
 abbrev pub WatchesTheSame : List ℕ → State → State → Type 0

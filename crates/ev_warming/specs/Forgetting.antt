@@ -12,7 +12,7 @@ use Rattle.ev_endpoints.specs.Results.{ResultsKept, result_in}
 use Rattle.ev_generations.specs.Tables.{row_in}
 use Rattle.ev_indexes.specs.declared.watches.Watch.{Watch}
 use Rattle.ev_indexes.specs.declared.state.State.{State}
-use Rattle.ev_indexes.specs.Due.{is_among}
+use Rattle.ev_indexes.specs.Due.{is_one_of}
 use Rattle.ev_indexes.specs.Watched.{WatchesKept, unwatched, watch_in, has_watcher}
 use Rattle.ev_indexes.specs.Needs.{is_needed}
 use Rattle.ev_indexes.specs.Ready.{assignment_in}
@@ -49,7 +49,7 @@ pub record IsUnheard (watch : Watch) : Type 0 where
 -- what nobody needs any more is known only of the generations of these numbers and of the names that they depended on
 pub record IsTidyBut (s : State) (stale : List ℕ) : Type 0 where
   pub marks : (name : List ℕ) → list_any (depends_on name) s.table.rows ≡ false → is_need_of s.table.rows stale name ≡ false → IsUnheard (watch_in s.watches name)
-  pub results : (number : ℕ) (row : GenRow) (host : Host) → row_in number s.table.rows ≡ Some row → is_among stale number ≡ false → keeps_result s.watches host row ≡ false
+  pub results : (number : ℕ) (row : GenRow) (host : Host) → row_in number s.table.rows ≡ Some row → is_one_of stale number ≡ false → keeps_result s.watches host row ≡ false
       → result_in s.results number host ≡ None
 
 -- nothing is known any more of the name, where no generation depends on it, and of every other name what was known

@@ -10,7 +10,7 @@ use Rattle.ev_types.specs.declared.rows.GenRow.{GenRow}
 use Rattle.ev_endpoints.specs.Results.{ResultsKept, result_in}
 use Rattle.ev_generations.specs.Tables.{row_in}
 use Rattle.ev_indexes.specs.declared.state.State.{State}
-use Rattle.ev_indexes.specs.Due.{is_among}
+use Rattle.ev_indexes.specs.Due.{is_one_of}
 use Rattle.ev_indexes.specs.Watched.{WatchesKept}
 use Rattle.ev_indexes.specs.Ready.{takes_result}
 use Rattle.ev_indexes.specs.Indexes.{passes, numbers_where}
@@ -31,7 +31,7 @@ numbers_meant watches name host rows = numbers_where (is_meant_in watches name h
 -- each of these numbers has this result of the host, and every other result stays
 abbrev pub NotesEach : ResultsKept → ResultsKept → List ℕ → Host → Bool → Type 0
 NotesEach old new numbers host healthy =
-    (n : ℕ) (h : Host) → result_in new n h ≡ (if is_among numbers n && host_same host h then Some healthy else result_in old n h)
+    (n : ℕ) (h : Host) → result_in new n h ≡ (if is_one_of numbers n && host_same host h then Some healthy else result_in old n h)
 
 -- a result of the host is for a row of the state
 abbrev pub is_meant_by : State → List ℕ → Host → Bool

@@ -19,23 +19,23 @@ use Rattle.ev_model.specs.Tidy.{without_unwatched, without_old_results}
 use Rattle.ev_generations.specs.Tables.{without_row}
 use Rattle.ev_indexes.specs.declared.state.State.{State}
 use Rattle.ev_indexes.specs.Indexes.{depends_on}
-use Rattle.ev_indexes.specs.Worlds.{StandsFor, needs_of}
+use Rattle.ev_indexes.specs.Worlds.{HasRows, needs_of}
 use Rattle.ev_warming.specs.Arrivals.{told_where}
 use Rattle.ev_warming.specs.Changes.{is_unlisted, status_left_by}
 
 -- whatever world the first state stands for, the second one stands for that world changed so
 abbrev pub Follows : State → State → (World → World) → Type 0
-Follows old new change = (world : World) → StandsFor old world → StandsFor new (change world)
+Follows old new change = (world : World) → HasRows old world → HasRows new (change world)
 
 -- whatever world the first state stands for in which so many numbers were drawn, the second one stands for that world changed so
 abbrev pub FollowsAt : ℕ → State → State → (World → World) → Type 0
-FollowsAt made old new change = (world : World) → StandsFor old world → made ≡ world.made → StandsFor new (change world)
+FollowsAt made old new change = (world : World) → HasRows old world → made ≡ world.made → HasRows new (change world)
 
 -- whatever world the first state stands for in which so many numbers were drawn, the second one stands for that world changed so, and as
 -- many numbers were drawn in both
 abbrev pub FollowsDrawing : ℕ → State → State → (World → World) → Type 0
-FollowsDrawing made old new change = (world : World) → StandsFor old world → made ≡ world.made
-    → StandsFor new (change world) × (new.table.made ≡ (change world).made)
+FollowsDrawing made old new change = (world : World) → HasRows old world → made ≡ world.made
+    → HasRows new (change world) × (new.table.made ≡ (change world).made)
 
 -- the world as it is
 abbrev pub unchanged : World → World
@@ -43,7 +43,7 @@ unchanged world = world
 
 -- whatever world the state stands for, the answer is what is read of it so
 abbrev pub AnswersFor : {A : Type 0} → State → A → (World → A) → Type 0
-AnswersFor s answer reading = (world : World) → StandsFor s world → answer ≡ reading world
+AnswersFor s answer reading = (world : World) → HasRows s world → answer ≡ reading world
 
 -- the world once the removals and the resources of a response are in
 abbrev pub with_response : Kind → List Verdict → ResponseParts → World → World

@@ -3,7 +3,7 @@
 ghost use Rattle.std.specs.Prelude.{◌≡◌, true, Some, length, OnOk};
 ghost use Rattle.std.specs.List.{list_any};
 ghost use Rattle.ev_types.specs.declared.events.Verdict.TheVariants.{Kept};
-ghost use Rattle.ev_model.specs.Verdicts.{is_among as is_listed};
+ghost use Rattle.ev_model.specs.Verdicts.{is_among};
 ghost use Rattle.ev_model.specs.Rows.{add_item, add_items};
 ghost use Rattle.ev_indexes.specs.Indexes.{depends_on};
 ghost use Rattle.ev_indexes.specs.Worlds.{needs_of};
@@ -83,7 +83,7 @@ impl Manager {
         steps: &mut Steps<L>,
     ) -> Result<(), AllocError>
         requires kept { IsKept self.old }
-        requires listed { is_listed name.now mentions.now.removed ≡ true }
+        requires listed { is_among name.now mentions.now.removed ≡ true }
         ensures kept { OnOk result (IsKept self.new) }
         ensures kind { OnOk result (self.new.state.kind ≡ self.old.state.kind) }
         ensures table { OnOk result (self.new.state.table ≡ self.old.state.table) }

@@ -10,7 +10,7 @@ ghost use Rattle.ev_types.specs.Statuses.{is_live, is_warming};
 ghost use Rattle.ev_generations.specs.Tables.{row_in, with_status};
 ghost use Rattle.ev_indexes.specs.Standings.{standing_in};
 ghost use Rattle.ev_indexes.specs.Needs.{HaveNames, need_at, places_of};
-ghost use Rattle.ev_indexes.specs.Due.{is_among};
+ghost use Rattle.ev_indexes.specs.Due.{is_one_of};
 ghost use Rattle.ev_model.specs.Tidy.{promoted};
 ghost use Rattle.ev_model.specs.Watching.{dependencies_of};
 ghost use Rattle.ev_indexes.specs.Worlds.{needs_of};
@@ -85,8 +85,8 @@ fn retire<L: Ledger>(state: &mut State, number: Gen, steps: &mut Steps<L>)
     ensures made { state.new.table.made ≡ state.old.table.made }
     ensures marks { SameMarks state.old.watches state.new.watches }
     ensures others { KeepsResults state.old state.new }
-    ensures due { (n : ℕ) → is_among state.new.due n ≡ (not (nat_eq number n) && is_among state.old.due n) }
-    ensures count { length state.new.due + (if is_among state.old.due number then 1 else 0) ≡ length state.old.due }
+    ensures due { (n : ℕ) → is_one_of state.new.due n ≡ (not (nat_eq number n) && is_one_of state.old.due n) }
+    ensures count { length state.new.due + (if is_one_of state.old.due number then 1 else 0) ≡ length state.old.due }
     ensures steps { steps.new ≡ steps.old + 1 }
 {
     let Some(row) = state.table.row(number, steps) else {
@@ -110,8 +110,8 @@ fn serve<L: Ledger>(state: &mut State, number: Gen, steps: &mut Steps<L>)
     ensures rows { state.new.table.rows ≡ with_status number Active state.old.table.rows }
     ensures made { state.new.table.made ≡ state.old.table.made }
     ensures others { KeepsKnown state.old state.new }
-    ensures due { (n : ℕ) → is_among state.new.due n ≡ (not (nat_eq number n) && is_among state.old.due n) }
-    ensures count { length state.new.due + (if is_among state.old.due number then 1 else 0) ≡ length state.old.due }
+    ensures due { (n : ℕ) → is_one_of state.new.due n ≡ (not (nat_eq number n) && is_one_of state.old.due n) }
+    ensures count { length state.new.due + (if is_one_of state.old.due number then 1 else 0) ≡ length state.old.due }
     ensures steps { steps.new ≡ steps.old + 1 }
 {
     let Some(row) = state.table.row(number, steps) else {
@@ -143,7 +143,7 @@ fn make_way<L: Ledger>(
     ensures made { state.new.table.made ≡ state.old.table.made }
     ensures marks { SameMarks state.old.watches state.new.watches }
     ensures others { KeepsResults state.old state.new }
-    ensures due { (n : ℕ) → is_among state.new.due n ≡ is_among state.old.due n }
+    ensures due { (n : ℕ) → is_one_of state.new.due n ≡ is_one_of state.old.due n }
     ensures count { length state.new.due ≤ length state.old.due }
     ensures steps { steps.new ≤ steps.old + 1 }
     ensures before { result ≡ active }
@@ -158,7 +158,7 @@ fn make_way<L: Ledger>(
 // The generation of this number, which is due, serves, and the one that served its name, which is the answer, drains.
 fn promote_one<L: Ledger>(state: &mut State, number: Gen, steps: &mut Steps<L>) -> Option<Gen>
     requires indexed { IsIndexed state.old }
-    requires due { is_among state.old.due number ≡ true }
+    requires due { is_one_of state.old.due number ≡ true }
     ensures indexed { IsIndexed state.new }
     ensures before { result ≡ (standing_in state.old.names (name_in (row_in number state.old.table.rows))).active }
     ensures changed { state.new.table.rows ≡ with_status number Active (rows_giving_way number state.old.table.rows) }
@@ -166,7 +166,7 @@ fn promote_one<L: Ledger>(state: &mut State, number: Gen, steps: &mut Steps<L>) 
     ensures made { state.new.table.made ≡ state.old.table.made }
     ensures marks { SameMarks state.old.watches state.new.watches }
     ensures others { KeepsResults state.old state.new }
-    ensures due { (n : ℕ) → is_among state.new.due n ≡ (not (nat_eq number n) && is_among state.old.due n) }
+    ensures due { (n : ℕ) → is_one_of state.new.due n ≡ (not (nat_eq number n) && is_one_of state.old.due n) }
     ensures count { length state.new.due < length state.old.due }
     ensures steps { steps.new ≤ steps.old + 3 }
 {

@@ -6,7 +6,7 @@ ghost use Rattle.ev_model.specs.World.{opening};
 ghost use Rattle.ev_model.specs.Watching.{is_by_name};
 ghost use Rattle.ev_model.specs.Tidy.{promoted};
 ghost use Rattle.ev_indexes.specs.Indexes.{depends_on, numbers_waiting};
-ghost use Rattle.ev_indexes.specs.Worlds.{StandsFor, needs_of};
+ghost use Rattle.ev_indexes.specs.Worlds.{HasRows, needs_of};
 ghost use Rattle.ev_warming.specs.Arrivals.{with_arrived};
 ghost use Rattle.ev_warming.specs.Changes.{AreDue, BeganToDrain, CameToServe, EndsRows, ServesName, WarmsUnder, WatchesTheSame, watchers_in};
 ghost use Rattle.ev_warming.specs.Worlds.{Follows, FollowsAt, with_rows_ended, without_unneeded};
@@ -40,7 +40,7 @@ impl Manager {
         ensures kept { IsKept result }
         ensures done { result.stale ≡ [] }
         ensures made { result.state.table.made ≡ 0 }
-        ensures stands { (workers : ℕ) (node : List ℕ) → StandsFor result.state (opening workers node) }
+        ensures stands { (workers : ℕ) (node : List ℕ) → HasRows result.state (opening workers node) }
     {
         Manager {
             state: State::new(alloc, kind),
@@ -63,7 +63,8 @@ impl Manager {
         ensures kept { OnOk result (IsKept self.new) }
         ensures kind { OnOk result (self.new.state.kind ≡ self.old.state.kind) }
         ensures table { OnOk result (self.new.state.table ≡ self.old.state.table) }
-        ensures steps { OnOk result (steps.new ≡ steps.old + length (numbers_waiting self.old.state.table.rows name.now)) }
+        ensures steps { OnOk result (steps.new ≡ steps.old
+            + length (numbers_waiting self.old.state.table.rows name.now)) }
         // Whatever world the manager stood for in which so many numbers were drawn, it stands for that world with the arrival.
         ensures stands { OnOk result (FollowsAt made self.old.state self.new.state
             (with_arrived (needs_of self.old.state.kind) arrival.now name.now)) }

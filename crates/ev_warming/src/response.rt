@@ -7,7 +7,7 @@ ghost use Rattle.std.specs.Prelude.{◌≡◌, ◌+◌, ◌^◌, ◌<◌, ◌≤
 ghost use Rattle.ev_types.specs.Items.{IsBodyOf, content_kind};
 ghost use Rattle.ev_types.specs.declared.contents.Body.TheVariants.{Good};
 ghost use Rattle.ev_types.specs.declared.events.Verdict.TheVariants.{New};
-ghost use Rattle.ev_model.specs.Verdicts.{is_among as is_listed};
+ghost use Rattle.ev_model.specs.Verdicts.{is_among};
 ghost use Rattle.ev_model.specs.Rows.{add_item, add_items};
 ghost use Rattle.ev_warming.specs.Managers.{IsKept};
 ghost use Rattle.ev_warming.specs.Changes.{HaveRetired, TellsRetired};
@@ -110,7 +110,7 @@ impl Manager {
         steps: &mut Steps<L>,
     ) -> Result<(), AllocError>
         requires kept { IsKept self.old }
-        requires listed { is_listed name.now mentions.now.removed ≡ true }
+        requires listed { is_among name.now mentions.now.removed ≡ true }
         ensures kept { OnOk result (IsKept self.new) }
         ensures kind { OnOk result (self.new.state.kind ≡ self.old.state.kind) }
         ensures made { OnOk result (self.new.state.table.made ≡ self.old.state.table.made) }

@@ -14,7 +14,7 @@ use Rattle.ev_tree.specs.Spans.{is_not_positive}
 use Rattle.ev_tree.specs.Sources.{source_broken_in, source_is_limited}
 use Rattle.ev_cluster_json.specs.declared.parts.TheConstants.{STATIC, EDS}
 use Rattle.ev_cluster_json.specs.Assignments.{rows_of, assignment_broken}
-use Rattle.ev_cluster_json.specs.Clusters.{name_of, type_of, is_static, is_eds, has_custom_type, is_in_cluster, is_by_eds, holds_hosts, asks_hosts, eds_of, eds_source_of, service_name_of, load_assignment_of, service_with, service_of, is_checked, own_broken, eds_broken, load_assignment_broken, cluster_broken, discovery_of, cluster_of, cluster_reading}
+use Rattle.ev_cluster_json.specs.Clusters.{name_of, type_of, is_static, is_eds, has_custom_type, is_in_cluster, is_by_eds, holds_hosts, asks_hosts, eds_of, eds_source_of, service_name_of, load_assignment_of, service_with, service_of, is_checked, cluster_own_broken, eds_broken, load_assignment_broken, cluster_broken, discovery_of, cluster_of, cluster_reading}
 use Rattle.ev_tree.specs.Floats.{whole}
 use Rattle.ev_whole_laws.proofs.Texts.{body_text_of-whole}
 use Rattle.ev_whole_laws.proofs.Assignments.{assignment_broken-whole, rows_of-whole}
@@ -68,8 +68,8 @@ pub is_checked-whole : (tree : Data) → is_checked (whole tree) ≡ is_checked 
 unfolding is_checked
 is_checked-whole tree = λ i. not ((ap length (listed-objects (codes "health_checks") tree) ∙ length-whole (listed (objects_of (codes "health_checks") tree))) i == 0)
 
-pub own_broken-whole : (profile : Profile) (tree : Data) → own_broken profile (whole tree) ≡ own_broken profile tree
-unfolding own_broken
+pub own_broken-whole : (profile : Profile) (tree : Data) → cluster_own_broken profile (whole tree) ≡ cluster_own_broken profile tree
+unfolding cluster_own_broken
 own_broken-whole profile tree = λ i. record none_broken {
   v3 = not (is_wrong (text_of-whole (codes "name") tree i)) && not (is_name (name_of-whole tree i));
   v6 =

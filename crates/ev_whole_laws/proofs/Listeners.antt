@@ -13,7 +13,7 @@ use Rattle.ev_tree.specs.Broken.{none_broken, either_broken, any_broken, least_o
 use Rattle.ev_listener_json.specs.Parts.{first_of}
 use Rattle.ev_listener_json.specs.Filters.{chain_serve, chain_broken}
 use Rattle.ev_listener_json.specs.Chains.{chains_of, no_criteria}
-use Rattle.ev_listener_json.specs.Listeners.{name_of, is_udp, serve_of, own_listener_broken, own_listener_of, lacks_address, named_with, named_address, listening_text, listening_port, is_unusable, has_bad_address, is_every_address, envoy_parts_broken, envoy_listener_of, listener_broken, listener_of, listener_reading}
+use Rattle.ev_listener_json.specs.Listeners.{listener_name, is_udp, serve_of, own_listener_broken, own_listener_of, lacks_address, named_with, named_address, listening_text, listening_port, is_unusable, has_bad_address, is_every_address, envoy_parts_broken, envoy_listener_of, listener_broken, listener_of, listener_reading}
 use Rattle.ev_tree.specs.Floats.{whole}
 use Rattle.ev_whole_laws.proofs.Addresses.{address_broken-whole, address_text_of-whole, any_address_broken-whole, any_port_of-whole, any_text_of-whole, port_of-whole, socket_of-whole}
 use Rattle.ev_whole_laws.proofs.Texts.{body_text_of-whole}
@@ -22,8 +22,8 @@ use Rattle.ev_whole_laws.proofs.Filters.{chain_broken-whole, chain_serve-whole}
 use Rattle.ev_whole_laws.proofs.Forms.{enumeration_of-whole, object-is_absent, object-is_given, object-is_wrong, objects-is_wrong, text_of-whole}
 use Rattle.ev_whole_laws.proofs.Parts.{any_broken-whole, length-whole, map-whole}
 
-pub name_of-whole : (tree : Data) → name_of (whole tree) ≡ name_of tree
-unfolding name_of
+pub name_of-whole : (tree : Data) → listener_name (whole tree) ≡ listener_name tree
+unfolding listener_name
 name_of-whole tree = λ i. given_or [] (text_of-whole (codes "name") tree i)
 
 -- the protocol of the address

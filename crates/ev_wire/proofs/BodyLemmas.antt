@@ -26,10 +26,10 @@ use Rattle.ev_tree.specs.Rules.{judged, is_name}
 use Rattle.ev_tree.specs.declared.broken.BrokenRules.{BrokenRules}
 use Rattle.ev_tree.specs.Broken.{least_of}
 use Rattle.ev_tree.proofs.Unions.{least_none}
-use Rattle.ev_cluster_json.specs.Clusters.{cluster_reading, cluster_of, cluster_broken, own_broken as cluster_own_broken, name_of}
+use Rattle.ev_cluster_json.specs.Clusters.{cluster_reading, cluster_of, cluster_broken, cluster_own_broken, name_of}
 use Rattle.ev_cluster_json.specs.Assignments.{assignment_reading}
 use Rattle.ev_route_json.specs.Tables.{table_reading}
-use Rattle.ev_listener_json.specs.Listeners.{listener_reading, listener_of, listener_broken, own_listener_broken, envoy_parts_broken, envoy_listener_broken, name_of as listener_name}
+use Rattle.ev_listener_json.specs.Listeners.{listener_reading, listener_of, listener_broken, own_listener_broken, envoy_parts_broken, envoy_listener_broken, listener_name}
 use Rattle.ev_wire.specs.Bodies.{is_positive, is_heartbeat, is_of_type, breaks_v3, own_broken, differs, name_field, resource_of, body_of, body_with, content_of, content_with}
 
 -- no body is of no type

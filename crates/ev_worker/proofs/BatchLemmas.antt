@@ -17,7 +17,7 @@ use Rattle.ev_worker.specs.declared.lines.Closed.{Closed}
 use Rattle.ev_worker.specs.declared.lines.BatchLine.{BatchLine}
 use Rattle.ev_worker.specs.declared.lines.Outcome.TheVariants.{Accepted as accepted_outcome, Closed as closed_outcome}
 use Rattle.ev_worker.specs.Batches.{accept_line, accepted_answer, accepted_as, close_line, closed_answer, closed_as, entries_of, entry_of, outcome_answer}
-use Rattle.ev_worker.specs.Workers.{AreAnswered, HasWorker, IsAnswer, IsMadeFrom, SameOpen, StandsFor, WorkerParts}
+use Rattle.ev_worker.specs.Workers.{AreAnswered, HasWorker, IsAnswer, IsMadeFrom, IsWorkerIn, SameOpen, WorkerParts}
 use Rattle.ev_worker.proofs.OpenLemmas.{accept_answer, accepted_same, close_answer, closed_same, open_same}
 
 -- a batch without lines is made from what is open
@@ -25,7 +25,7 @@ pub begins : (worker : WorkerParts) → worker.lines ≡ [] → IsMadeFrom worke
 begins worker none = record {
   answers = λ format workers world below has. subst (λ lines. RunsFrom format workers world (entries_of worker.number worker.picture lines)) (sym none) tt;
   chosen = λ format world has. subst (λ lines. AreAnswered format worker.number world lines) (sym none) tt;
-  leads = λ format world has. subst (λ lines. StandsFor worker (world_after format world (entries_of worker.number worker.picture lines))) (sym none) has;
+  leads = λ format world has. subst (λ lines. IsWorkerIn worker (world_after format world (entries_of worker.number worker.picture lines))) (sym none) has;
 }
 
 -- one line more is answered where the lines before it lead
@@ -38,10 +38,10 @@ answered_more format worker picture world (first ∷ lines) line all last =
 -- one line more, after which these connections are open, is answered by the machine wherever the worker is before it
 record GoesOn (worker : WorkerParts) (opened : List OpenMember) (line : BatchLine) : Type 0 where
   may : (workers : ℕ) → worker.number < workers → MayMake workers (by_worker worker.number) line.event
-  answered : (format : Format) (world : World) → StandsFor worker world
+  answered : (format : Format) (world : World) → IsWorkerIn worker world
       → outcome_answer worker.picture line.outcome ≡ (step format world (by_worker worker.number) line.event).1
-  chosen : (world : World) → StandsFor worker world → IsAnswer worker.number world line.event line.outcome
-  leads : (format : Format) (world : World) → StandsFor worker world
+  chosen : (world : World) → IsWorkerIn worker world → IsAnswer worker.number world line.event line.outcome
+  leads : (format : Format) (world : World) → IsWorkerIn worker world
       → HasWorker worker.number worker.picture opened (step format world (by_worker worker.number) line.event).0
 
 -- the worker with one line more, and these connections open

@@ -11,7 +11,7 @@ use Rattle.ev_model.specs.Picture.{has_number}
 use Rattle.ev_model.specs.Dead.{last_picture, picture_at, picture_held}
 use Rattle.ev_model.specs.Connections.{closed_by, is_closing, is_member, left_open, member_on, settle}
 use Rattle.ev_model.specs.declared.pictures.Picture.{Picture}
-use Rattle.ev_worker.specs.Members.{members_of}
+use Rattle.ev_worker.specs.Members.{stored_members}
 use Rattle.ev_worker.specs.Workers.{HasWorker, IsToldBy, SameOpen, without_numbers}
 use Rattle.ev_worker.proofs.OpenLemmas.{filter_swap, numbered}
 
@@ -56,10 +56,10 @@ closed_has expired worker number xs =
 
 -- of a worker whose numbers are apart, a settle takes the same connections by number and by listener
 pub settle_takes : (worker : ℕ) (es : List (ℕ × (ℕ × Option ℕ))) (expired : List ℕ) (opened : List OpenMember) → IsDistinct nat_eq (keys_of es)
-    → SameOpen worker (members_of worker es) opened
-    → SameOpen worker (without_numbers (closed_by expired worker opened) (members_of worker es)) (left_open expired worker opened)
+    → SameOpen worker (stored_members worker es) opened
+    → SameOpen worker (without_numbers (closed_by expired worker opened) (stored_members worker es)) (left_open expired worker opened)
 settle_takes worker es expired opened apart same = λ n.
-    filter_swap (is_member worker n) (λ (m : OpenMember). not (has_number m.connection (closed_by expired worker opened))) (members_of worker es)
+    filter_swap (is_member worker n) (λ (m : OpenMember). not (has_number m.connection (closed_by expired worker opened))) (stored_members worker es)
     ∙ ap (filter (λ (m : OpenMember). not (has_number m.connection (closed_by expired worker opened)))) (numbered worker n es apart)
     ∙ by n (lookup (nat_eq n) es) (closed_has expired worker n opened ∙ ap (list_any (is_closing expired worker)) (sym (same n) ∙ numbered worker n es apart))
     ∙ sym (filter_swap (is_member worker n) (λ m. not (is_closing expired worker m)) opened ∙ ap (filter (λ m. not (is_closing expired worker m))) (sym (same n) ∙ numbered worker n es apart))
@@ -82,13 +82,13 @@ settled_holds worker world below = ap (picture_at world) (get_or-set_same world.
 
 -- what a worker that adopts stands for
 pub adopted : (number : ℕ) (picture old : Picture) (es : List (ℕ × (ℕ × Option ℕ))) (closed : List ℕ) (opened : List OpenMember) (world : World)
-    → IsDistinct nat_eq (keys_of es) → HasWorker number old (members_of number es) world → number < length world.held → IsToldBy number closed picture world
-    → SameOpen number opened (without_numbers closed (members_of number es))
+    → IsDistinct nat_eq (keys_of es) → HasWorker number old (stored_members number es) world → number < length world.held → IsToldBy number closed picture world
+    → SameOpen number opened (without_numbers closed (stored_members number es))
     → HasWorker number picture opened (settle number world).0
 adopted number picture old es closed opened world apart has below told left = record {
   holds = settled_holds number world below ∙ sym told.shows;
   has = λ n.
       left n
-      ∙ ap (λ numbers. filter (is_member number n) (without_numbers numbers (members_of number es))) told.closes
+      ∙ ap (λ numbers. filter (is_member number n) (without_numbers numbers (stored_members number es))) told.closes
       ∙ settle_takes number es world.expired world.opened apart has.has n;
 }

@@ -15,8 +15,8 @@ abbrev pub member_of : ℕ → ℕ × (ℕ × Option ℕ) → OpenMember
 member_of worker entry = member_on worker entry.0 entry.1.0 entry.1.1
 
 -- the entries as connections of this worker
-abbrev pub members_of : ℕ → List (ℕ × (ℕ × Option ℕ)) → List OpenMember
-members_of worker entries = map (member_of worker) entries
+abbrev pub stored_members : ℕ → List (ℕ × (ℕ × Option ℕ)) → List OpenMember
+stored_members worker entries = map (member_of worker) entries
 
 -- what a choice opens a connection on: nothing without a listener or a chain
 abbrev pub chosen_on : Choice → Option (ℕ × Option ℕ)

@@ -7,14 +7,14 @@ use Rattle.ev_types.specs.declared.events.Ask.{Ask}
 use Rattle.ev_types.specs.declared.journals.Format.{Format}
 use Rattle.ev_model.specs.World.{World, OpenMember}
 use Rattle.ev_model.specs.Dead.{last_picture, picture_held}
-use Rattle.ev_model.specs.Connections.{Worked, accepted as accepted_on, closed_by, is_member, is_open, settle}
+use Rattle.ev_model.specs.Connections.{Worked, accepted, closed_by, is_member, is_open, settle}
 use Rattle.ev_model.specs.Picture.{has_number}
 use Rattle.ev_model.specs.Step.{step}
 use Rattle.ev_model.specs.Runs.{RunsFrom, world_after}
 use Rattle.ev_model.specs.declared.pictures.Picture.{Picture}
 use Rattle.ev_worker.specs.declared.lines.BatchLine.{BatchLine}
 use Rattle.ev_worker.specs.declared.lines.Outcome.{Outcome}
-use Rattle.ev_worker.specs.declared.lines.Outcome.TheVariants.{Accepted as accepted, Closed as closed}
+use Rattle.ev_worker.specs.declared.lines.Outcome.TheVariants.{Accepted, Closed}
 use Rattle.ev_worker.specs.Batches.{accepted_as, closed_as, entries_of}
 
 -- a worker: its number, the picture that it serves from, its open connections, what it did since it settled, and how many more
@@ -40,14 +40,14 @@ pub record HasWorker (number : ℕ) (picture : Picture) (opened : List OpenMembe
   pub has : SameOpen number opened world.opened
 
 -- in this world the worker holds its picture, and has its connections open
-abbrev pub StandsFor : WorkerParts → World → Type 0
-StandsFor worker world = HasWorker worker.number worker.picture worker.opened world
+abbrev pub IsWorkerIn : WorkerParts → World → Type 0
+IsWorkerIn worker world = HasWorker worker.number worker.picture worker.opened world
 
 -- an event of a worker is answered as the machine answers it in this world, by the picture that the worker holds there, and by its
 -- connections that are open
 abbrev pub IsAnswer : ℕ → World → Event → Outcome → Type 0
-IsAnswer worker world (Accept ask) outcome = outcome ≡ accepted (accepted_as (picture_held world worker) ask (is_open world.opened worker ask.conn))
-IsAnswer worker world (Close connection) outcome = outcome ≡ closed (closed_as (is_open world.opened worker connection))
+IsAnswer worker world (Accept ask) outcome = outcome ≡ Accepted (accepted_as (picture_held world worker) ask (is_open world.opened worker ask.conn))
+IsAnswer worker world (Close connection) outcome = outcome ≡ Closed (closed_as (is_open world.opened worker connection))
 IsAnswer worker world event outcome = ⊥
 
 -- each of a worker's lines is answered so, one after another
@@ -68,7 +68,7 @@ pub record IsMadeFrom (begun : List OpenMember) (worker : WorkerParts) : Type 0 
       → AreAnswered format worker.number world worker.lines
   pub leads : (format : Format) (world : World)
       → HasWorker worker.number worker.picture begun world
-      → StandsFor worker (world_after format world (entries_of worker.number worker.picture worker.lines))
+      → IsWorkerIn worker (world_after format world (entries_of worker.number worker.picture worker.lines))
 
 -- the connections whose numbers aren't among these
 abbrev pub without_numbers : List ℕ → List OpenMember → List OpenMember
@@ -81,11 +81,11 @@ pub record IsToldBy (number : ℕ) (closed : List ℕ) (picture : Picture) (worl
 
 -- what an accept comes to in the machine: the answer, and the connections that are open then
 abbrev pub acceptance : Ask → WorkerParts → Worked
-acceptance ask worker = accepted_on worker.picture ask worker.number worker.opened
+acceptance ask worker = accepted worker.picture ask worker.number worker.opened
 
 -- Whatever world the first worker stands for, where these are the numbers of the connections that its settle closes there and this
 -- is the world's last picture, the second stands for the world that its settle leaves.
 abbrev pub SettlesBy : List ℕ → Picture → WorkerParts → WorkerParts → Type 0
 SettlesBy numbers picture before after =
-    (world : World) → StandsFor before world → before.number < length world.held → IsToldBy before.number numbers picture world
-    → StandsFor after (settle before.number world).0
+    (world : World) → IsWorkerIn before world → before.number < length world.held → IsToldBy before.number numbers picture world
+    → IsWorkerIn after (settle before.number world).0

@@ -29,12 +29,12 @@ pub struct Worker {
 impl Model for Worker {
     ghost use Rattle.std.specs.Arc.{arc_value};
     ghost use Rattle.indexmap.specs.IndexMap.{keys, spare};
-    ghost use Rattle.ev_worker.specs.Members.{IsStored, members_of};
+    ghost use Rattle.ev_worker.specs.Members.{IsStored, stored_members};
     ghost use Rattle.ev_worker.specs.Workers.{WorkerParts};
 
     ghost Value = { WorkerParts };
 
-    ghost view = { λ w. record { number = w.batch.worker; picture = arc_value w.snapshot; opened = members_of w.batch.worker w.members.entries; lines = w.batch.lines; spare = spare w.members } };
+    ghost view = { λ w. record { number = w.batch.worker; picture = arc_value w.snapshot; opened = stored_members w.batch.worker w.members.entries; lines = w.batch.lines; spare = spare w.members } };
 
     ghost invariant = { λ w. IsStored (spare w.members) w.batch.lines (keys w.members) };
 }

@@ -1,7 +1,7 @@
 use Rattle.std.proofs.Common.{map, subst}
 use Rattle.serde_json.specs.View.{view}
 use Rattle.ev_expand.specs.Expanding.{IsExpanded}
-use Rattle.ev_secrets.specs.Sealing.{tls_rules}
+use Rattle.ev_tls_secrets.specs.Sealing.{tls_rules}
 use Rattle.ev_tls.proofs.SealLemmas.{sealed_kept, sealed_sound, sealed_script}
 use Rattle.ev_tls.proofs.seal.Goals as goal
 

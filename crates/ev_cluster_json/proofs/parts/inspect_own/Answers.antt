@@ -6,7 +6,7 @@ use Rattle.ev_tree.specs.Rules.{is_name}
 use Rattle.ev_tree.specs.Spans.{is_not_positive}
 use Rattle.ev_tree.proofs.Outcomes.{or_same, and_same, not_same}
 use Rattle.ev_cluster_json.specs.declared.parts.TheConstants.{STATIC, EDS}
-use Rattle.ev_cluster_json.specs.Clusters.{name_of, type_of, is_checked, own_broken}
+use Rattle.ev_cluster_json.specs.Clusters.{name_of, type_of, is_checked, cluster_own_broken}
 use Rattle.ev_cluster_json.proofs.parts.inspect_own.Goals as goal
 
 pub returns-clause-name : goal.returns-clause-name
@@ -27,7 +27,7 @@ returns-clause-checked c =
     not_same (c.is_empty.ensures ∙ ap (λ n. nat_eq n 0) checks)
 
 pub returns-clause-broken : goal.returns-clause-broken
-unfolding name_of type_of own_broken
+unfolding name_of type_of cluster_own_broken
 returns-clause-broken c =
     let name = c.text_or_empty-name_text.ensures ∙ ap (given_or []) c.in_ok-name.ensures.value in
     let kind = c.given_or-number.ensures ∙ ap (given_or STATIC) c.in_ok-kind.ensures in

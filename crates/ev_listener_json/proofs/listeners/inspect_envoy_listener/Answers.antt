@@ -5,15 +5,15 @@ use Rattle.ev_tree.specs.Addresses.{port_unless}
 use Rattle.ev_tree.specs.Forms.{is_wrong, given_or, enumeration_of}
 use Rattle.ev_tree.specs.Rules.{is_name}
 use Rattle.ev_tree.proofs.Outcomes.{or_same, and_same, not_same}
-use Rattle.ev_listener_json.specs.Listeners.{name_of, is_udp, named_with, named_address, listening_text, listening_port, is_unusable, envoy_parts_broken}
+use Rattle.ev_listener_json.specs.Listeners.{listener_name, is_udp, named_with, named_address, listening_text, listening_port, is_unusable, envoy_parts_broken}
 use Rattle.ev_listener_json.proofs.listeners.inspect_envoy_listener.Goals as goal
 
 pub returns-clause-name : goal.returns-clause-name
-unfolding name_of
+unfolding listener_name
 returns-clause-name c = c.text_or_empty-text.ensures ∙ ap (given_or []) c.in_ok-name.ensures.value
 
 pub returns-clause-address : goal.returns-clause-address
-unfolding name_of named_address listening_text
+unfolding listener_name named_address listening_text
 returns-clause-address c =
     let text = c.text_or_empty-text.ensures ∙ ap (given_or []) c.in_ok-name.ensures.value in
     let by_name = c.is_absent-by_name.ensures ∙ c.in_ok-outer.ensures.absent in
@@ -27,7 +27,7 @@ returns-clause-port c =
     c.port_unless.ensures ∙ (λ i. port_unless (by_name i) (c.in_ok-address.ensures.port i))
 
 pub returns-clause-broken : goal.returns-clause-broken
-unfolding name_of named_address listening_text envoy_parts_broken
+unfolding listener_name named_address listening_text envoy_parts_broken
 returns-clause-broken c =
     let text = c.text_or_empty-text.ensures ∙ ap (given_or []) c.in_ok-name.ensures.value in
     let by_name = c.is_absent-by_name.ensures ∙ c.in_ok-outer.ensures.absent in

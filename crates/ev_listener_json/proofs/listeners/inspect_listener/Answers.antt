@@ -11,11 +11,11 @@ use Rattle.ev_tree.proofs.Outcomes.{or_same, and_same, not_same}
 use Rattle.ev_listener_json.specs.Parts.{first_of}
 use Rattle.ev_listener_json.specs.Filters.{chain_serve, chain_broken}
 use Rattle.ev_listener_json.specs.Chains.{chains_of}
-use Rattle.ev_listener_json.specs.Listeners.{name_of, serve_of, is_udp, own_listener_broken}
+use Rattle.ev_listener_json.specs.Listeners.{listener_name, serve_of, is_udp, own_listener_broken}
 use Rattle.ev_listener_json.proofs.listeners.inspect_listener.Goals as goal
 
 pub returns-clause-broken : goal.returns-clause-broken
-unfolding name_of chains_of own_listener_broken
+unfolding listener_name chains_of own_listener_broken
 returns-clause-broken c =
     let text = c.text_or_empty-text.ensures ∙ ap (given_or []) c.in_ok-name.ensures.value in
     let protocol = c.in_ok-protocol.ensures ∙ ap (enumeration_of (codes "protocol") Protocol) c.in_ok-address.ensures.socket in
@@ -42,5 +42,5 @@ returns-clause-serve c =
     c.in_ok-serve_or_none.ensures ∙ ap (λ s. unwrap_or s (Inline (record { hosts = [] }))) (c.in_ok-below.ensures.value ∙ ap (λ ts. first_of (map chain_serve ts)) chains)
 
 pub returns-clause-name : goal.returns-clause-name
-unfolding name_of
+unfolding listener_name
 returns-clause-name c = c.text_or_empty-text.ensures ∙ ap (given_or []) c.in_ok-name.ensures.value

@@ -1,6 +1,6 @@
 use Rattle.std.proofs.Common.{List, drop}
 use Rattle.ev_model.specs.World.{OpenMember}
-use Rattle.ev_ledger.specs.Members.{StandsFor as HasOpened}
+use Rattle.ev_ledger.specs.Members.{HasOpened}
 use Rattle.ev_retirement.specs.Asking.{LetsGo}
 use Rattle.ev_retirement.specs.Closing.{AreFound}
 use Rattle.ev_retirement.proofs.LineLemmas.{Leads}

@@ -3,7 +3,7 @@ use Rattle.std.specs.Str.{bytes_eq}
 use Rattle.ev_model.specs.Rows.{new_row}
 use Rattle.ev_model.specs.Watching.{dependencies_of}
 use Rattle.ev_indexes.specs.Addresses.{listens_at, numbers_at}
-use Rattle.ev_indexes.specs.Due.{is_among}
+use Rattle.ev_indexes.specs.Due.{is_one_of}
 use Rattle.ev_indexes.specs.Ready.{is_due_at}
 use Rattle.ev_indexes.specs.Standings.{standing_in}
 use Rattle.ev_indexes.specs.Watched.{watch_in, watched_for}
@@ -27,4 +27,4 @@ returns-clause-indexed g c =
     c.hold.new.self
     (λ a. c.in_ok-hold.ensures a ∙ (λ i. numbers_at s.addresses a ++ cond (listens_at a content) (number i ∷ []) []))
     c.refresh.new.due
-    (λ n. c.in_ok-refresh.ensures.due n ∙ (λ i. cond (is_among (number i ∷ []) n) (is_due_at c.watch.new.watches s.results n c.add.new.self.rows) (is_among s.due n)))
+    (λ n. c.in_ok-refresh.ensures.due n ∙ (λ i. cond (is_one_of (number i ∷ []) n) (is_due_at c.watch.new.watches s.results n c.add.new.self.rows) (is_one_of s.due n)))

@@ -2,7 +2,7 @@ use Rattle.std.proofs.Common.{◌≡◌, ◌∙◌, ◌||◌, ◌++◌, ℕ, Boo
 use Rattle.std.proofs.lemmas.List.Folds.{list_any-append}
 use Rattle.std.specs.Prelude.{nat_eq}
 use Rattle.std.specs.Str.{bytes_eq}
-use Rattle.ev_indexes.specs.Due.{is_among}
+use Rattle.ev_indexes.specs.Due.{is_one_of}
 use Rattle.ev_indexes.specs.Indexes.{numbers_waiting}
 use Rattle.ev_indexes.specs.Ready.{is_due_at}
 use Rattle.ev_indexes.specs.Watched.{watch_in, watchers_of, unwatched, with_arrival}
@@ -15,8 +15,8 @@ pub tell-requires : goal.tell-requires
 tell-requires g c = watched-some c.args.state.now c.args.name.now c.requires.indexed c.requires.watched
 
 -- to look at some and then at others is to look at all of them
-both-looked : (a b : List ℕ) (n : ℕ) (due was : Bool) → cond (is_among b n) due (cond (is_among a n) due was) ≡ cond (is_among (a ++ b) n) due was
-both-looked a b n due was = by (is_among a n) (is_among b n) ∙ (λ i. cond (sym (list_any-append (nat_eq n) a b) i) due was)
+both-looked : (a b : List ℕ) (n : ℕ) (due was : Bool) → cond (is_one_of b n) due (cond (is_one_of a n) due was) ≡ cond (is_one_of (a ++ b) n) due was
+both-looked a b n due was = by (is_one_of a n) (is_one_of b n) ∙ (λ i. cond (sym (list_any-append (nat_eq n) a b) i) due was)
   where
     by : (x y : Bool) → cond y due (cond x due was) ≡ cond (x || y) due was
     by true true = refl
@@ -32,10 +32,10 @@ returns-clause-indexed g c =
     indexed-arrived s c.args.name.now c.args.made c.args.arrival.now watches c.requires.indexed c.in_ok-tell.ensures c.refresh-2.new.due
     (λ n.
     c.in_ok-refresh-2.ensures.due n
-    ∙ (λ i. cond (is_among (c.as_slice-2.ensures.elements i) n) (is_due_at watches s.results n s.table.rows) (c.in_ok-refresh.ensures.due n i))
-    ∙ (λ i. cond (is_among watch.limited n) (is_due_at watches s.results n s.table.rows) (cond (is_among (c.as_slice.ensures.elements i) n) (is_due_at watches s.results n s.table.rows) (is_among s.due n)))
-    ∙ both-looked watch.unlimited watch.limited n (is_due_at watches s.results n s.table.rows) (is_among s.due n)
-    ∙ (λ i. cond (is_among (watchers_of (sym found i)) n) (is_due_at watches s.results n s.table.rows) (is_among s.due n)))
+    ∙ (λ i. cond (is_one_of (c.as_slice-2.ensures.elements i) n) (is_due_at watches s.results n s.table.rows) (c.in_ok-refresh.ensures.due n i))
+    ∙ (λ i. cond (is_one_of watch.limited n) (is_due_at watches s.results n s.table.rows) (cond (is_one_of (c.as_slice.ensures.elements i) n) (is_due_at watches s.results n s.table.rows) (is_one_of s.due n)))
+    ∙ both-looked watch.unlimited watch.limited n (is_due_at watches s.results n s.table.rows) (is_one_of s.due n)
+    ∙ (λ i. cond (is_one_of (watchers_of (sym found i)) n) (is_due_at watches s.results n s.table.rows) (is_one_of s.due n)))
 
 pub returns-clause-steps : goal.returns-clause-steps
 returns-clause-steps g c =

@@ -3,7 +3,7 @@ use Rattle.std.proofs.Math.Bool.{or-false}
 use Rattle.ev_types.specs.declared.rows.RowStatus.TheVariants.{Active}
 use Rattle.ev_model.specs.Rows.{with_statuses}
 use Rattle.ev_generations.specs.Tables.{row_in, with_status}
-use Rattle.ev_indexes.specs.Due.{is_among}
+use Rattle.ev_indexes.specs.Due.{is_one_of}
 use Rattle.ev_indexes.specs.Standings.{standing_in}
 use Rattle.ev_indexes.specs.Ready.{is_ready_in, is_due_found}
 use Rattle.ev_indexes.specs.Indexes.{name_in}
@@ -32,13 +32,13 @@ loop-number-preserved g c =
       kind = (λ j. (e.others j).kind) ∙ i.kind;
       results = (λ j. (e.others j).results) ∙ i.results;
       served = λ n.
-          (λ j. is_among (c.in_ok-push.ensures.ok j) n || is_among t.due n)
+          (λ j. is_one_of (c.in_ok-push.ensures.ok j) n || is_one_of t.due n)
           ∙ served-more c.loop-number.served s.due t.due c.in-Some.number n c.in-Some.ensures.some (e.due n) ∙ i.served n;
       drained = λ n.
           let due : is_due_found s.watches s.results (row_in c.in-Some.number s.table.rows) ≡ true = sym (i.indexed.due c.in-Some.number) ∙ c.in-Some.ensures.some in
           let own = due-found s.watches s.results (row_in c.in-Some.number s.table.rows) due in
           let all = rows_promoted (is_ready_in s0.watches s0.results) s0.table.rows in
-          (λ j. is_among (c.in_ok-put_one.ensures j) n || began_to_drain n t.table.rows all)
+          (λ j. is_one_of (c.in_ok-put_one.ensures j) n || began_to_drain n t.table.rows all)
           ∙ drained-more c.loop-number.drained c.promote_one-before.result n (began_to_drain n t.table.rows all) (began_to_drain n s.table.rows all) (began_to_drain n s0.table.rows all)
           (drained-one (is_ready_in s0.watches s0.results) s.table.rows t.table.rows all c.in-Some.number own.0 c.promote_one-before.result
           i.indexed.table.apart own.1 own.2 ((λ j. sym same j own.0) ∙ own.3)
@@ -66,7 +66,7 @@ returns-clause-began g c =
     let s = c.loop-number.state in
     let none : s.due ≡ [] = subst (λ o. IfNone o (s.due ≡ [])) c.in_default.is c.first.ensures.none in
     λ n.
-    sym ((λ j. is_among c.loop-number.served n || is_among (none j) n) ∙ or-false (is_among c.loop-number.served n)) ∙ i.served n ∙ c.requires.indexed.due n
+    sym ((λ j. is_one_of c.loop-number.served n || is_one_of (none j) n) ∙ or-false (is_one_of c.loop-number.served n)) ∙ i.served n ∙ c.requires.indexed.due n
     ∙ due-began s0.watches s0.results s0.table.rows s.table.rows (returns-clause-rows g c) n
 
 pub returns-clause-drained : goal.returns-clause-drained
@@ -80,7 +80,7 @@ returns-clause-drained g c =
     let all = rows_promoted (is_ready_in s0.watches s0.results) s0.table.rows in
     let done : s.table.rows ≡ all = sym (promoted-done s i.indexed none) ∙ (λ j. rows_promoted (same j) s.table.rows) ∙ i.rows in
     λ n.
-    sym ((λ j. is_among c.loop-number.drained n || ((λ k. began_to_drain n s.table.rows (sym done k)) ∙ drained-done n s.table.rows) j) ∙ or-false (is_among c.loop-number.drained n)) ∙ i.drained n
+    sym ((λ j. is_one_of c.loop-number.drained n || ((λ k. began_to_drain n s.table.rows (sym done k)) ∙ drained-done n s.table.rows) j) ∙ or-false (is_one_of c.loop-number.drained n)) ∙ i.drained n
     ∙ (λ j. began_to_drain n s0.table.rows (sym done j))
 
 pub returns-clause-stands : goal.returns-clause-stands

@@ -1,5 +1,5 @@
 use Rattle.std.proofs.Common.{◌≡◌, ◌+◌, ◌*◌, ◌≤◌, ◌||◌, ℕ, length}
-use Rattle.ev_indexes.specs.Due.{is_among}
+use Rattle.ev_indexes.specs.Due.{is_one_of}
 use Rattle.ev_indexes.specs.Ready.{is_ready_in}
 use Rattle.ev_indexes.specs.Indexes.{IsIndexed, SameMarks}
 use Rattle.ev_warming.specs.Promotion.{rows_promoted}
@@ -15,8 +15,8 @@ invariant-loop-number g l = record {
   marks : SameMarks l.initial.state.watches l.state.watches;
   kind : l.state.kind ≡ l.initial.state.kind;
   results : l.state.results ≡ l.initial.state.results;
-  served : (n : ℕ) → (is_among l.served n || is_among l.state.due n) ≡ is_among l.initial.state.due n;
-  drained : (n : ℕ) → (is_among l.drained n || began_to_drain n l.state.table.rows (rows_promoted (is_ready_in l.initial.state.watches l.initial.state.results) l.initial.state.table.rows))
+  served : (n : ℕ) → (is_one_of l.served n || is_one_of l.state.due n) ≡ is_one_of l.initial.state.due n;
+  drained : (n : ℕ) → (is_one_of l.drained n || began_to_drain n l.state.table.rows (rows_promoted (is_ready_in l.initial.state.watches l.initial.state.results) l.initial.state.table.rows))
       ≡ began_to_drain n l.initial.state.table.rows (rows_promoted (is_ready_in l.initial.state.watches l.initial.state.results) l.initial.state.table.rows);
   steps : l.steps ≤ l.initial.steps + 3 * length l.served;
 }

@@ -4,9 +4,9 @@ use Rattle.ev_model.specs.Tidy.{without_unwatched, without_old_results}
 use Rattle.ev_endpoints.specs.Results.{result_in}
 use Rattle.ev_generations.specs.Tables.{row_in}
 use Rattle.ev_indexes.specs.declared.state.State.{State}
-use Rattle.ev_indexes.specs.Due.{is_among}
+use Rattle.ev_indexes.specs.Due.{is_one_of}
 use Rattle.ev_indexes.specs.Watched.{unwatched, watch_in}
-use Rattle.ev_indexes.specs.Worlds.{StandsFor}
+use Rattle.ev_indexes.specs.Worlds.{HasRows}
 use Rattle.ev_indexes.specs.Needs.{is_needed}
 use Rattle.ev_warming.specs.Forgetting.{needs_in, is_need_of, is_idle, loses_result, IsTidyBut}
 use Rattle.ev_warming.proofs.ForgettingLemmas.{watch-more, result-more, tidy-forgot}
@@ -41,7 +41,7 @@ returns-clause-tidy g c =
     (tidy-forgot s0 c.args.stale.now c.requires.tidy s.watches
     (λ q. i.watches q ∙ (λ j. cond (is_need_of s0.table.rows (all j) q && is_idle s0.table.rows q) unwatched (watch_in s0.watches q)))
     s.results
-    (λ n h. i.results n h ∙ (λ j. cond (is_among (all j) n && loses_result s0.watches h (row_in n s0.table.rows)) None (result_in s0.results n h))))
+    (λ n h. i.results n h ∙ (λ j. cond (is_one_of (all j) n && loses_result s0.watches h (row_in n s0.table.rows)) None (result_in s0.results n h))))
 
 pub returns-clause-stands : goal.returns-clause-stands
 returns-clause-stands g c =
@@ -50,9 +50,9 @@ returns-clause-stands g c =
     let s = c.loop-number.state in
     let all : _ ≡ c.args.stale.now = take_all c.loop-number.number-index c.args.stale.now c.loop-number-test.false in
     λ world stands.
-    subst (λ (u : State). StandsFor u (without_old_results (without_unwatched world))) (sym i.others)
+    subst (λ (u : State). HasRows u (without_old_results (without_unwatched world))) (sym i.others)
     (forgot-stands s0 c.args.stale.now c.requires.tidy s.watches
     (λ q. i.watches q ∙ (λ j. cond (is_need_of s0.table.rows (all j) q && is_idle s0.table.rows q) unwatched (watch_in s0.watches q)))
     s.results
-    (λ n h. i.results n h ∙ (λ j. cond (is_among (all j) n && loses_result s0.watches h (row_in n s0.table.rows)) None (result_in s0.results n h)))
+    (λ n h. i.results n h ∙ (λ j. cond (is_one_of (all j) n && loses_result s0.watches h (row_in n s0.table.rows)) None (result_in s0.results n h)))
     world stands c.requires.rows)

@@ -2,7 +2,7 @@ use Rattle.std.proofs.Common.{◌≡◌, ◌+◌, ◌&&◌, ℕ, List, None, con
 use Rattle.ev_types.specs.declared.hosts.Host.{Host}
 use Rattle.ev_endpoints.specs.Results.{result_in}
 use Rattle.ev_generations.specs.Tables.{row_in}
-use Rattle.ev_indexes.specs.Due.{is_among}
+use Rattle.ev_indexes.specs.Due.{is_one_of}
 use Rattle.ev_indexes.specs.Watched.{unwatched, watch_in}
 use Rattle.ev_indexes.specs.Indexes.{IsIndexed}
 use Rattle.ev_warming.specs.Forgetting.{is_need_of, is_idle, loses_result}
@@ -15,6 +15,6 @@ invariant-loop-number g l = record {
   watches : (q : List ℕ) → watch_in l.state.watches q
       ≡ cond (is_need_of l.initial.state.table.rows (take l.number-index l.stale) q && is_idle l.initial.state.table.rows q) unwatched (watch_in l.initial.state.watches q);
   results : (n : ℕ) (h : Host) → result_in l.state.results n h
-      ≡ cond (is_among (take l.number-index l.stale) n && loses_result l.initial.state.watches h (row_in n l.initial.state.table.rows)) None (result_in l.initial.state.results n h);
+      ≡ cond (is_one_of (take l.number-index l.stale) n && loses_result l.initial.state.watches h (row_in n l.initial.state.table.rows)) None (result_in l.initial.state.results n h);
   steps : l.steps ≡ l.initial.steps + l.number-index;
 }

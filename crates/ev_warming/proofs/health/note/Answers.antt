@@ -4,7 +4,7 @@ use Rattle.ev_indexes.specs.declared.state.State.{State}
 use Rattle.ev_warming.specs.Forgetting.{IsTidyBut}
 use Rattle.ev_warming.specs.Health.{takes_at, NotesEach}
 use Rattle.ev_indexes.specs.Standings.{standing_in}
-use Rattle.ev_indexes.specs.Worlds.{StandsFor}
+use Rattle.ev_indexes.specs.Worlds.{HasRows}
 use Rattle.ev_warming.proofs.HealthLemmas.{any-meant, notes-both, any_meant-same, noted-stands, noted-tidy}
 use Rattle.ev_warming.proofs.health.note.Goals as goal
 
@@ -38,7 +38,7 @@ returns-then-served-clause-stands g c = λ cds world stands.
     let o = c.in_ok-served.ensures.others in
     let u = c.note_at-2.new.state in
     let whole : u ≡ record s { results = u.results; due = u.due } = c.in_ok-warmed.ensures.others ∙ (λ i. record (o i) { results = u.results; due = u.due }) in
-    subst (λ (v : State). StandsFor v (with_results c.args.host.now c.args.healthy (rows_meant world.arrivals c.args.name.now c.args.host.now world.rows) world)) (sym whole)
+    subst (λ (v : State). HasRows v (with_results c.args.host.now c.args.healthy (rows_meant world.arrivals c.args.name.now c.args.host.now world.rows) world)) (sym whole)
     (noted-stands s world stands c.requires.indexed cds c.args.name.now c.args.host.now c.args.healthy u.results u.due (returns-then-served-clause-results g c))
 
 pub returns-then-served-clause-ignored : goal.returns-then-served-clause-ignored
@@ -75,7 +75,7 @@ returns-else-served-clause-stands g c = λ cds world stands.
     let o = c.in_ok-served.ensures.others in
     let u = c.note_at-2.new.state in
     let whole : u ≡ record s { results = u.results; due = u.due } = c.in_ok-warmed.ensures.others ∙ (λ i. record (o i) { results = u.results; due = u.due }) in
-    subst (λ (v : State). StandsFor v (with_results c.args.host.now c.args.healthy (rows_meant world.arrivals c.args.name.now c.args.host.now world.rows) world)) (sym whole)
+    subst (λ (v : State). HasRows v (with_results c.args.host.now c.args.healthy (rows_meant world.arrivals c.args.name.now c.args.host.now world.rows) world)) (sym whole)
     (noted-stands s world stands c.requires.indexed cds c.args.name.now c.args.host.now c.args.healthy u.results u.due (returns-else-served-clause-results g c))
 
 pub returns-else-served-clause-ignored : goal.returns-else-served-clause-ignored

@@ -7,7 +7,7 @@ use Rattle.ev_types.specs.Hosts.{HostRowParts}
 use Rattle.ev_expand.specs.Guarding.{Guarded}
 use Rattle.ev_expand.specs.Numbers.{guarded_so_far}
 use Rattle.ev_dns.specs.Known.{Enters, has_row}
-use Rattle.ev_dns.specs.Templates.{rows_of}
+use Rattle.ev_dns.specs.Templates.{template_rows}
 use Rattle.ev_dns.specs.Waiting.{HavePassed}
 use Rattle.ev_dns.proofs.WaitingLemmas.{at_get, passed_set, advances_waiting, advances_finished}
 use Rattle.ev_dns.proofs.waiting.Waiting.advance.Goals as goal
@@ -16,9 +16,9 @@ pub returns-in-Some-get-clause-passed : goal.returns-in-Some-get-clause-passed
 returns-in-Some-get-clause-passed c = λ had.
     let g : Guarded = record { key = c.in-Some.key.now; own = view c.in-Some.field-0-1.now } in
     let at : slice_get (guarded_so_far c.args.numbers.now) c.args.place ≡ Some g = sym c.in-Some.ensures in
-    let rows : c.rows_of-rows.result.now ≡ rows_of g.key = c.rows_of-rows.ensures in
+    let rows : c.rows_of-rows.result.now ≡ template_rows g.key = c.rows_of-rows.ensures in
     let from : c.passed_at.result ≡ get_or c.args.self.now.passed.items c.args.place 0 = c.passed_at.ensures ∙ ap (λ (xs : List ℕ). get_or xs c.args.place 0) c.as_slice.ensures.value in
-    let passes : list_all (has_row c.args.answers.now) (take c.first_unanswered-count.result (rows_of g.key)) ≡ true =
+    let passes : list_all (has_row c.args.answers.now) (take c.first_unanswered-count.result (template_rows g.key)) ≡ true =
     ap (λ (rs : List HostRowParts). list_all (has_row c.args.answers.now) (take c.first_unanswered-count.result rs)) (sym rows)
     ∙ c.first_unanswered-count.ensures.passed ((λ i. list_all (has_row c.args.answers.now) (take (from i) (rows i))) ∙ had c.args.place g at) in
     on_ok_weaker c.put.result
@@ -30,7 +30,7 @@ pub returns-in-Some-get-clause-advances : goal.returns-in-Some-get-clause-advanc
 returns-in-Some-get-clause-advances c = λ had.
     let g : Guarded = record { key = c.in-Some.key.now; own = view c.in-Some.field-0-1.now } in
     let at : slice_get (guarded_so_far c.args.numbers.now) c.args.place ≡ Some g = sym c.in-Some.ensures in
-    let rows : c.rows_of-rows.result.now ≡ rows_of g.key = c.rows_of-rows.ensures in
+    let rows : c.rows_of-rows.result.now ≡ template_rows g.key = c.rows_of-rows.ensures in
     let there : slice_get c.rows_of-rows.result.now c.first_unanswered-count.result ≡ Some c.in-Some-get.row.now =
     at_get c.rows_of-rows.result.now c.first_unanswered-count.result c.in-Some-get.row.now c.in-Some-get.ensures.lookup.3.0 c.in-Some-get.ensures.lookup.1 in
     let lacks : has_row c.args.answers.now c.in-Some-get.row.now ≡ false =
@@ -45,12 +45,12 @@ pub returns-in-None-clause-advances : goal.returns-in-None-clause-advances
 returns-in-None-clause-advances c = λ had.
     let g : Guarded = record { key = c.in-Some.key.now; own = view c.in-Some.field-0-1.now } in
     let at : slice_get (guarded_so_far c.args.numbers.now) c.args.place ≡ Some g = sym c.in-Some.ensures in
-    let rows : c.rows_of-rows.result.now ≡ rows_of g.key = c.rows_of-rows.ensures in
+    let rows : c.rows_of-rows.result.now ≡ template_rows g.key = c.rows_of-rows.ensures in
     let from : c.passed_at.result ≡ get_or c.args.self.now.passed.items c.args.place 0 = c.passed_at.ensures ∙ ap (λ (xs : List ℕ). get_or xs c.args.place 0) c.as_slice.ensures.value in
-    let passes : list_all (has_row c.args.answers.now) (take c.first_unanswered-count.result (rows_of g.key)) ≡ true =
+    let passes : list_all (has_row c.args.answers.now) (take c.first_unanswered-count.result (template_rows g.key)) ≡ true =
     ap (λ (rs : List HostRowParts). list_all (has_row c.args.answers.now) (take c.first_unanswered-count.result rs)) (sym rows)
     ∙ c.first_unanswered-count.ensures.passed ((λ i. list_all (has_row c.args.answers.now) (take (from i) (rows i))) ∙ had c.args.place g at) in
-    let past : length (rows_of g.key) ≤ c.first_unanswered-count.result =
+    let past : length (template_rows g.key) ≤ c.first_unanswered-count.result =
     subst (λ (rs : List HostRowParts). length rs ≤ c.first_unanswered-count.result) rows c.in-None.ensures.lookup.3 in
     on_ok_weaker c.push_place.result
     (advances_finished c.args.answers.now (guarded_so_far c.args.numbers.now) c.args.place c.first_unanswered-count.result g c.args.self.now.under c.args.finished.now.items c.push_place.new.places.items at past passes)

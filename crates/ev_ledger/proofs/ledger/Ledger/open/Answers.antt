@@ -4,7 +4,7 @@ use Rattle.std.specs.Map.{lookup, values_of}
 use Rattle.std.specs.List.{sum_by}
 use Rattle.ev_model.specs.Sorted.{put_by}
 use Rattle.ev_model.specs.Connections.{is_open, member_on}
-use Rattle.ev_ledger.specs.Members.{comes_before}
+use Rattle.ev_ledger.specs.Members.{member_before}
 use Rattle.ev_ledger.specs.Entries.{AreIndexed, members_of, weight}
 use Rattle.ev_ledger.proofs.EntryLemmas.{found_open, put_members, sum_put, sum_few}
 use Rattle.ev_ledger.proofs.IndexLemmas.{entered, entered_left, none_there}
@@ -38,7 +38,7 @@ opened c =
     let none = found_open c.args.worker c.args.conn c.self.inside.members.entries ∙ ap (λ ms. is_open ms c.args.worker c.args.conn) c.self.view_is ∙ c.requires.apart in
     ap members_of c.in-Ok-put.ensures.entries
     ∙ put_members (c.args.worker, c.args.conn) (c.args.listener, c.args.cluster) c.self.inside.members.entries none
-    ∙ ap (put_by comes_before (member_on c.args.worker c.args.conn c.args.listener c.args.cluster)) c.self.view_is
+    ∙ ap (put_by member_before (member_on c.args.worker c.args.conn c.args.listener c.args.cluster)) c.self.view_is
 
 pub returns-clause-opened : goal.returns-clause-opened
 returns-clause-opened c = opened c

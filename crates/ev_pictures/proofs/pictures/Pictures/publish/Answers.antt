@@ -3,7 +3,7 @@ use Rattle.std.specs.Arc.{arc_value}
 use Rattle.std.specs.Option.{option_map}
 use Rattle.ev_model.specs.declared.pictures.Picture.{Picture}
 use Rattle.ev_snapshot.specs.Changes.{next_picture}
-use Rattle.ev_pictures.specs.Pictures.{PicturesParts, StandsFor, next_version, shown_after, with_shown}
+use Rattle.ev_pictures.specs.Pictures.{HasPictures, PicturesParts, next_version, shown_after, with_shown}
 use Rattle.ev_pictures.proofs.UseLemmas.{IsNext, is_next, none_later}
 use Rattle.ev_pictures.proofs.WorldLemmas.{published_stands}
 use Rattle.ev_pictures.proofs.pictures.Pictures.publish.Goals as goal
@@ -22,7 +22,7 @@ returns-clause-world c world stands is =
     let before : PicturesParts = record { last = last; held = map arc_value c.self.inside.held.items } in
     let made : IsNext c.args.changes.now last next = is_next c.args.changes.now last next (sym c.in-Ok.ensures.picture ∙ ap (option_map arc_value) c.in-Some.is) in
     published_stands (shown_after c.args.changes.now before) next before world made.other made.is
-    (subst (λ (v : PicturesParts). StandsFor v world) (sym c.self.view_is) stands)
+    (subst (λ (v : PicturesParts). HasPictures v world) (sym c.self.view_is) stands)
     (ap (shown_after c.args.changes.now) c.self.view_is ∙ is)
 
 pub returns-clause-version : goal.returns-clause-version

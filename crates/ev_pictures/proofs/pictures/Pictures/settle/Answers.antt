@@ -3,7 +3,7 @@ use Rattle.std.specs.Arc.{arc_value}
 use Rattle.std.specs.List.{AllByRecursion}
 use Rattle.std.proofs.lemmas.List.{map-set}
 use Rattle.ev_model.specs.declared.pictures.Picture.{Picture}
-use Rattle.ev_pictures.specs.Pictures.{IsUpTo, PicturesParts, StandsFor, settled_on}
+use Rattle.ev_pictures.specs.Pictures.{HasPictures, IsUpTo, PicturesParts, settled_on}
 use Rattle.ev_pictures.proofs.UseLemmas.{all_set, is_itself}
 use Rattle.ev_pictures.proofs.WorldLemmas.{settle_stands}
 use Rattle.ev_pictures.proofs.pictures.Pictures.settle.Goals as goal
@@ -19,7 +19,7 @@ returns-clause-settled c = settled c
 
 pub returns-clause-world : goal.returns-clause-world
 returns-clause-world c world stands =
-    subst (λ p. StandsFor p (settled_on c.args.worker world)) (sym (settled c)) (settle_stands c.args.worker c.args.self.now world stands)
+    subst (λ p. HasPictures p (settled_on c.args.worker world)) (sym (settled c)) (settle_stands c.args.worker c.args.self.now world stands)
 
 pub invariant_of-self : goal.invariant_of-self
 invariant_of-self c =

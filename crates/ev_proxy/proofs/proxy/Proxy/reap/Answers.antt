@@ -1,7 +1,7 @@
 use Rattle.std.proofs.Common.{◌≡◌, ℕ, List, [], ◌++◌, sym, ap, subst, ◌∙◌}
 use Rattle.ev_model.specs.Publishing.{dead_numbers, without_dead}
 use Rattle.ev_state.proofs.FrameLemmas.{at-frame}
-use Rattle.ev_retirement.specs.Holders.{HoldersParts, StandsFor as HoldsFor}
+use Rattle.ev_retirement.specs.Holders.{HoldersParts, HoldsFor}
 use Rattle.ev_proxy.specs.Proxies.{AreRowsOf, rows_gone, without_each}
 use Rattle.ev_proxy.proofs.NotingLemmas.{at-numbered}
 use Rattle.ev_proxy.proofs.ReapedLemmas.{dead_rows}

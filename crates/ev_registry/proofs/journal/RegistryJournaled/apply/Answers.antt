@@ -3,7 +3,7 @@ use Rattle.std.specs.Arc.{arc_value}
 use Rattle.ev_types.specs.Scripts.{items_in}
 use Rattle.ev_types.specs.declared.events.Entry.{Entry}
 use Rattle.ev_model.specs.World.{World}
-use Rattle.ev_model.specs.Step.{step as machine_step}
+use Rattle.ev_model.specs.Step.{step}
 use Rattle.ev_actors.specs.Journals.{JournalParts, world_now}
 use Rattle.ev_proxy.specs.Proxies.{IsAt}
 use Rattle.ev_proxy.specs.declared.proxy.Proxy.{Proxy}
@@ -14,7 +14,7 @@ pub invariant_of-self-2 : goal.invariant_of-self-2
 invariant_of-self-2 c =
     let parts : JournalParts = record { format = c.self.inside.format; workers = c.self.inside.workers; node = c.self.inside.node; journal = c.self.inside.journal.items } in
     let given : JournalParts = record { format = c.self.inside.format; workers = c.self.inside.workers; node = c.self.inside.node; journal = c.as_slice.result.now } in
-    let there : World = (machine_step given.format (world_now given) c.args.actor c.args.event.now).0 in
+    let there : World = (step given.format (world_now given) c.args.actor c.args.event.now).0 in
     let proxy : Proxy = record c.step_after.new.proxy { deferred = c.enter.new.reaped } in
     let led : IsAt proxy there = at_but c.step_after.new.proxy c.enter.new.reaped there c.in_ok-answer.ensures.at in
     enters (arc_value c.in_ok-latest.latest) proxy parts c.args.self.now.journaled given c.enter.new.journal.items c.in_ok-entry.entry c.args.actor c.args.at c.args.step c.args.event.now c.in_ok-answer.answer

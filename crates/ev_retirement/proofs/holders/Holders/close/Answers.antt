@@ -1,18 +1,18 @@
 use Rattle.std.proofs.Common.{sym, ap, ◌∙◌, subst}
 use Rattle.ev_worker.specs.Batches.{closed_answer, closed_as}
-use Rattle.ev_retirement.specs.Holders.{HoldersParts, StandsFor}
+use Rattle.ev_retirement.specs.Holders.{HoldersParts, HoldsFor}
 use Rattle.ev_retirement.proofs.AskLemmas.{go_kept}
 use Rattle.ev_retirement.proofs.LineLemmas.{close_answers, close_stands}
 use Rattle.ev_retirement.proofs.holders.Holders.close.Goals as goal
 
 pub returns-clause-answer : goal.returns-clause-answer
 returns-clause-answer c world stands =
-    let here : StandsFor _ world = subst (λ (v : HoldersParts). StandsFor v world) (sym c.self.view_is) stands in
+    let here : HoldsFor _ world = subst (λ (v : HoldersParts). HoldsFor v world) (sym c.self.view_is) stands in
     c.close_answer.ensures ∙ ap (λ t. closed_answer (closed_as t)) (c.in-Ok.ensures.answer world.opened here.opened) ∙ close_answers c.args.conn c.args.worker world.opened
 
 pub returns-clause-world : goal.returns-clause-world
 returns-clause-world c world stands =
-    let here : StandsFor _ world = subst (λ (v : HoldersParts). StandsFor v world) (sym c.self.view_is) stands in
+    let here : HoldsFor _ world = subst (λ (v : HoldersParts). HoldsFor v world) (sym c.self.view_is) stands in
     close_stands c.args.conn c.args.worker _ c.close_one.new.ledger world here (c.in-Ok.ensures.world world.opened here.opened)
 
 pub invariant_of-self : goal.invariant_of-self

@@ -2,7 +2,7 @@ use Rattle.std.proofs.Common.{sym, ap, ◌∙◌, subst}
 use Rattle.std.proofs.lemmas.Result.{on_ok_weaker}
 use Rattle.ev_pictures.specs.Pictures.{shown_after}
 use Rattle.ev_retirement.specs.Asking.{is_aside}
-use Rattle.ev_retirement.specs.Holders.{HoldersParts, StandsFor}
+use Rattle.ev_retirement.specs.Holders.{HoldersParts, HoldsFor}
 use Rattle.ev_retirement.proofs.AskLemmas.{more_kept, publish_kept}
 use Rattle.ev_retirement.proofs.HoldLemmas.{publish_stands}
 use Rattle.ev_retirement.proofs.holders.Holders.publish.Goals as goal
@@ -27,5 +27,5 @@ pub returns-clause-world : goal.returns-clause-world
 returns-clause-world c =
     on_ok_weaker c.publish.result
     (λ has world stands shown.
-    let here : StandsFor _ world = subst (λ (v : HoldersParts). StandsFor v world) (sym c.self.view_is) stands in
+    let here : HoldsFor _ world = subst (λ (v : HoldersParts). HoldsFor v world) (sym c.self.view_is) stands in
     publish_stands _ c.publish.new.self world here (has world here.pictures (ap (λ (v : HoldersParts). shown_after c.args.changes.now v.pictures) c.self.view_is ∙ shown))) c.publish.ensures.world

@@ -1,7 +1,7 @@
 use Rattle.std.proofs.Common.{List, refl, sym, ap, ◌∙◌, subst}
 use Rattle.ev_types.specs.declared.rows.GenRow.{GenRow}
-use Rattle.ev_drain.specs.Retired.{has_row, newly_retired, StandsFor as HasRetired}
-use Rattle.ev_retirement.specs.Holders.{HoldersParts, StandsFor}
+use Rattle.ev_drain.specs.Retired.{has_row, HasRetired, newly_retired}
+use Rattle.ev_retirement.specs.Holders.{HoldersParts, HoldsFor}
 use Rattle.ev_retirement.proofs.HoldLemmas.{on_ok, retire_stands, unmarked}
 use Rattle.ev_retirement.proofs.FoundLemmas.{retire_found}
 use Rattle.ev_retirement.proofs.AskLemmas.{more_kept, retire_kept}
@@ -11,7 +11,7 @@ pub returns-clause-world : goal.returns-clause-world
 returns-clause-world c =
     on_ok c.retire.result c.retire.ensures.retired c.retire.ensures.world
     (λ noted retired world before after row stands rows live kind number name.
-    let here : StandsFor _ world = subst (λ (v : HoldersParts). StandsFor v world) (sym c.self.view_is) stands in
+    let here : HoldsFor _ world = subst (λ (v : HoldersParts). HoldsFor v world) (sym c.self.view_is) stands in
     retire_stands c.args.dropped _ _ c.retire.new.self world before after row here noted
     (retired row before after world.expired
     (subst (λ (rs : List GenRow). HasRetired c.self.inside.drain rs world.expired) rows here.retired) live kind number name

@@ -4,12 +4,12 @@ use Rattle.ev_types.specs.declared.events.Answer.TheVariants.{Settled}
 use Rattle.ev_model.specs.World.{last_version}
 use Rattle.ev_model.specs.declared.pictures.Picture.{Picture}
 use Rattle.ev_retirement.specs.Closing.{closed_all}
-use Rattle.ev_retirement.specs.Holders.{HoldersParts, StandsFor}
+use Rattle.ev_retirement.specs.Holders.{HoldersParts, HoldsFor}
 use Rattle.ev_retirement.proofs.CloseLemmas.{settle_stands, settle_told}
 use Rattle.ev_pictures.specs.Pictures.{PicturesParts}
 use Rattle.ev_retirement.specs.declared.asking.Asking.{Asking}
-use Rattle.ev_retirement.specs.Asking.{AreKept, LetsGo}
-use Rattle.ev_retirement.specs.Closing.{AreFound, is_among}
+use Rattle.ev_retirement.specs.Asking.{AreAskedInOrder, LetsGo}
+use Rattle.ev_retirement.specs.Closing.{AreFound, is_member_among}
 use Rattle.ev_retirement.proofs.AskLemmas.{go_kept, more_kept, settled_kept}
 use Rattle.ev_retirement.proofs.FoundLemmas.{found_left}
 use Rattle.ev_retirement.proofs.GoLemmas.{asked_go, more_on}
@@ -18,7 +18,7 @@ use Rattle.ev_retirement.proofs.holders.Holders.settle.Goals as goal
 
 told : goal.returns-clause-told
 told c world stands =
-    let here : StandsFor _ world = subst (λ (v : HoldersParts). StandsFor v world) (sym c.self.view_is) stands in
+    let here : HoldsFor _ world = subst (λ (v : HoldersParts). HoldsFor v world) (sym c.self.view_is) stands in
     settle_told c.args.worker _ (arc_value c.in-Ok-settle.snapshot) c.from_vec.result world here (c.from_vec.ensures.elements ∙ c.in-Ok.ensures.numbers) c.in-Ok-settle.ensures.snapshot
 
 pub returns-clause-told : goal.returns-clause-told
@@ -33,7 +33,7 @@ returns-clause-answer c world stands =
 
 pub returns-clause-world : goal.returns-clause-world
 returns-clause-world c world stands =
-    let here : StandsFor _ world = subst (λ (v : HoldersParts). StandsFor v world) (sym c.self.view_is) stands in
+    let here : HoldsFor _ world = subst (λ (v : HoldersParts). HoldsFor v world) (sym c.self.view_is) stands in
     settle_stands c.args.worker _ c.settle.new.self c.close_all.new.ledger c.in-Ok.closed.items world here c.in-Ok.ensures.apart c.in-Ok.ensures.numbers
     (c.close_all.ensures ∙ ap (λ (ns : List ℕ). closed_all c.args.worker ns c.self.inside.ledger) c.as_slice-numbers.ensures.value)
     (c.in-Ok-settle.ensures.world world here.pictures)
@@ -55,7 +55,7 @@ pub invariant_of-self-in_default-settle : goal.invariant_of-self-in_default-sett
 invariant_of-self-in_default-settle c =
     let holders : HoldersParts = record { pictures = c.self.inside.pictures; ledger = c.self.inside.ledger; drain = c.self.inside.drain } in
     record {
-      asked = subst (λ (pictures : PicturesParts). AreKept c.recall_left.new.asking (record holders { pictures = pictures })) (sym c.in_default-settle.ensures.err)
+      asked = subst (λ (pictures : PicturesParts). AreAskedInOrder c.recall_left.new.asking (record holders { pictures = pictures })) (sym c.in_default-settle.ensures.err)
           (more_kept c.ask_on_each.new.asking c.recall_left.new.asking holders c.recall_left.ensures.more
           (more_kept c.self.inside.asking c.ask_on_each.new.asking holders c.ask_on_each.ensures.more c.self.invariant.asked));
       found = c.self.invariant.found;
@@ -66,19 +66,19 @@ invariant_of-self-2 c =
     let holders : HoldersParts = record { pictures = c.self.inside.pictures; ledger = c.self.inside.ledger; drain = c.self.inside.drain } in
     let asking : Asking = c.recall_left.new.asking in
     let worker : ℕ = c.args.worker in
-    let kept : AreKept asking holders =
+    let kept : AreAskedInOrder asking holders =
     more_kept c.ask_on_each.new.asking asking holders c.recall_left.ensures.more
     (more_kept c.self.inside.asking c.ask_on_each.new.asking holders c.ask_on_each.ensures.more c.self.invariant.asked) in
-    let settled : AreKept asking (record holders { pictures = c.settle.new.self }) =
-    subst (λ (pictures : PicturesParts). AreKept asking (record holders { pictures = pictures })) (sym c.in-Ok-settle.ensures.settled)
+    let settled : AreAskedInOrder asking (record holders { pictures = c.settle.new.self }) =
+    subst (λ (pictures : PicturesParts). AreAskedInOrder asking (record holders { pictures = pictures })) (sym c.in-Ok-settle.ensures.settled)
     (settled_kept worker asking holders c.in-Ok-recall_left.ensures.left kept) in
     record {
       asked = go_kept asking asking (record holders { pictures = c.settle.new.self }) c.close_all.new.ledger
           (subst (LetsGo holders.drain asking asking holders.ledger) (sym c.close_all.ensures)
-          (asked_go (is_among worker c.as_slice-numbers.result.now) holders.drain asking asking holders.ledger (same_more asking)
-          (more_on c.ask_on_each.new.asking asking (is_among worker c.as_slice-numbers.result.now) holders.drain holders.ledger c.recall_left.ensures.more c.in-Ok-ask_on_each.ensures.asked)))
+          (asked_go (is_member_among worker c.as_slice-numbers.result.now) holders.drain asking asking holders.ledger (same_more asking)
+          (more_on c.ask_on_each.new.asking asking (is_member_among worker c.as_slice-numbers.result.now) holders.drain holders.ledger c.recall_left.ensures.more c.in-Ok-ask_on_each.ensures.asked)))
           settled;
       found = subst (AreFound c.leave_each.new.self holders.drain) (sym c.close_all.ensures)
-          (found_left (λ m. not (is_among worker c.as_slice-numbers.result.now m)) c.self.inside.closing c.leave_each.new.self holders.drain (λ m. c.leave_each.ensures m.worker m.connection)
+          (found_left (λ m. not (is_member_among worker c.as_slice-numbers.result.now m)) c.self.inside.closing c.leave_each.new.self holders.drain (λ m. c.leave_each.ensures m.worker m.connection)
           holders.ledger c.self.invariant.found);
     }

@@ -1,7 +1,7 @@
 use Rattle.std.proofs.Common.{sym, ap, ◌∙◌, subst}
 use Rattle.std.proofs.lemmas.Result.{IfOk-weaker}
 use Rattle.ev_ledger.specs.Members.{in_order}
-use Rattle.ev_retirement.specs.Holders.{HoldersParts, StandsFor}
+use Rattle.ev_retirement.specs.Holders.{HoldersParts, HoldsFor}
 use Rattle.ev_retirement.specs.Lines.{lines_leave}
 use Rattle.ev_retirement.proofs.AskLemmas.{go_kept}
 use Rattle.ev_retirement.proofs.LineLemmas.{lines_stand}
@@ -12,7 +12,7 @@ returns c = record {
   world =
       IfOk-weaker c.take_lines.result _ _
       (λ v taken format world picture stands answered.
-      let here : StandsFor _ world = subst (λ (h : HoldersParts). StandsFor h world) (sym c.self.view_is) stands in
+      let here : HoldsFor _ world = subst (λ (h : HoldersParts). HoldsFor h world) (sym c.self.view_is) stands in
       lines_stand format c.args.batch.now.worker picture c.args.batch.now.lines _ c.take_lines.new.ledger world here answered
       (taken world.opened here.opened
       ∙ ap (λ w. in_order (lines_leave w c.lines.result.now world.opened)) c.worker.ensures

@@ -9,8 +9,8 @@ use Rattle.ev_model.specs.Live.{lives_of}
 use Rattle.ev_model.specs.Verdicts.{verdicts_of}
 use Rattle.ev_model.specs.Step.{responded, answered}
 use Rattle.ev_model.specs.Requests.{Watched, all_watched, other_than, requests_by, requests_of, reply_of}
-use Rattle.ev_managers.specs.Managers.{AreForgotten, AreKept}
-use Rattle.ev_subscription.specs.Subscriptions.{StandsFor as HasVersions}
+use Rattle.ev_managers.specs.Managers.{AreForgotten, AreManagersKept}
+use Rattle.ev_subscription.specs.Subscriptions.{HasVersions}
 use Rattle.ev_managers.specs.declared.moved.Moved.{Moved}
 use Rattle.ev_state.specs.declared.state.State.{State}
 use Rattle.ev_state.specs.declared.asked.Asked.{Asked}
@@ -44,7 +44,7 @@ reply-requires g c = record {
 }
 
 replies : (s : State) (told : Answer) (verdicts given : List Verdict) (kind : Kind) (mentioned response : ResponseParts) (asked : Asked) (these : Moved) (here : World)
-    → AreKept s.managers → AreForgotten s.managers
+    → AreManagersKept s.managers → AreForgotten s.managers
     → mentioned ≡ response → given ≡ verdicts → given ≡ verdicts_of (lives_of here) here.versions response
     → IsOver s asked these here (responded kind mentioned given here)
     → ((world : World) (before after : Watched) → HasVersions s.subscription world

@@ -4,12 +4,12 @@ use Rattle.ev_types.specs.declared.contents.Kind.TheVariants.{Eds, Rds}
 use Rattle.ev_types.specs.declared.rows.GenRow.{GenRow}
 use Rattle.ev_model.specs.World.{World}
 use Rattle.ev_model.specs.Warming.{is_ready_by}
-use Rattle.ev_indexes.specs.Due.{is_among}
+use Rattle.ev_indexes.specs.Due.{is_one_of}
 use Rattle.ev_indexes.proofs.SeenLemmas.{seen-sound}
 use Rattle.ev_model.specs.Live.{lives_of}
 use Rattle.ev_model.specs.Phase.{is_clusters}
 use Rattle.ev_model.specs.Tidy.{tidy, has_successor, promoted, without_unwatched, without_old_results, is_version_due}
-use Rattle.ev_subscription.specs.Subscriptions.{StandsFor as HasVersions}
+use Rattle.ev_subscription.specs.Subscriptions.{HasVersions}
 use Rattle.ev_targets.specs.Targets.{HaveBooted}
 use Rattle.ev_managers.proofs.FrameLemmas.{see_the_same}
 use Rattle.ev_state.proofs.AgeLemmas.{later-same, later-then, later-promoted}
@@ -30,8 +30,8 @@ returns-clause-over g c = λ before world follows drawn have.
     let later = later-then before.made before.rows world.rows w1.rows follows.later now_later in
     let told = promoted-have c.args.moved.now.retired c.promote.new.moved.retired m c.promote.new.self before world c.requires.kept c.in_ok-promote.ensures.kept follows.stands.managers first
     c.in_ok-promote.ensures.told.retired follows.later have.retired in
-    let endpoints = c.in_ok-endpoints.ensures before w1 first follows.sound later drawn (λ n. ap (λ ns. is_among ns n) c.as_slice.ensures.elements ∙ told n) in
-    let routes = c.in_ok-routes.ensures before w1 first follows.sound later drawn (λ n. ap (λ ns. is_among ns n) c.as_slice-2.ensures.elements ∙ told n) in
+    let endpoints = c.in_ok-endpoints.ensures before w1 first follows.sound later drawn (λ n. ap (λ ns. is_one_of ns n) c.as_slice.ensures.elements ∙ told n) in
+    let routes = c.in_ok-routes.ensures before w1 first follows.sound later drawn (λ n. ap (λ ns. is_one_of ns n) c.as_slice-2.ensures.elements ∙ told n) in
     let had = follows.stands.subscription in
     let held1 : HasVersions c.args.self.now.subscription w1 = record { node = had.node; stream = had.stream; versions = had.versions; kept_once = had.kept_once } in
     let left2 = c.forget_unwatched.ensures w1 held1 (ended_of Eds before w1 c.in_ok-endpoints.endpoints.ended refl endpoints.ended follows.heard)

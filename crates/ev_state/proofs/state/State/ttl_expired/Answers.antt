@@ -1,5 +1,5 @@
 use Rattle.std.proofs.Common.{ℕ, List, ◌++◌, refl, sym, ap, subst, ◌∙◌}
-use Rattle.ev_subscription.specs.Subscriptions.{StandsFor as HasVersions}
+use Rattle.ev_subscription.specs.Subscriptions.{HasVersions}
 use Rattle.ev_types.specs.declared.events.Answer.TheVariants.{Ignored}
 use Rattle.ev_model.specs.World.{World}
 use Rattle.ev_model.specs.Signals.{moved, with_end, forget_version}

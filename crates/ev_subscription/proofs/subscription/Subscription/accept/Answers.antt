@@ -5,7 +5,7 @@ use Rattle.ev_model.specs.World.{World}
 use Rattle.ev_model.specs.Versions.{with_version}
 use Rattle.ev_subscription.specs.Held.{versions_in, name_order}
 use Rattle.std.specs.BTreeMap.{insert_entry}
-use Rattle.ev_subscription.specs.Subscriptions.{StandsFor, held_of, with_held}
+use Rattle.ev_subscription.specs.Subscriptions.{HasVersions, held_of, with_held}
 use Rattle.ev_subscription.proofs.HeldLemmas.{held_more, on_ok}
 use Rattle.ev_subscription.proofs.KindLemmas.{stands_with, with_put}
 use Rattle.ev_subscription.proofs.subscription.Subscription.accept.Goals as goal
@@ -31,5 +31,5 @@ returns-clause-held c = held c
 
 pub returns-clause-stands : goal.returns-clause-stands
 returns-clause-stands c =
-    on_ok _ ((world : World) → StandsFor c.args.self.now world → StandsFor c.put.new.self (record world { versions = with_version (version c) world.versions })) c.hold-done.result
+    on_ok _ ((world : World) → HasVersions c.args.self.now world → HasVersions c.put.new.self (record world { versions = with_version (version c) world.versions })) c.hold-done.result
     (stands_with c.args.self.now c.put.new.self (version c)) (held c)

@@ -1,7 +1,7 @@
 use Rattle.std.proofs.Common.{◌∙◌, ◌<◌, ◌≤◌, length, get_or, subst, sym, arith, refl}
 use Rattle.ev_types.specs.declared.events.Verdict.TheVariants.{New}
 use Rattle.ev_model.specs.Rows.{add_item}
-use Rattle.ev_subscription.specs.Subscriptions.{StandsFor}
+use Rattle.ev_subscription.specs.Subscriptions.{HasVersions}
 use Rattle.ev_subscription.proofs.ResponseLemmas.{item_more, items_done}
 use Rattle.ev_subscription.proofs.subscription.Subscription.keep_all.Goals as goal
 
@@ -25,4 +25,4 @@ returns c = λ world stands.
     let place = c.loop-place.place in
     let past : length c.args.verdicts.now ≤ place = omega (arith, c.requires, c.loop-place-test.false) in
     let w = c.loop-place.invariant world stands in
-    subst (StandsFor c.loop-place.self) (sym (items_done c.args.kind c.args.verdicts.now c.args.items.now place w.0 past c.loop-place-test.false) ∙ w.2) w.1
+    subst (HasVersions c.loop-place.self) (sym (items_done c.args.kind c.args.verdicts.now c.args.items.now place w.0 past c.loop-place-test.false) ∙ w.2) w.1

@@ -2,7 +2,7 @@ use Rattle.std.proofs.Common.{◌≡◌, ◌∙◌, ap, map, List, ℕ}
 use Rattle.ev_types.specs.declared.rows.KeptVersion.{KeptVersion}
 use Rattle.ev_model.specs.World.{World}
 use Rattle.ev_model.specs.Versions.{versions_of}
-use Rattle.ev_subscription.specs.Subscriptions.{StandsFor, held_of}
+use Rattle.ev_subscription.specs.Subscriptions.{HasVersions, held_of}
 use Rattle.ev_subscription.proofs.HeldLemmas.{if_ok_more, named_all}
 use Rattle.ev_subscription.proofs.subscription.Subscription.versions.Goals as goal
 
@@ -17,5 +17,5 @@ returns-clause-list c =
 
 pub returns-clause-stands : goal.returns-clause-stands
 returns-clause-stands c =
-    if_ok_more _ (λ list. (world : World) → StandsFor c.args.self.now world → list ≡ versions_of c.args.kind world.versions) c.list.result
+    if_ok_more _ (λ list. (world : World) → HasVersions c.args.self.now world → list ≡ versions_of c.args.kind world.versions) c.list.result
     (λ list is world stands. is ∙ ap (map named) (stands.versions c.args.kind)) (returns-clause-list c)

@@ -2,7 +2,7 @@ use Rattle.std.proofs.Common.{◌≡◌, ◌∙◌, List, ℕ, sym, subst, arith
 use Rattle.ev_types.specs.Texts.{IsName}
 use Rattle.ev_model.specs.Verdicts.{is_removed}
 use Rattle.ev_model.specs.Signals.{rows_ended}
-use Rattle.ev_indexes.specs.Worlds.{StandsFor}
+use Rattle.ev_indexes.specs.Worlds.{HasRows}
 use Rattle.ev_warming.proofs.IndexLemmas.{on_ok}
 use Rattle.ev_warming.proofs.ResponseLemmas.{listed-stands, unnamed-stands, ended-stands, is_unlisted-listed}
 use Rattle.ev_warming.proofs.manager.Manager.remove_name.Goals as goal
@@ -25,7 +25,7 @@ returns-in-Ok-clause-stands g c =
     let is : c.is_removed.result ≡ is_removed response name = c.is_removed.ensures ∙ (λ i. is_removed response (c.as_str.ensures.bytes i)) in
     on_ok c.end_name.result c.end_name.ensures.stands (λ step world stands.
     ended-stands t world kind response name (is_unlisted-listed response name c.is_removed.result is c.requires.listed ∙ c.if-not-is_removed.false)
-    (subst (λ (q : List ℕ). StandsFor t (record world { rows = rows_ended kind q world.rows })) (c.in-Ok.ensures.bytes ∙ c.as_str-2.ensures.bytes) (step world stands)))
+    (subst (λ (q : List ℕ). HasRows t (record world { rows = rows_ended kind q world.rows })) (c.in-Ok.ensures.bytes ∙ c.as_str-2.ensures.bytes) (step world stands)))
 
 pub returns-in-Err-Length-clause-stands : goal.returns-in-Err-Length-clause-stands
 returns-in-Err-Length-clause-stands g c =

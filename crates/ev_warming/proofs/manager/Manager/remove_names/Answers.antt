@@ -5,7 +5,7 @@ use Rattle.std.proofs.lemmas.List.{nil_from_length, take_all}
 use Rattle.ev_types.specs.declared.contents.Kind.{Kind}
 use Rattle.ev_model.specs.Rows.{with_statuses}
 use Rattle.ev_warming.specs.Changes.{status_left_by}
-use Rattle.ev_indexes.specs.Worlds.{StandsFor}
+use Rattle.ev_indexes.specs.Worlds.{HasRows}
 use Rattle.ev_warming.proofs.RetiredLemmas.{tells-none, tells-then}
 use Rattle.ev_warming.proofs.ResponseLemmas.{nothing-stands, more-stands, listed-at}
 use Rattle.ev_warming.proofs.manager.Manager.remove_names.Goals as goal
@@ -36,8 +36,8 @@ loop-name-preserved g c =
       stands = λ world stands.
           more-stands s t world kind response c.as_slice-name-items.result.now c.loop-name.name-index name c.loop-name-test.true c.name-item.is (i.stands world stands)
           (λ w standing.
-          subst (λ (r : ResponseParts). StandsFor t (record w { rows = with_statuses (status_left_by kind r (name ∷ [])) w.rows })) c.in_ok-mentions.ensures
-          (subst (λ (k : Kind). StandsFor t (record w { rows = with_statuses (status_left_by k c.in_ok-mentions.mentions (name ∷ [])) w.rows })) i.kind (e.stands w standing)));
+          subst (λ (r : ResponseParts). HasRows t (record w { rows = with_statuses (status_left_by kind r (name ∷ [])) w.rows })) c.in_ok-mentions.ensures
+          (subst (λ (k : Kind). HasRows t (record w { rows = with_statuses (status_left_by k c.in_ok-mentions.mentions (name ∷ [])) w.rows })) i.kind (e.stands w standing)));
     }
 
 pub returns-clause-stands : goal.returns-clause-stands
@@ -45,7 +45,7 @@ returns-clause-stands g c =
     let response = c.args.response.now in
     let kind = c.args.self.now.state.kind in
     λ world stands.
-    subst (λ (names : List (List ℕ)). StandsFor c.loop-name.self.state (record world { rows = with_statuses (status_left_by kind response names) world.rows }))
+    subst (λ (names : List (List ℕ)). HasRows c.loop-name.self.state (record world { rows = with_statuses (status_left_by kind response names) world.rows }))
     (take_all c.loop-name.name-index c.as_slice-name-items.result.now c.loop-name-test.false ∙ c.as_slice-name-items.ensures.elements ∙ (λ i. (c.response.view_is i).removed))
     (c.loop-name.invariant.stands world stands)
 
@@ -62,7 +62,7 @@ returns-then-is_empty-clause-stands g c =
     let response = c.args.response.now in
     let kind = c.args.self.now.state.kind in
     λ world stands.
-    subst (λ (names : List (List ℕ)). StandsFor c.args.self.now.state (record world { rows = with_statuses (status_left_by kind response names) world.rows }))
+    subst (λ (names : List (List ℕ)). HasRows c.args.self.now.state (record world { rows = with_statuses (status_left_by kind response names) world.rows }))
     (sym none) (nothing-stands c.args.self.now.state world response stands)
 
 pub returns-then-is_empty-clause-told : goal.returns-then-is_empty-clause-told

@@ -3,7 +3,7 @@ use Rattle.ev_model.specs.World.{World}
 use Rattle.ev_model.specs.Rows.{with_statuses}
 use Rattle.ev_warming.specs.Changes.{status_left_by, Tells}
 use Rattle.ev_warming.specs.Managers.{IsKept}
-use Rattle.ev_indexes.specs.Worlds.{StandsFor}
+use Rattle.ev_indexes.specs.Worlds.{HasRows}
 use Rattle.ev_warming.proofs.manager.Manager.remove_names.Given as goal
 
 abbrev pub invariant-loop-name : goal.invariant-loop-name
@@ -12,6 +12,6 @@ invariant-loop-name g l = record {
   kind : l.self.state.kind ≡ l.initial.self.state.kind;
   made : l.self.state.table.made ≡ l.initial.self.state.table.made;
   told : Tells l.initial.self.state.table.rows l.self.state.table.rows l.initial.retired l.retired;
-  stands : (world : World) → StandsFor l.initial.self.state world
-      → StandsFor l.self.state (record world { rows = with_statuses (status_left_by l.initial.self.state.kind l.response (take l.name-index l.name-items)) world.rows });
+  stands : (world : World) → HasRows l.initial.self.state world
+      → HasRows l.self.state (record world { rows = with_statuses (status_left_by l.initial.self.state.kind l.response (take l.name-index l.name-items)) world.rows });
 }

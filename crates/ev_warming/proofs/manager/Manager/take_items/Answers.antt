@@ -2,7 +2,7 @@ use Rattle.std.proofs.Common.{◌≡◌, ◌∙◌, ◌<◌, length, get_or, sub
 use Rattle.ev_types.specs.declared.contents.Kind.{Kind}
 use Rattle.ev_types.specs.declared.events.Verdict.TheVariants.{New}
 use Rattle.ev_model.specs.Rows.{add_item}
-use Rattle.ev_indexes.specs.Worlds.{StandsFor}
+use Rattle.ev_indexes.specs.Worlds.{HasRows}
 use Rattle.ev_warming.proofs.RetiredLemmas.{tells-none, tells-then}
 use Rattle.ev_warming.proofs.ResponseLemmas.{item-more}
 use Rattle.ev_warming.proofs.manager.Manager.take_items.Goals as goal
@@ -34,7 +34,7 @@ loop-place-preserved g c =
       few = omega (arith, e.few, i.few);
       stands = λ world stands level.
           let w = i.stands world stands level in
-          let next = subst (λ (k : Kind). StandsFor t (add_item k (get_or c.args.verdicts.now place New) item w.0) × (t.table.made ≡ (add_item k (get_or c.args.verdicts.now place New) item w.0).made))
+          let next = subst (λ (k : Kind). HasRows t (add_item k (get_or c.args.verdicts.now place New) item w.0) × (t.table.made ≡ (add_item k (get_or c.args.verdicts.now place New) item w.0).made))
           i.kind (e.stands w.0 w.1 w.2) in (
             add_item kind (get_or c.args.verdicts.now place New) item w.0,
             next.0,

@@ -3,7 +3,7 @@ use Rattle.ev_model.specs.World.{World}
 use Rattle.ev_model.specs.Rows.{add_items}
 use Rattle.ev_warming.specs.Changes.{Tells}
 use Rattle.ev_warming.specs.Managers.{IsKept}
-use Rattle.ev_indexes.specs.Worlds.{StandsFor}
+use Rattle.ev_indexes.specs.Worlds.{HasRows}
 use Rattle.ev_warming.proofs.manager.Manager.take_items.Given as goal
 
 abbrev pub invariant-loop-place : goal.invariant-loop-place
@@ -13,7 +13,7 @@ invariant-loop-place g l = record {
   grows : l.initial.self.state.table.made ≤ l.self.state.table.made;
   told : Tells l.initial.self.state.table.rows l.self.state.table.rows l.initial.retired l.retired;
   few : l.self.state.table.made ≤ l.initial.self.state.table.made + l.place;
-  stands : (world : World) → StandsFor l.initial.self.state world → l.initial.self.state.table.made ≡ world.made
-      → (w : World) × StandsFor l.self.state w × (l.self.state.table.made ≡ w.made)
+  stands : (world : World) → HasRows l.initial.self.state world → l.initial.self.state.table.made ≡ world.made
+      → (w : World) × HasRows l.self.state w × (l.self.state.table.made ≡ w.made)
       × (add_items l.initial.self.state.kind (drop l.place l.verdicts) (drop l.place l.items) w ≡ add_items l.initial.self.state.kind l.verdicts l.items world);
 }

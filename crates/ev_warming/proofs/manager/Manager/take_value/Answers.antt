@@ -3,7 +3,7 @@ use Rattle.std.specs.List.{list_any}
 use Rattle.ev_types.specs.declared.rows.Arrival.TheVariants.{Bad}
 use Rattle.ev_model.specs.Rows.{add_item}
 use Rattle.ev_indexes.specs.Indexes.{depends_on}
-use Rattle.ev_indexes.specs.Worlds.{needs_of, StandsFor}
+use Rattle.ev_indexes.specs.Worlds.{HasRows, needs_of}
 use Rattle.ev_warming.specs.Arrivals.{told_where}
 use Rattle.ev_warming.proofs.IndexLemmas.{on_ok}
 use Rattle.ev_warming.proofs.AbsenceLemmas.{refusal-stands}
@@ -16,9 +16,9 @@ returns-in-Refused-clause-stands g c =
     let t = c.tell.new.self.state in
     let item = c.args.item.now in
     on_ok c.tell.result c.tell.ensures.stands (λ step world stands drawn.
-    subst (StandsFor t) (λ i. add_item (needs_of s.kind) (sym c.in-Refused.is i) item world)
+    subst (HasRows t) (λ i. add_item (needs_of s.kind) (sym c.in-Refused.is i) item world)
     (refusal-stands s t world item.name c.requires.kept.rows stands
-    (subst (λ (name : List ℕ). StandsFor t (told_where (list_any (depends_on name) s.table.rows) (needs_of s.kind) Bad name world)) (λ i. (c.item.view_is i).name) (step world stands drawn))))
+    (subst (λ (name : List ℕ). HasRows t (told_where (list_any (depends_on name) s.table.rows) (needs_of s.kind) Bad name world)) (λ i. (c.item.view_is i).name) (step world stands drawn))))
 
 pub returns-in_default : goal.returns-in_default
 returns-in_default g c =

@@ -5,7 +5,7 @@ use Rattle.ev_types.specs.declared.contents.Kind.{Kind}
 use Rattle.ev_types.specs.declared.events.Verdict.{Verdict}
 use Rattle.ev_types.specs.declared.events.Verdict.TheVariants.{New}
 use Rattle.ev_model.specs.Rows.{add_item}
-use Rattle.ev_indexes.specs.Worlds.{StandsFor, needs_of}
+use Rattle.ev_indexes.specs.Worlds.{HasRows, needs_of}
 use Rattle.ev_indexes.specs.Indexes.{depends_on}
 use Rattle.ev_warming.specs.Arrivals.{AreOnValues}
 use Rattle.ev_warming.proofs.ResponseLemmas.{item-more}
@@ -38,7 +38,7 @@ loop-place-preserved g c =
       stands = λ world stands drawn.
           let w = i.stands world stands drawn in (
             add_item kind (get_or verdicts place New) item w.0,
-            subst (λ (k : Kind). StandsFor t (add_item (needs_of k) (get_or verdicts place New) item w.0)) i.kind (e.stands w.0 w.1 w.2),
+            subst (λ (k : Kind). HasRows t (add_item (needs_of k) (get_or verdicts place New) item w.0)) i.kind (e.stands w.0 w.1 w.2),
             w.2 ∙ sym (item-made kind (get_or verdicts place New) (list_any (depends_on item.name) rows) item w.0 both.0),
             item-more kind verdicts items place New item w.0 within c.loop-place-test.true c.index-items-place.is ∙ w.3,
           );

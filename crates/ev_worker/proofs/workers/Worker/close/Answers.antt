@@ -1,7 +1,7 @@
 use Rattle.std.proofs.Common.{◌++◌, ◌∷◌, [], filter, ap, sym, ◌∙◌}
 use Rattle.ev_model.specs.Connections.{closed, is_member, is_open}
 use Rattle.ev_worker.specs.Batches.{BatchParts, close_line, closed_answer, closed_as}
-use Rattle.ev_worker.specs.Members.{members_of}
+use Rattle.ev_worker.specs.Members.{stored_members}
 use Rattle.ev_worker.specs.Workers.{WorkerParts}
 use Rattle.ev_worker.proofs.OpenLemmas.{close_answer, close_leaves, found_open}
 use Rattle.ev_worker.proofs.BatchLemmas.{close_made}
@@ -17,8 +17,8 @@ answered c =
 -- what is open afterwards is what the machine leaves
 opened : goal.returns-clause-opened
 opened c n =
-    ap (λ (v : WorkerParts). filter (is_member v.number n) (members_of c.push.new.self.worker c.close.new.members.entries)) (sym c.self.view_is)
-    ∙ ap (λ (b : BatchParts). filter (is_member c.self.inside.batch.worker n) (members_of b.worker c.close.new.members.entries)) c.push.ensures
+    ap (λ (v : WorkerParts). filter (is_member v.number n) (stored_members c.push.new.self.worker c.close.new.members.entries)) (sym c.self.view_is)
+    ∙ ap (λ (b : BatchParts). filter (is_member c.self.inside.batch.worker n) (stored_members b.worker c.close.new.members.entries)) c.push.ensures
     ∙ close_leaves c.self.inside.batch.worker c.args.conn c.self.inside.members.entries c.close.new.members.entries c.self.invariant.apart c.close.ensures.apart c.close.ensures.left n
     ∙ ap (λ (v : WorkerParts). filter (is_member v.number n) (closed c.args.conn v.number v.opened).opened) c.self.view_is
 

@@ -1,6 +1,6 @@
 use Rattle.std.proofs.Common.{◌≡◌, [], length, ap, sym, ◌∙◌}
 use Rattle.ev_types.specs.Same.{numbers_decide}
-use Rattle.ev_worker.specs.Members.{members_of}
+use Rattle.ev_worker.specs.Members.{stored_members}
 use Rattle.ev_worker.specs.Workers.{WorkerParts}
 use Rattle.ev_worker.proofs.OpenLemmas.{empty_of, none_same, none_shown}
 use Rattle.ev_worker.proofs.workers.Worker.idle.Goals as goal
@@ -14,7 +14,7 @@ returns-then-is_empty-clause-rests c =
         lines,
         none_same c.args.self.now.number c.args.self.now.opened
             (ap (λ (w : WorkerParts). w.opened) (sym c.self.view_is)
-            ∙ ap (members_of c.self.inside.batch.worker) (empty_of c.self.inside.members.entries (c.is_empty-then-is_empty.ensures.0 t))),
+            ∙ ap (stored_members c.self.inside.batch.worker) (empty_of c.self.inside.members.entries (c.is_empty-then-is_empty.ensures.0 t))),
       ),
       λ idle.
           c.is_empty-then-is_empty.ensures.1
