@@ -8,3 +8,5 @@ pub mod CidrRanges
 pub mod SourceCriteria
 pub mod ChainMatches
 pub mod Chains
+pub mod ChainKeys
+pub mod ChainPlaces

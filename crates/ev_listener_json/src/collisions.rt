@@ -1,31 +1,114 @@
-ghost use Rattle.std.specs.Prelude.{◌≡◌, map, option_to_list};
+ghost use Rattle.std.specs.Prelude.{◌≡◌, map, option_to_list, IfOk};
 ghost use Rattle.std.specs.List.{list_any};
+ghost use Rattle.std.specs.Option.{option_copied};
 ghost use Rattle.ev_types.specs.FilterChains.{has_value, overlap, collide, has_collision};
 ghost use Rattle.ev_types.specs.declared.listeners.FilterChain as declared;
+ghost use Rattle.ev_listener_json.specs.ChainPlaces.{any_collides, any_under, collides_given, collides_there, fewer_keys, fewest_keys, HasAll};
 
+use crate::chain_keys::{ChainKey, Criterion, keys_by};
+use crate::chain_places::ChainPlaces;
 use ev_types::{FilterChain, FilterChainMatch};
+use std::alloc::{AllocError, Global};
 
 /// Whether two filter chains may take one connection: neither asks for a source, and by each criterion they have a
-/// value in common, or none in both. Each chain is compared with each one after it.
-#[tactic(auto, using(crate::proofs::Overlaps::has_collision_chains))]
-pub fn has_collision(chains: &[FilterChain]) -> bool
-    ensures { result ≡ has_collision (map (λ (c : declared.FilterChain). c.criteria) chains.now) }
+/// value in common, or none in both. Each chain is compared with those before it that are found by its keys.
+pub fn has_collision(alloc: Global, chains: &[FilterChain]) -> Result<bool, AllocError>
+    ensures { IfOk result (λ has. has ≡ has_collision (map (λ (c : declared.FilterChain). c.criteria) chains.now)) }
 {
-    for (place, one) in chains.iter().enumerate() {
-        if collides_with_any(one.criteria.get(), &chains[place + 1..]) {
-            return true;
+    let mut places = ChainPlaces::new(alloc);
+    for (place, chain) in chains.iter().enumerate() {
+        let one = chain.criteria.get();
+        if collides_with_any(alloc, &places, &chains[..place], one)? {
+            return Ok(true);
         }
+        places.put_match(alloc, one, place)?;
     }
-    false
+    Ok(false)
 }
 
 // Whether a chain and one of these may take one connection.
-fn collides_with_any(one: &FilterChainMatch, others: &[FilterChain]) -> bool
-    ensures { result ≡ list_any (λ (c : declared.FilterChain). collide one.now c.criteria) others.now }
+fn collides_with_any<'a>(
+    alloc: Global,
+    places: &ChainPlaces<'a>,
+    chains: &[FilterChain],
+    one: &'a FilterChainMatch,
+) -> Result<bool, AllocError>
+    requires { HasAll chains.now places.now }
+    ensures { IfOk result (λ collides. collides ≡ any_collides chains.now one.now) }
 {
-    others
+    let keys = fewest_keys(alloc, places, one)?;
+    Ok(any_under(places, chains, one, keys.as_slice()))
+}
+
+// The keys of a match by a criterion: of the four one under whose keys the fewest places are.
+fn fewest_keys<'a>(
+    alloc: Global,
+    places: &ChainPlaces<'a>,
+    one: &'a FilterChainMatch,
+) -> Result<Vec<ChainKey<'a>>, AllocError>
+    ensures { IfOk result (λ keys. keys.items ≡ fewest_keys places.now one.now) }
+{
+    let ports = keys_by(alloc, Criterion::Port, one)?;
+    let ranges = keys_by(alloc, Criterion::Range, one)?;
+    let names = keys_by(alloc, Criterion::Name, one)?;
+    let protocols = keys_by(alloc, Criterion::Protocol, one)?;
+    let numbers = fewer_keys(places, ports, ranges);
+    let texts = fewer_keys(places, names, protocols);
+    Ok(fewer_keys(places, numbers, texts))
+}
+
+// Of two lists of keys the one under which there are fewer places.
+fn fewer_keys<'a>(
+    places: &ChainPlaces<'a>,
+    one: Vec<ChainKey<'a>>,
+    other: Vec<ChainKey<'a>>,
+) -> Vec<ChainKey<'a>>
+    ensures { result.items ≡ fewer_keys places.now one.entry.items other.entry.items }
+{
+    if places.count_under(one.as_slice()) <= places.count_under(other.as_slice()) {
+        one
+    } else {
+        other
+    }
+}
+
+// Whether a chain and one of these that is under these keys may take one connection.
+fn any_under<'a>(
+    places: &ChainPlaces<'a>,
+    chains: &[FilterChain],
+    one: &FilterChainMatch,
+    keys: &[ChainKey<'a>],
+) -> bool
+    ensures { result ≡ any_under places.now chains.now one.now keys.now }
+{
+    keys.iter()
+        .any(|key| any_there(chains, one, places.under(key)))
+}
+
+// Whether a chain and one of these that is at these places may take one connection.
+fn any_there(chains: &[FilterChain], one: &FilterChainMatch, places: &[usize]) -> bool
+    ensures { result ≡ list_any (collides_there chains.now one.now) places.now }
+{
+    places
         .iter()
-        .any(|other| collides(one, other.criteria.get()))
+        .any(|place| collides_there(chains, one, *place))
+}
+
+// Whether the chain at a place, if there is one, and another may take one connection.
+fn collides_there(chains: &[FilterChain], one: &FilterChainMatch, place: usize) -> bool
+    ensures { result ≡ collides_there chains.now one.now place }
+{
+    collides_given(one, chains.get(place))
+}
+
+// The same of a chain, if there is one.
+fn collides_given(one: &FilterChainMatch, chain: Option<&FilterChain>) -> bool
+    ensures { result ≡ collides_given one.now (option_copied chain.entry) }
+{
+    match chain {
+        Some(chain) => collides(chain.criteria.get(), one),
+        None => false,
+    }
 }
 
 // Whether two chains may take one connection.

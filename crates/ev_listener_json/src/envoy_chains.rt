@@ -52,7 +52,7 @@ fn inspect_given(alloc: Global, listener: &Value) -> Result<ChainsFound, AllocEr
     let own = BrokenRules {
         v6: chains.is_wrong() | default.is_wrong(),
         v16: elements.is_empty() & !default.is_given(),
-        v26: has_collision(below.value.as_slice()),
+        v26: has_collision(alloc, below.value.as_slice())?,
         ..BrokenRules::none()
     };
     Ok(ChainsFound {

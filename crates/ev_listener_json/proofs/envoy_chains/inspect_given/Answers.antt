@@ -29,5 +29,5 @@ returns-clause-broken c =
       v16 = and_same
           (c.is_empty.ensures ∙ ap (λ n. nat_eq n 0) (sym (length-map c.elements-elements.result.now view) ∙ ap length chains))
           (not_same (c.is_given.ensures ∙ c.in_ok-default.ensures.given)) j;
-      v26 = (c.has_collision.ensures ∙ ap (λ (cs : List FilterChain). has_collision (map (λ (chain : FilterChain). chain.criteria) cs)) values) j;
+      v26 = (c.in_ok-has_collision.ensures ∙ ap (λ (cs : List FilterChain). has_collision (map (λ (chain : FilterChain). chain.criteria) cs)) values) j;
     }))) i))
