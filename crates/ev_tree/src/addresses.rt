@@ -236,7 +236,8 @@ fn choose_text<'a>(
     socket: &'a str,
 ) -> AddressText<'a>
     ensures { text_found result
-        ≡ text_among pipe.entry.given internal.entry.given pipe.entry.path.now internal.entry.name.now internal.entry.id.now socket.now }
+        ≡ text_among pipe.entry.given internal.entry.given pipe.entry.path.now internal.entry.name.now
+        internal.entry.id.now socket.now }
 {
     if pipe.given {
         return AddressText::Pipe(pipe.path);

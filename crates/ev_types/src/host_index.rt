@@ -54,7 +54,8 @@ impl HostIndex {
 
 // Puts one more host among them.
 fn put(hosts: &mut IndexSet<Host>, host: Host) -> Result<(), AllocError>
-    ensures { OnOk result ((h : declared.Host) → contains host_same hosts.new h ≡ (host_same host h || contains host_same hosts.old h)) }
+    ensures { OnOk result ((h : declared.Host) → contains host_same hosts.new h
+        ≡ (host_same host h || contains host_same hosts.old h)) }
 {
     let Ok(_) = hosts.insert(host) else {
         return Err(AllocError);

@@ -78,7 +78,8 @@ impl Name {
     pub fn new(alloc: Global, text: &str) -> Result<Name, NameError>
         ensures bytes { IfOk result (λ name. name ≡ text.now) }
         ensures named { IfOk result (λ _. IsName text.now) }
-        ensures length { IsErrOf result NameError.Length ↔ ((length text.now ≡ 0) ⊎ (MAX_NAME_LENGTH < length text.now)) }
+        ensures length { IsErrOf result NameError.Length
+            ↔ ((length text.now ≡ 0) ⊎ (MAX_NAME_LENGTH < length text.now)) }
     {
         if text.is_empty() || text.len() > MAX_NAME_LENGTH {
             return Err(NameError::Length);
