@@ -14,11 +14,11 @@ pub(crate) enum Task {
     Worker(Worker),
 }
 
-/// An actor in its thread, with its pass, and whether it came to its end.
+/// An actor in its thread. Its pass lies in an `Option`, so that the thread can take it and put it back.
 pub(crate) struct Player<V: Stands> {
     pub task: Task,
     pub ended: bool,
-    pub pass: Pass<V>,
+    pub pass: Option<Pass<V>>,
 }
 
 /// How many workers a script has, and what its type keeps.
