@@ -57,11 +57,11 @@ changed_is tree state rows made drained kept fresh told is_rows is_made is_drain
     }))
 
 pub accepted_is : (chains : List Chain) (state : ChainState) (rows : List Row) (made : ℕ) (draining : List ℕ)
-    → numbered state.made state.serving chains ≡ rows → made_by state.made state.serving chains ≡ made → draining ≡ state.draining ++ gone_in rows state.serving
+    → numbered state.made state.serving chains ≡ rows → made_by state.made state.serving chains ≡ made → draining ≡ ascending (state.draining ++ gone_in rows state.serving)
     → record { made = made; serving = rows; draining = draining; opened = state.opened } ≡ accepted chains state
 accepted_is chains state rows made draining is_rows is_made is_draining = λ i. record {
   made = sym is_made i;
   serving = sym is_rows i;
-  draining = (is_draining ∙ ap (λ rs. state.draining ++ gone_in rs state.serving) (sym is_rows)) i;
+  draining = (is_draining ∙ ap (λ rs. ascending (state.draining ++ gone_in rs state.serving)) (sym is_rows)) i;
   opened = state.opened;
 }

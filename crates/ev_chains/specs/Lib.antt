@@ -8,4 +8,5 @@ pub mod Listeners
 pub mod State
 pub mod Steps
 pub mod Closing
+pub mod Draining
 pub mod Events

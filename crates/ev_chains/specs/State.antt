@@ -12,8 +12,8 @@ use Rattle.ev_chains.specs.declared.rows.Row.{Row}
 use Rattle.ev_chains.specs.Listed.{number_for}
 use Rattle.ev_chains.specs.Listeners.{chains_in, rule_told}
 
--- How many numbers were drawn; the chains that serve, in the order of the last listener; the numbers of those that drain, in the
--- order in which they began to; and the open connections, which are those of worker 0, each on its chain as its listener.
+-- How many numbers were drawn; the chains that serve, in the order of the last listener; the numbers of those that drain, from the
+-- least; and the open connections, which are those of worker 0, each on its chain as its listener.
 pub record ChainState : Type 0 where
   pub made : ℕ
   pub serving : List Row
@@ -77,7 +77,7 @@ accepted chains state =
     record state {
       made = made_by state.made state.serving chains;
       serving = next;
-      draining = state.draining ++ gone_in next state.serving;
+      draining = ascending (state.draining ++ gone_in next state.serving);
     }
 
 -- what a listener reads as: the rule that is reported, or what changes

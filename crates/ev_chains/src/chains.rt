@@ -8,12 +8,12 @@ ghost use Rattle.ev_chains.specs.State.{opening, accepted, listener_reading};
 ghost use Rattle.ev_chains.specs.Steps.{accept, close, drain, drained_by, reap, reaped_by};
 
 use crate::changes::{Changed, ascending, numbers_above, part_rows, plain_numbers};
-use crate::closing::{close_all, closing_conns, part_draining};
+use crate::closing::{close_all, closing_conns, has_open};
+use crate::draining::Draining;
 use crate::listed::Listed;
 use crate::next::{Next, read_next};
 use ev_ledger::Ledger;
 use ev_tree::ReadError;
-use ev_types::Gen;
 use serde_json::Value;
 use std::alloc::{AllocError, Global};
 use std::marker::Model;
@@ -34,20 +34,21 @@ pub enum ChainAnswer {
 pub struct Chains {
     made: u32,
     serving: Listed,
-    draining: Vec<Gen>,
+    draining: Draining,
     ledger: Ledger,
 }
 
 impl Model for Chains {
-    ghost use Rattle.std.specs.Prelude.{◌≡◌, map, false};
-    ghost use Rattle.ev_chains.specs.Rows.{has_clash, match_of};
+    ghost use Rattle.std.specs.Prelude.{◌++◌};
+    ghost use Rattle.ev_model.specs.Publishing.{ascending};
     ghost use Rattle.ev_chains.specs.State.{ChainState};
+    ghost use Rattle.ev_chains.specs.Draining.{AreKept};
 
     ghost Value = { ChainState };
 
-    ghost view = { λ c. record { made = c.made; serving = c.serving; draining = c.draining.items; opened = c.ledger } };
+    ghost view = { λ c. record { made = c.made; serving = c.serving; draining = ascending (c.draining.idle.items ++ c.draining.busy.keys); opened = c.ledger } };
 
-    ghost invariant = { λ c. has_clash (map match_of c.serving) ≡ false };
+    ghost invariant = { λ c. AreKept c.made c.serving c.draining.idle.items c.draining.busy.keys c.ledger };
 }
 
 impl Chains {
@@ -58,7 +59,7 @@ impl Chains {
         Chains {
             made: 0,
             serving: Listed::new(alloc),
-            draining: Vec::new(alloc),
+            draining: Draining::new(alloc),
             ledger: Ledger::new(alloc),
         }
     }
@@ -89,7 +90,8 @@ impl Chains {
             kept: ascending(parted.kept)?,
             made: numbers_above(alloc, self.made, made)?,
         };
-        self.draining.extend_from_slice(parted.gone.as_slice())?;
+        self.draining
+            .start(alloc, &self.ledger, parted.gone.as_slice())?;
         self.serving = rows;
         self.made = made;
         Ok(changed)
@@ -124,7 +126,14 @@ impl Chains {
         ensures answer { result ≡ is_open self.old.opened 0 conn }
         ensures state { self.new ≡ close conn self.old }
     {
-        self.ledger.close(0, conn)
+        let Some((number, _)) = self.ledger.on(0, conn) else {
+            return false;
+        };
+        self.ledger.close(0, conn);
+        if !has_open(&self.ledger, number) {
+            self.draining.end(number);
+        }
+        true
     }
 
     /// The drain timeout comes: the connections on chains that drain are closed. Their numbers, from the least. Out of memory,
@@ -134,8 +143,9 @@ impl Chains {
         ensures state { OnOk result (self.new ≡ drain self.old) }
         ensures err { OnErr result (self.new ≡ self.old) }
     {
-        let closed = closing_conns(alloc, &self.ledger, self.draining.as_slice())?;
+        let closed = closing_conns(alloc, &self.ledger, self.draining.busy.as_slice())?;
         close_all(&mut self.ledger, closed.as_slice());
+        self.draining.end_all(alloc);
         Ok(closed)
     }
 
@@ -145,9 +155,8 @@ impl Chains {
         ensures state { OnOk result (self.new ≡ reap self.old) }
         ensures err { OnErr result (self.new ≡ self.old) }
     {
-        let parted = part_draining(alloc, &self.ledger, self.draining.as_slice())?;
-        let reaped = ascending(parted.idle)?;
-        self.draining = parted.busy;
+        let reaped = ascending(plain_numbers(alloc, self.draining.idle.as_slice())?)?;
+        self.draining.go();
         Ok(reaped.into_vec())
     }
 }

@@ -15,7 +15,7 @@ use std::collections::BTreeSet;
 // The numbers of chains that drain, by whether a connection is open on them.
 #[derive(Drop)]
 pub(crate) struct PartedDraining {
-    pub idle: Vec<u32>,
+    pub idle: Vec<Gen>,
     pub busy: Vec<Gen>,
 }
 
@@ -34,14 +34,14 @@ pub(crate) fn part_draining(
         if has_open(ledger, *number) {
             busy.push(*number)?;
         } else {
-            idle.push(number.number())?;
+            idle.push(*number)?;
         }
     }
     Ok(PartedDraining { idle, busy })
 }
 
 // Whether a connection is open on a chain.
-fn has_open(ledger: &Ledger, number: Gen) -> bool
+pub(crate) fn has_open(ledger: &Ledger, number: Gen) -> bool
     ensures { result ≡ has_open ledger.now number }
 {
     ledger.count(number) != 0

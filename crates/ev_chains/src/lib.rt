@@ -20,13 +20,17 @@
 //!   keeps none.
 //! - Open connections are those of one worker, 0, in a ledger, with the chain as their listener. The ledger lists them by their
 //!   numbers.
-//! - A drain timeout looks at the connections that it closes and at no other. It and a reaping go over the chains that drain: those
-//!   that were not reaped since they began to, which are few where chains are reaped as they fall idle.
+//! - Of the chains that drain, those without a connection are a list, and those with one a set. A reaping takes the list, a drain
+//!   timeout goes over the set, and the last connection of a chain that closes moves it from the set to the list, which has room for
+//!   it: a close takes no memory. So each costs what it reaps, closes or moves. A chain that drains is never accepted on, since no
+//!   number serves and drains; and among the numbers that drain their order says nothing, so a state has them from the least.
+//! - A drain timeout looks at the connections that it closes and at no other.
 #![tactic(auto)]
 
 mod chains;
 mod changes;
 mod closing;
+mod draining;
 mod events;
 mod keys;
 mod listed;

@@ -12,7 +12,7 @@ returns-clause-answer c =
     let tree = view c.args.body.now in
     let self = c.self.inside in
     let chains = chains_in tree in
-    let state : ChainState = record { made = self.made; serving = self.serving; draining = self.draining.items; opened = self.ledger } in
+    let state : ChainState = record { made = self.made; serving = self.serving; draining = ascending (self.draining.idle.items ++ self.draining.busy.keys); opened = self.ledger } in
     let parts = judged_ok (rule_told tree) (record { rows = numbered self.made self.serving chains; made = made_by self.made self.serving chains }) c.in_ok-rows.field-0 c.in_ok-rows.ensures.reading in
     let rows = ap (λ (n : Next). n.rows) parts.1 in
     let made = ap (λ (n : Next). n.made) parts.1 in
@@ -23,17 +23,3 @@ returns-clause-answer c =
     (c.in_ok-ascending.ensures ∙ ap ascending (c.in_ok-plain_numbers.ensures ∙ c.as_slice.ensures.value ∙ gone))
     (c.in_ok-ascending-2.ensures ∙ ap ascending (c.in_ok-parted.ensures.kept ∙ ap (kept_in c.in_ok-rows.field-0.rows) c.rows.ensures))
     c.in_ok-numbers_above.ensures
-
-pub returns-clause-state : goal.returns-clause-state
-returns-clause-state c =
-    let tree = view c.args.body.now in
-    let self = c.self.inside in
-    let chains = chains_in tree in
-    let state : ChainState = record { made = self.made; serving = self.serving; draining = self.draining.items; opened = self.ledger } in
-    let parts = judged_ok (rule_told tree) (record { rows = numbered self.made self.serving chains; made = made_by self.made self.serving chains }) c.in_ok-rows.field-0 c.in_ok-rows.ensures.reading in
-    let rows = ap (λ (n : Next). n.rows) parts.1 in
-    let made = ap (λ (n : Next). n.made) parts.1 in
-    let gone = c.in_ok-parted.ensures.gone ∙ ap (gone_in c.in_ok-rows.field-0.rows) c.rows.ensures in
-    accepted_is chains state c.in_ok-rows.field-0.rows c.in_ok-rows.field-0.made c.extend_from_slice.new.self.items rows made
-    (c.in_ok-extend_from_slice.ensures.items ∙ ap (λ (l : List ℕ). self.draining.items ++ l) (c.as_slice-2.ensures.value ∙ gone))
-    ∙ ap (accepted chains) c.self.view_is
