@@ -11,14 +11,16 @@ use Rattle.ev_model.specs.World.{OpenMember}
 use Rattle.ev_model.specs.Dead.{is_open_on}
 use Rattle.ev_model.specs.Picture.{has_number}
 use Rattle.ev_model.specs.Publishing.{ascending}
-use Rattle.ev_model.specs.Connections.{is_closing, is_member, left_open, member_on}
+use Rattle.ev_model.specs.Connections.{closed_by, is_closing, is_member, left_open, member_on}
 use Rattle.ev_ledger.specs.Members.{AreApart, comes_before, on_in, with_member}
 use Rattle.ev_ledger.proofs.OrderLemmas.{any_put, any_sorted}
 use Rattle.ev_chains.specs.declared.keys.ChainKey.{ChainKey}
 use Rattle.ev_chains.specs.declared.rows.Chain.{Chain}
 use Rattle.ev_chains.specs.declared.rows.Row.{Row}
-use Rattle.ev_chains.specs.Rows.{chosen, first_named, has_clash, match_of, row_has}
+use Rattle.ev_chains.specs.Rows.{asked_port, chosen, first_named, has_clash, match_of, row_has}
 use Rattle.ev_chains.specs.Listed.{number_in}
+use Rattle.ev_chains.specs.Names.{asked_names}
+use Rattle.std.specs.Str.{str_to_ascii_lowercase}
 use Rattle.ev_chains.specs.Listeners.{matches_of}
 use Rattle.ev_chains.specs.State.{busy_among, gone_in, has_open, idle_among, made_by, number_of, numbered}
 use Rattle.ev_chains.specs.Draining.{AreKept, is_foreign, times}
@@ -26,7 +28,7 @@ use Rattle.ev_chains.proofs.ListLemmas.{counts}
 use Rattle.ev_chains.proofs.RowLemmas.{own_number, same_number}
 use Rattle.ev_chains.proofs.NumberLemmas.{counts_same, drawn_then, once_then, times_append, times_cons, times_filter}
 use Rattle.ev_chains.proofs.OpenLemmas.{closing_busy, drained_none, none_left, open_any, open_less, open_other, open_put}
-use Rattle.ev_chains.proofs.DrainLemmas.{all_new, ascending_same, has_times, has_turned, swap_times, times_ascending, times_has}
+use Rattle.ev_chains.proofs.DrainLemmas.{all_new, ascending_same, first_passes, second_passes, has_times, has_turned, swap_times, times_ascending, times_has}
 
 right_true : (a b : Bool) → b ≡ true → (a || b) ≡ true
 right_true true b h = refl
@@ -67,6 +69,9 @@ named_serves port (name ∷ names) rows number is = by (find (row_has record { p
     by (Some row) at h = found_serves (row_has record { port = port; name = name }) rows number (ap number_in at ∙ h)
     by None at h = named_serves port names rows number h
 
+pub chosen_serves : (server : List ℕ) (port : ℕ) (rows : List Row) (number : ℕ) → number_in (chosen server port rows) ≡ Some number → 0 < times number (map number_of rows)
+chosen_serves server port rows number is = named_serves (asked_port port rows) (asked_names (str_to_ascii_lowercase server)) rows number is
+
 module _ (made : ℕ) (serving : List Row) (idle busy : List ℕ) (opened : List OpenMember) (kept : AreKept made serving idle busy opened) where
   parts : (n : ℕ) → times n (map number_of serving ++ (idle ++ busy)) ≡ times n (map number_of serving) + (times n idle + times n busy)
   parts n = let all = times_append n (map number_of serving) (idle ++ busy) in let drains = times_append n idle busy in omega (arith, all, drains)
@@ -96,7 +101,7 @@ module _ (made : ℕ) (serving : List Row) (idle busy : List ℕ) (opened : List
   -- ---- a connection that closes
 
   module _ (conn number : ℕ) (cluster : Option ℕ) (apart : AreApart opened) (on : on_in 0 conn opened ≡ Some (number, cluster)) where
-    abbrev left : List OpenMember
+    abbrev pub left : List OpenMember
     left = filter (λ m. not (is_member 0 conn m)) opened
 
     others_open : (n : ℕ) → has_number n busy ≡ true → (number == n) ≡ false → has_open left n ≡ true
@@ -176,8 +181,14 @@ module _ (made : ℕ) (serving : List Row) (idle busy : List ℕ) (opened : List
   without_any n has = sym (open_any n opened) ∙ kept.without n has
 
   -- it closes what is on the busy ones
-  pub closing_same : (f : Bool → Bool) → filter (λ m. f (is_closing (ascending (idle ++ busy)) 0 m)) opened ≡ filter (λ m. f (is_closing busy 0 m)) opened
+  closing_same : (f : Bool → Bool) → filter (λ m. f (is_closing (ascending (idle ++ busy)) 0 m)) opened ≡ filter (λ m. f (is_closing busy 0 m)) opened
   closing_same f = closing_busy f idle busy opened without_any
+
+  pub closed_same : closed_by busy 0 opened ≡ closed_by (ascending (idle ++ busy)) 0 opened
+  closed_same = ap (λ (ms : List OpenMember). ascending (map (λ (m : OpenMember). m.connection) ms)) (sym (closing_same (λ b. b)))
+
+  pub left_same : left_open busy 0 opened ≡ left_open (ascending (idle ++ busy)) 0 opened
+  left_same = sym (closing_same not)
 
   pub kept_drain : AreKept made serving (idle ++ busy) [] (left_open (ascending (idle ++ busy)) 0 opened)
   kept_drain = record {
@@ -190,6 +201,14 @@ module _ (made : ℕ) (serving : List Row) (idle busy : List ℕ) (opened : List
   }
 
   -- ---- a reaping
+
+  pub reaped_same : ascending idle ≡ ascending (idle_among opened (ascending (idle ++ busy)))
+  reaped_same =
+      sym (ap ascending (first_passes (λ n. not (has_open opened n)) idle busy (λ n has. ap not (kept.without n has)) (λ n has. ap not (kept.with_one n has)))
+      ∙ ascending_same (ascending idle) idle (λ n. times_ascending n idle))
+
+  pub draining_left : ascending busy ≡ busy_among opened (ascending (idle ++ busy))
+  draining_left = sym (second_passes (has_open opened) idle busy kept.without kept.with_one)
 
   pub kept_reap : AreKept made serving [] busy opened
   kept_reap = record {
@@ -204,10 +223,10 @@ module _ (made : ℕ) (serving : List Row) (idle busy : List ℕ) (opened : List
   -- ---- a listener
 
   module _ (chains : List Chain) (clear : has_clash (matches_of chains) ≡ false) where
-    abbrev next : List Row
+    abbrev pub next : List Row
     next = numbered made serving chains
 
-    abbrev gone : List ℕ
+    abbrev pub gone : List ℕ
     gone = gone_in next serving
 
     both : (n : ℕ) → times n (idle_among opened gone) + times n (busy_among opened gone) ≡ times n gone

@@ -37,9 +37,6 @@ times_filter p n (x ∷ xs) = by (p x) (times_filter p n xs)
 
 -- ---- the numbers of rows
 
-numbers : List Row → List ℕ
-numbers rows = map number_of rows
-
 pub row_times : (n : ℕ) (chain : Chain) (rows : List Row) → HasRow n chain rows → 0 < times n (map number_of rows)
 row_times n chain [] has = elim has [ ]
 row_times n chain (row ∷ rows) (inl here) =
@@ -163,7 +160,7 @@ module _ (made : ℕ) (old : List Row) (draining : List ℕ) (chains : List Chai
     (clear_old : has_clash (map match_of old) ≡ false) (clear : has_clash (matches_of chains) ≡ false)
     (once : (n : ℕ) → times n (map number_of old ++ draining) ≤ 1)
     (drawn : (n : ℕ) → made < n → times n (map number_of old ++ draining) ≡ 0) where
-  abbrev next : List Row
+  abbrev pub next : List Row
   next = numbered made old chains
 
   once_old : (n : ℕ) → times n (map number_of old) ≤ 1

@@ -8,9 +8,10 @@ use Rattle.ev_model.specs.World.{OpenMember}
 use Rattle.ev_model.specs.Dead.{is_open_on, is_forwarded_to}
 use Rattle.ev_model.specs.Picture.{has_number}
 use Rattle.ev_model.specs.Publishing.{ascending}
-use Rattle.ev_model.specs.Connections.{is_closing, is_member, is_open, left_open, member_on}
+use Rattle.ev_model.specs.Connections.{closed, is_closing, is_member, is_open, left_open, member_on}
 use Rattle.ev_ledger.specs.Members.{AreApart, comes_before, on_in, with_member}
 use Rattle.ev_ledger.proofs.OrderLemmas.{any_put, any_sorted}
+use Rattle.ev_ledger.proofs.PlaceLemmas.{closed_leaves}
 use Rattle.ev_chains.specs.State.{has_open}
 use Rattle.ev_chains.specs.Draining.{is_foreign}
 
@@ -80,6 +81,18 @@ on_listener n m none = by m.cluster none
     by (Some c) h = absurd (true≢false h)
 
 -- ---- a connection that closes
+
+pub on_open : (w conn : ℕ) (opened : List OpenMember) → is_some (on_in w conn opened) ≡ is_open opened w conn
+on_open w conn [] = refl
+on_open w conn (m ∷ opened) = by (is_member w conn m) (on_open w conn opened)
+  where
+    by : (t : Bool) → is_some (on_in w conn opened) ≡ is_open opened w conn
+        → is_some (option_map (λ (x : OpenMember). (x.listener, x.cluster)) (cond t (Some m) (find (is_member w conn) opened))) ≡ (t || is_open opened w conn)
+    by true rest = refl
+    by false rest = rest
+
+pub none_closes : (w conn : ℕ) (opened : List OpenMember) → is_open opened w conn ≡ false → (closed conn w opened).opened ≡ opened
+none_closes w conn opened none = closed_leaves w conn opened ∙ all_stay (is_member w conn) opened none
 
 none_of : (w conn wm cm : ℕ) (ms : List OpenMember) → ((wm == w) && (cm == conn)) ≡ true → is_open ms wm cm ≡ false → is_open ms w conn ≡ false
 none_of w conn wm cm ms h none =

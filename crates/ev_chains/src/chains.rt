@@ -126,12 +126,12 @@ impl Chains {
         ensures answer { result ≡ is_open self.old.opened 0 conn }
         ensures state { self.new ≡ close conn self.old }
     {
-        let Some((number, _)) = self.ledger.on(0, conn) else {
+        let Some(on) = self.ledger.on(0, conn) else {
             return false;
         };
         self.ledger.close(0, conn);
-        if !has_open(&self.ledger, number) {
-            self.draining.end(number);
+        if !has_open(&self.ledger, on.0) {
+            self.draining.end(on.0);
         }
         true
     }
