@@ -73,13 +73,9 @@ pub fn read_script_with<S: Source, F: Forms<Kept = Line>>(
     ensures count { S.faults source.old ≤ S.faults source.new }
 {
     let ReadLines { heading, kept, .. } = read_lines_with(alloc, forms, false, lines, source)?;
-    let Ok(header) = read_heading(alloc, heading.as_slice()) else {
-        return Err(ScriptFault::OutOfMemory);
-    };
-    match made_script(header, kept) {
-        Ok(script) => Ok(script),
-        Err(_) => Err(ScriptFault::OutOfMemory),
-    }
+    let header = read_heading(alloc, heading.as_slice())?;
+    let script = made_script(header, kept)?;
+    Ok(script)
 }
 
 /// A script with a journal after it.
@@ -123,13 +119,9 @@ pub fn read_audited_script<S: Source>(
     let Some(journal) = journal else {
         unreachable!()
     };
-    let Ok(header) = read_heading(alloc, heading.as_slice()) else {
-        return Err(ScriptFault::OutOfMemory);
-    };
-    match made_script(header, kept) {
-        Ok(script) => Ok(AuditedScript { script, journal }),
-        Err(_) => Err(ScriptFault::OutOfMemory),
-    }
+    let header = read_heading(alloc, heading.as_slice())?;
+    let script = made_script(header, kept)?;
+    Ok(AuditedScript { script, journal })
 }
 
 // What the text of a header says.

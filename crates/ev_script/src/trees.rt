@@ -117,10 +117,8 @@ pub fn read_trees_with<S: Source, F: Forms<Kept = Value>>(
     ensures count { S.faults source.old ≤ S.faults source.new }
 {
     let ReadLines { heading, kept, .. } = read_lines_with(alloc, forms, false, lines, source)?;
-    match made_trees(alloc, heading.as_slice(), kept) {
-        Ok(trees) => Ok(trees),
-        Err(_) => Err(ScriptFault::OutOfMemory),
-    }
+    let trees = made_trees(alloc, heading.as_slice(), kept)?;
+    Ok(trees)
 }
 
 // The trees of a script whose first line is a header of this text.

@@ -9,15 +9,15 @@ use Rattle.ev_script.proofs.script.read_audited_script.Goals as goal
 pub made_script-requires-clause-numbered : goal.made_script-requires-clause-numbered
 made_script-requires-clause-numbered g c =
     let r = c.in_ok-heading.ensures.reads in
-    numbered_read plain_lines IsLine (input_of true c.read_lines_with.new.lines r.0) c.in_ok-heading.field-0 c.in-Ok.header (λ tree. refl) keeps_plain r.3
-    (subst (λ (text : List ℕ). IsHeaderOf text c.in-Ok.header) c.as_slice.ensures.value c.in-Ok.ensures.header)
+    numbered_read plain_lines IsLine (input_of true c.read_lines_with.new.lines r.0) c.in_ok-heading.field-0 c.in_ok-header.header (λ tree. refl) keeps_plain r.3
+    (subst (λ (text : List ℕ). IsHeaderOf text c.in_ok-header.header) c.as_slice.ensures.value c.in_ok-header.ensures.header)
 
-pub returns-in-Ok-made_script-clause-reads : goal.returns-in-Ok-made_script-clause-reads
-returns-in-Ok-made_script-clause-reads g c =
+pub returns-clause-reads : goal.returns-clause-reads
+returns-clause-reads g c =
     let r = c.in_ok-heading.ensures.reads in (
       r.0,
       r.1,
       r.2,
-      answer_audited IsLine (input_of true c.read_lines_with.new.lines r.0) c.in_ok-heading.field-0 c.in-Ok.header c.in-Ok-made_script.script c.in-Some.journal keeps_plain r.3
-          (subst (λ (text : List ℕ). IsHeaderOf text c.in-Ok.header) c.as_slice.ensures.value c.in-Ok.ensures.header) c.in-Some.is c.in-Ok-made_script.ensures,
+      answer_audited IsLine (input_of true c.read_lines_with.new.lines r.0) c.in_ok-heading.field-0 c.in_ok-header.header c.in_ok-script.script c.in-Some.journal keeps_plain r.3
+          (subst (λ (text : List ℕ). IsHeaderOf text c.in_ok-header.header) c.as_slice.ensures.value c.in_ok-header.ensures.header) c.in-Some.is c.in_ok-script.ensures,
     )
