@@ -49,7 +49,7 @@ pub(crate) fn line_at(script: &Script, place: u32) -> &Line
     &script.lines.as_slice()[place as usize]
 }
 
-// An actor of the main side does what is due next.
+// An actor of the main side does what is due next. It may make no settle, so that none is due.
 fn act<R: Threads + Wait + Sync, J: Journaled, P: Pace>(
     rt: &R,
     gate: &Gate<Kept<J>>,
@@ -80,8 +80,22 @@ fn act<R: Threads + Wait + Sync, J: Journaled, P: Pace>(
             let line = line_at(script, place);
             take_turn(rt, gate, pace, pass, actor, line.at, 2, &Event::Reap)
         }
-        Due::Settle(_) => unreachable!(),
-        Due::LastSettle => unreachable!(),
+        Due::Settle(place) => {
+            let line = line_at(script, place);
+            take_turn(rt, gate, pace, pass, actor, line.at, 1, &Event::Settle)
+        }
+        Due::LastSettle => {
+            take_turn(
+                rt,
+                gate,
+                pace,
+                pass,
+                actor,
+                script.count + 1,
+                0,
+                &Event::Settle,
+            )
+        }
     }
 }
 
