@@ -15,3 +15,4 @@ mod steps;
 pub use journaled::Journaled;
 pub use passes::replays_in_one_pass;
 pub use replays::replay;
+pub use steps::join;

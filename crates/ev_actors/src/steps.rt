@@ -31,8 +31,8 @@ pub(crate) fn settle<R: Journaled>(
     Ok(())
 }
 
-// An accept or close joins the batch of its worker; at any other line nothing is done. It answers whether the line has joined.
-fn join(alloc: Global, worker: &mut Worker, line: &Line) -> Result<bool, AllocError>
+/// An accept or close joins the batch of its worker; at any other line nothing is done. It answers whether the line has joined.
+pub fn join(alloc: Global, worker: &mut Worker, line: &Line) -> Result<bool, AllocError>
     requires room { is_batched line.now.event ≡ true → length worker.old.lines < batch_limit }
     ensures answer { IfOk result (λ joined. joined ≡ is_batched line.now.event) }
     ensures joined { OnOk result (is_batched line.now.event ≡ true → HasJoined line.now worker.old worker.new) }

@@ -13,7 +13,7 @@ use Rattle.ev_worker.specs.Workers.{WorkerParts}
 use Rattle.ev_actors.specs.Journals.{JournalParts}
 use Rattle.ev_actors.specs.Taken.{HasJoined}
 use Rattle.ev_actors.specs.Working.{operations_made}
-use Rattle.ev_actors.proofs.LineLemmas.{settle_is, worker_batches}
+use Rattle.ev_actors.proofs.LineLemmas.{settle_is, worker_settles}
 use Rattle.ev_commits.specs.Seen.{HasCommitted, IsLeftOut, LearnsAtRest}
 use Rattle.ev_fits.specs.Acting.{GoesThrough, settle_of}
 use Rattle.ev_fits.proofs.WorkLemmas.{commits, joins, leaves_out}
@@ -32,12 +32,12 @@ settle_line worker line own is =
     ap (λ (a : Actor). record { actor = a; at = line.at; step = 0; event = Settle }) (sym own)
     ∙ ap (λ (e : Event). record { actor = line.actor; at = line.at; step = 0; event = e }) (sym (settle_is line.event is))
 
--- a line of a worker that is no settle is an accept or close
-pub line_batches : (workers worker : ℕ) (line : Line) → line.actor ≡ Worker worker → MayMake workers line.actor line.event → is_settle line.event ≡ false
-    → is_batched line.event ≡ true
-line_batches workers worker line own may is = worker_batches workers worker line.event (subst (λ a. MayMake workers a line.event) own may) is
+-- a line of a worker that is no accept or close is a settle
+pub line_settles : (workers worker : ℕ) (line : Line) → line.actor ≡ Worker worker → MayMake workers line.actor line.event → is_batched line.event ≡ false
+    → is_settle line.event ≡ true
+line_settles workers worker line own may other = worker_settles workers worker line.event (subst (λ a. MayMake workers a line.event) own may) other
 
--- and has gone through once it joined the batch
+-- an accept or close has gone through once it joined the batch
 pub joined_goes : (script : ScriptParts) (line : Line) (parts : JournalParts) (old new : WorkerParts) → line.actor ≡ Worker old.number → is_batched line.event ≡ true
     → HasJoined line old new → GoesThrough script (line_operation line) parts parts old new
 joined_goes script line parts old new own batched joined = λ left was.

@@ -85,16 +85,8 @@ fn act<R: Threads + Wait + Sync, J: Journaled, P: Pace>(
             take_turn(rt, gate, pace, pass, actor, line.at, 1, &Event::Settle)
         }
         Due::LastSettle => {
-            take_turn(
-                rt,
-                gate,
-                pace,
-                pass,
-                actor,
-                script.count + 1,
-                0,
-                &Event::Settle,
-            )
+            let at = script.count + 1;
+            take_turn(rt, gate, pace, pass, actor, at, 0, &Event::Settle)
         }
     }
 }

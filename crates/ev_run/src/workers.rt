@@ -1,11 +1,11 @@
-ghost use Rattle.std.specs.Prelude.{◌≡◌, ◌<◌, ◌+◌, true, length, OnOk};
+ghost use Rattle.std.specs.Prelude.{◌≡◌, ◌<◌, true, length, OnOk};
 ghost use Rattle.ev_types.specs.declared.events.Actor.TheVariants.{Worker as by_worker};
 ghost use Rattle.ev_model.specs.Dead.{last_picture};
 ghost use Rattle.ev_types.specs.Events.{MayMake};
-ghost use Rattle.ev_model.specs.Operations.{batch_limit, is_settle as is_settle_event, line_operation};
+ghost use Rattle.ev_model.specs.Operations.{batch_limit, line_operation};
 ghost use Rattle.ev_model.specs.Runs.{is_batched};
 ghost use Rattle.ev_actors.specs.Journals.{WorksIn, nothing_done, world_now};
-ghost use Rattle.ev_actors.specs.Taken.{HasBegun, HasJoined};
+ghost use Rattle.ev_actors.specs.Taken.{HasBegun};
 ghost use Rattle.ev_commits.specs.Commits.{seat_of};
 ghost use Rattle.ev_commits.specs.Seen.{seen_by};
 ghost use Rattle.ev_fits.specs.Acting.{GoesThrough, HasEnded, HasGoneThrough, IsNextWork, IsWorkingOn, settle_of};
@@ -14,11 +14,11 @@ ghost use Rattle.ev_run.specs.Playing.{IsGateFor, IsNewPass, IsPassAt};
 use crate::main_side::line_at;
 use crate::pace::Pace;
 use crate::player::worker_count;
-use ev_actors::Journaled;
+use ev_actors::{Journaled, join};
 use ev_commits::{Kept, settle};
 use ev_gate::{Gate, Pass};
 use ev_operations::{Due, operations};
-use ev_types::{Actor, Event, Line, Script, TryCopy};
+use ev_types::{Actor, Line, Script};
 use ev_worker::Worker;
 use std::alloc::{AllocError, Global};
 use std::sync::Wait;
@@ -53,26 +53,6 @@ fn settle_at<R: Threads + Wait + Sync, J: Journaled, P: Pace>(
     }
 }
 
-// An accept or close joins the batch of its worker.
-fn join(alloc: Global, worker: &mut Worker, line: &Line) -> Result<(), AllocError>
-    requires room { length worker.old.lines < batch_limit }
-    requires batched { is_batched line.now.event ≡ true }
-    ensures { OnOk result (HasJoined line.now worker.old worker.new) }
-{
-    match &line.event {
-        Event::Accept(ask) => {
-            let ask = ask.copy(alloc)?;
-            let _ = worker.accept(line.at, ask);
-            Ok(())
-        }
-        Event::Close(conn) => {
-            let _ = worker.close(line.at, *conn);
-            Ok(())
-        }
-        _ => unreachable!(),
-    }
-}
-
 // A worker does a line: a settle it makes or leaves out, and an accept or close joins its batch.
 fn work_line<R: Threads + Wait + Sync, J: Journaled, P: Pace>(
     rt: &R,
@@ -96,21 +76,14 @@ fn work_line<R: Threads + Wait + Sync, J: Journaled, P: Pace>(
     ensures through { OnOk result.1 (GoesThrough script.now (line_operation line.now)
         (seen_by J.shows gate.now pass) (seen_by J.shows gate.now result.0) worker.old worker.new) }
 {
-    if is_settle(&line.event) {
-        return settle_at(rt, gate, script, pace, pass, worker, line.at, 0);
+    match join(alloc, worker, line) {
+        Ok(true) => (pass, Ok(())),
+        Ok(false) => settle_at(rt, gate, script, pace, pass, worker, line.at, 0),
+        Err(error) => (pass, Err(error)),
     }
-    let joined = join(alloc, worker, line);
-    (pass, joined)
 }
 
-// Whether the event is a settle.
-fn is_settle(event: &Event) -> bool
-    ensures { result ≡ is_settle_event event.now }
-{
-    matches!(event, Event::Settle)
-}
-
-// A worker does what is due next.
+// A worker does what is due next: a line, or else a settle. It may neither publish nor reap, so that neither is due.
 fn work<R: Threads + Wait + Sync, J: Journaled, P: Pace>(
     rt: &R,
     gate: &Gate<Kept<J>>,
@@ -135,9 +108,7 @@ fn work<R: Threads + Wait + Sync, J: Journaled, P: Pace>(
             let line = line_at(script, place);
             work_line(rt, gate, alloc, script, pace, pass, worker, line)
         }
-        Due::Publish(_) => unreachable!(),
-        Due::Reap(_) => unreachable!(),
-        Due::Settle(place) => {
+        Due::Publish(place) | Due::Reap(place) | Due::Settle(place) => {
             let line = line_at(script, place);
             settle_at(rt, gate, script, pace, pass, worker, line.at, 1)
         }
