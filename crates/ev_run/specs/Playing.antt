@@ -1,5 +1,5 @@
 -- The actors of a threaded run: what each begins with, what it knows when it is over, and the whole. This project's own.
-use Rattle.std.specs.Prelude.{ℕ, ◌≡◌, ◌<◌, Bool, true, List, [], length, get_or, Option, IsSomeAnd}
+use Rattle.std.specs.Prelude.{ℕ, ◌≡◌, ◌<◌, Bool, true, List, [], length, get_or}
 use Rattle.ev_types.specs.Events.{IsMainSide}
 use Rattle.ev_types.specs.Scripts.{ScriptParts}
 use Rattle.ev_types.specs.declared.events.Actor.{Actor}
@@ -54,17 +54,13 @@ module _ {J : Type 0} (shows : J → JournalParts) where
       pub seen : seen_by shows gate pass ≡ nothing_done script
 
     -- an actor may begin at a gate of the script
-    abbrev pub IsReady : ScriptParts → Gate (Kept J) Began (List Entry) → ℕ → Task → Option (Pass (Kept J) Began (List Entry) g) → Type 0
-    IsReady script gate seat task pass = IsGateFor script gate × IsTask script seat task × IsSomeAnd pass (IsNewPass script gate seat)
+    abbrev pub IsReady : ScriptParts → Gate (Kept J) Began (List Entry) → ℕ → Task → Pass (Kept J) Began (List Entry) g → Type 0
+    IsReady script gate seat task pass = IsGateFor script gate × IsTask script seat task × IsNewPass script gate seat pass
 
     -- what a pass has seen holds all that its actor is to do, where the actor came to its end
     pub record IsOverAt (script : ScriptParts) (gate : Gate (Kept J) Began (List Entry)) (ended : Bool) (seat : ℕ) (pass : Pass (Kept J) Began (List Entry) g) : Type 0 where
       pub at_gate : IsPassAt gate seat pass
       pub over : ended ≡ true → (actor : Actor) → seat_of actor ≡ seat → HasEnded script actor (seen_by shows gate pass)
-
-    -- an actor is over
-    abbrev pub IsOver : ScriptParts → Gate (Kept J) Began (List Entry) → ℕ → Bool → Option (Pass (Kept J) Began (List Entry) g) → Type 0
-    IsOver script gate seat ended pass = IsSomeAnd pass (IsOverAt script gate ended seat)
 
 -- it has the script's workers and node, and its journal is a run of format 2 that holds each actor's operations of the script, and has
 -- the laws; where a worker rests it has settled only on a newer picture, so the journal need be no replay's

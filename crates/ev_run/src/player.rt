@@ -14,11 +14,11 @@ pub(crate) enum Task {
     Worker(Worker),
 }
 
-/// An actor in its thread. Its pass lies in an `Option`, so that the thread can take it and put it back.
+/// An actor in its thread, with its pass, and whether it came to its end.
 pub(crate) struct Player<V: Stands> {
     pub task: Task,
     pub ended: bool,
-    pub pass: Option<Pass<V>>,
+    pub pass: Pass<V>,
 }
 
 /// How many workers a script has, and what its type keeps.

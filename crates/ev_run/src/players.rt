@@ -1,10 +1,11 @@
 ghost use Rattle.std.specs.Prelude.{◌≡◌, ◌≤◌, ◌+◌, ◌<◌, ◌&&◌, ℕ, [], length, true, vec_capacity, slice_index_or};
-ghost use Rattle.ev_run.specs.Playing.{IsGateFor, IsNewPass, IsOver, IsOverAt, IsReady, IsTask};
+ghost use Rattle.ev_run.specs.Playing.{IsGateFor, IsNewPass, IsOverAt, IsReady, IsTask};
 
 use crate::main_side::act_main;
 use crate::pace::Pace;
 use crate::player::{Player, Task};
 use crate::workers::act_worker;
+use core::mem::replace_with;
 use ev_actors::Journaled;
 use ev_commits::Kept;
 use ev_gate::{Gate, Pass};
@@ -15,7 +16,7 @@ use std::sync::Wait;
 use std::thread;
 use std::thread::Threads;
 
-// An actor takes its pass, does all its operations and puts the pass back.
+// An actor does all its operations, and its pass comes back.
 fn play<R: Threads + Wait + Sync, J: Journaled, P: Pace>(
     rt: &R,
     gate: &Gate<Kept<J>>,
@@ -26,16 +27,36 @@ fn play<R: Threads + Wait + Sync, J: Journaled, P: Pace>(
     player: &mut Player<Kept<J>>,
 )
     requires ready { IsReady J.shows script.now gate.now seat player.old.task player.old.pass }
-    ensures { IsOver J.shows script.now gate.now seat player.new.ended player.new.pass }
+    ensures { IsOverAt J.shows script.now gate.now player.new.ended seat player.new.pass }
 {
-    let taken = player.pass.take().unwrap();
-    let (back, ended) = match &mut player.task {
-        Task::MainSide(actor) => act_main(rt, gate, alloc, script, pace, taken, *actor),
-        Task::Worker(worker) => act_worker(rt, gate, alloc, script, pace, taken, worker),
-    };
-    player.ended = ended;
-    let before = player.pass.replace(back);
-    let None = before else { unreachable!() };
+    player.ended = replace_with(
+        &mut player.pass,
+        &mut player.task,
+        |pass: Pass<Kept<J>>, task: &mut Task|
+            requires { IsReady J.shows script.now gate.now seat task.old pass }
+            ensures { IsOverAt J.shows script.entry.now gate.entry.now result.1 seat result.0 }
+        { play_task(rt, gate, alloc, script, pace, seat, task, pass) },
+    );
+}
+
+// The same, by what the actor begins with and its pass. It answers whether the actor came to its end.
+fn play_task<R: Threads + Wait + Sync, J: Journaled, P: Pace>(
+    rt: &R,
+    gate: &Gate<Kept<J>>,
+    alloc: Global,
+    script: &Script,
+    pace: &P,
+    seat: usize,
+    task: &mut Task,
+    pass: Pass<Kept<J>>,
+) -> (Pass<Kept<J>>, bool)
+    requires ready { IsReady J.shows script.now gate.now seat task.old pass }
+    ensures { IsOverAt J.shows script.now gate.now result.1 seat result.0 }
+{
+    match task {
+        Task::MainSide(actor) => act_main(rt, gate, alloc, script, pace, pass, *actor),
+        Task::Worker(worker) => act_worker(rt, gate, alloc, script, pace, pass, worker),
+    }
 }
 
 /// All actors at once, each in a thread of its own.
@@ -50,7 +71,7 @@ pub(crate) fn play_all<R: Threads + Wait + Sync, J: Journaled + Send, P: Pace + 
     requires ready { (i : ℕ) (d : _) → i < length players.old → let p = slice_index_or players.old i d in
         IsReady J.shows script.now gate.now i p.task p.pass }
     ensures { (i : ℕ) (d : _) → i < length players.old → let p = slice_index_or players.new i d in
-        IsOver J.shows script.now gate.now i p.ended p.pass }
+        IsOverAt J.shows script.now gate.now p.ended i p.pass }
 {
     let threads = players.len().max(1);
     thread::for_each_mut(
@@ -59,7 +80,7 @@ pub(crate) fn play_all<R: Threads + Wait + Sync, J: Journaled + Send, P: Pace + 
         threads,
         &|seat: usize, player: &mut Player<Kept<J>>|
             requires { IsReady J.shows script.now gate.now seat player.old.task player.old.pass }
-            ensures { IsOver J.shows script.entry.now gate.entry.now seat player.new.ended player.new.pass }
+            ensures { IsOverAt J.shows script.entry.now gate.entry.now player.new.ended seat player.new.pass }
         { play(rt, gate, alloc, script, pace, seat, player) },
     );
 }
@@ -88,7 +109,7 @@ pub(crate) fn players_of<J: Journaled>(
         players.push_reserved(Player {
             task,
             ended: false,
-            pass: Some(pass),
+            pass,
         });
     }
     passes.destroy_empty();
@@ -104,7 +125,7 @@ pub(crate) fn passes_of<J: Journaled>(
 ) -> (Vec<Pass<Kept<J>>>, bool)
     requires room { (passes.items ≡ []) × (length players.items ≤ vec_capacity passes) }
     requires over { (i : ℕ) (d : _) → i < length players.items → let p = slice_index_or players.items i d in
-        IsOver J.shows script.now gate.now i p.ended p.pass }
+        IsOverAt J.shows script.now gate.now p.ended i p.pass }
     ensures count { length result.0.items ≡ length players.items }
     ensures over { (k : ℕ) (d : _) → k < length result.0.items →
         IsOverAt J.shows script.now gate.now result.1 k (slice_index_or result.0.items k d) }
@@ -118,7 +139,7 @@ pub(crate) fn passes_of<J: Journaled>(
             pass,
         } = player;
         all = both(all, ended);
-        passes.push_reserved(pass.unwrap());
+        passes.push_reserved(pass);
     }
     players.destroy_empty();
     (passes, all)

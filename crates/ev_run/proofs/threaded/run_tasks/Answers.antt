@@ -1,6 +1,6 @@
 use Rattle.std.proofs.Common.{◌≡◌, ◌<◌, ◌++◌, length, take, drop, get_or, ap, sym, ◌∙◌, subst, arith}
 use Rattle.std.proofs.Math.Seq.{take-append_seam}
-use Rattle.ev_run.specs.Playing.{IsOver}
+use Rattle.ev_run.specs.Playing.{IsOverAt}
 use Rattle.ev_run.proofs.SeatLemmas.{new_passes}
 use Rattle.ev_run.proofs.threaded.run_tasks.Goals as goal
 
@@ -19,4 +19,4 @@ passes_of-passes-requires-clause-over g c = λ i d below.
     let are : take c.players_of-players.result.len (new ++ drop (length new) old) ≡ new =
     ap (λ n. take n (new ++ drop (length new) old)) (sym same) ∙ take-append_seam new (drop (length new) old) in
     let within : i < length c.as_mut_slice.result.now = subst (λ n. i < n) kept (subst (λ ps. i < length ps) are below) in
-    subst (λ ps. IsOver g.J.Journaled.shows c.args.script.now c.in-Ok.gate i (get_or ps i d).ended (get_or ps i d).pass) (sym are) (c.play_all.ensures i d within)
+    subst (λ ps. IsOverAt g.J.Journaled.shows c.args.script.now c.in-Ok.gate (get_or ps i d).ended i (get_or ps i d).pass) (sym are) (c.play_all.ensures i d within)
