@@ -1,0 +1,45 @@
+//! Keys of hash tables. A table whose hasher is the same at every start lets whoever chooses the names that go into it choose names
+//! that all meet in one place, and then each look-up compares them all. So the tables of this program hash by keys that are made of
+//! the input: a name can't be chosen after its keys.
+#![tactic(auto)]
+
+use std::hash::{BuildHasher, DefaultHasher, Hash, Hasher};
+
+/// The keys by which a table hashes. A copy hashes alike.
+#[derive(Clone, Copy)]
+pub struct Keys {
+    start: DefaultHasher,
+}
+
+impl Keys {
+    /// The keys after what a hasher was fed, as the lines of an input.
+    pub fn after(fed: DefaultHasher) -> Keys {
+        let mut hasher = fed;
+        let first = hasher.finish();
+        hasher.write_u64(first);
+        let second = hasher.finish();
+        let mut start = DefaultHasher::new();
+        start.write_u64(first);
+        start.write_u64(second);
+        Keys { start }
+    }
+
+    /// The keys after these values: for a table that is made of them at once.
+    pub fn of<T: Hash>(values: &[T]) -> Keys {
+        let mut fed = DefaultHasher::new();
+        for value in values {
+            value.hash(&mut fed);
+        }
+        Keys::after(fed)
+    }
+}
+
+impl BuildHasher for Keys {
+    type Hasher = DefaultHasher;
+
+    ghost build_hasher = { λ keys. keys.start };
+
+    fn build_hasher(&self) -> DefaultHasher {
+        self.start
+    }
+}
