@@ -3,6 +3,7 @@ ghost use Rattle.std.specs.Prelude.{◌≡◌, []};
 
 use ev_drain::Drain;
 use ev_endpoints::Endpoints;
+use ev_keys::Keys;
 use ev_ledger::Ledger;
 use ev_subscription::Subscription;
 use ev_types::{Gen, Host, Kind, Name, Text, TryCopy};
@@ -76,7 +77,7 @@ fn copied_result(alloc: Global, results: &mut Endpoints) -> Result<Option<bool>,
 
 // The same of copied results.
 fn result_of_copy(alloc: Global) -> Result<Option<bool>, Fail> {
-    let mut results = Endpoints::new(alloc);
+    let mut results = Endpoints::new(alloc, Keys::of(&[1u32]));
     let told = copied_result(alloc, &mut results);
     drop(results);
     told
