@@ -16,7 +16,10 @@ pub(crate) struct KeyedScript {
 }
 
 // Reads the script that the source's bytes are.
-pub(crate) fn read_input<S: Source>(alloc: Global, source: &mut S) -> Result<KeyedScript, ScriptFault>
+pub(crate) fn read_input<S: Source>(
+    alloc: Global,
+    source: &mut S,
+) -> Result<KeyedScript, ScriptFault>
     ensures reads { ReadsScript (S.left source.old) (S.left source.new) result }
     ensures failed { result ≡ Err ScriptFault.Read → Rose (S.faults source.old) (S.faults source.new) }
     ensures unended { result ≡ Err ScriptFault.Read → S.ended source.new ≡ S.ended source.old }

@@ -198,11 +198,7 @@ fn put_new(hosts: &mut Hosts, host: Host, healthy: bool) -> Result<(), AllocErro
 }
 
 // The results of the hosts that are among these rows.
-fn standing(
-    alloc: Global,
-    hosts: &Hosts,
-    rows: &[HostRow],
-) -> Result<Hosts, AllocError>
+fn standing(alloc: Global, hosts: &Hosts, rows: &[HostRow]) -> Result<Hosts, AllocError>
     ensures { IfOk result (λ kept. KeepsAmong hosts.now kept rows.now) }
 {
     let mut kept = IndexMap::with_hasher(alloc, *hosts.hasher());

@@ -44,12 +44,7 @@ pub struct Proxy {
 impl Proxy {
     /// Nothing is known yet, and each of this many workers holds the empty picture. The tables by what an input names hash by
     /// these keys.
-    pub fn new(
-        alloc: Global,
-        keys: Keys,
-        workers: u32,
-        node: &Text,
-    ) -> Result<Proxy, AllocError>
+    pub fn new(alloc: Global, keys: Keys, workers: u32, node: &Text) -> Result<Proxy, AllocError>
         ensures at { IfOk result (λ p. IsAt p (opening workers node.now)) }
         ensures deferred { IfOk result (λ p. p.deferred.0 ≡ []) }
     {

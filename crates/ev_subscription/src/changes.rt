@@ -70,11 +70,7 @@ fn insert<'a>(set: &mut NameSet<'a>, name: &'a str) -> Result<(), AllocError>
 }
 
 // Those names that aren't in the set, in their order.
-fn outside(
-    alloc: Global,
-    set: &NameSet<'_>,
-    names: &[Name],
-) -> Result<Vec<Name>, AllocError>
+fn outside(alloc: Global, set: &NameSet<'_>, names: &[Name]) -> Result<Vec<Name>, AllocError>
     ensures { IfOk result (λ left. left.items ≡ names_outside set.now names.now) }
 {
     let mut left = Vec::new(alloc);
