@@ -26,11 +26,7 @@ pub(crate) fn domains_in(
 }
 
 // The domains of each virtual host of a table, in order.
-fn domains_of(
-    alloc: Global,
-    keys: Keys,
-    table: &Shared<RouteTable>,
-) -> Result<Domains, AllocError>
+fn domains_of(alloc: Global, keys: Keys, table: &Shared<RouteTable>) -> Result<Domains, AllocError>
     ensures { IfOk result (λ domains. domains ≡ domains_of table.now) }
 {
     let mut domains = Domains::new(alloc, keys);
