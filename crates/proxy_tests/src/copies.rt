@@ -8,6 +8,7 @@ use ev_ledger::Ledger;
 use ev_subscription::Subscription;
 use ev_types::{Gen, Host, Kind, Name, Text, TryCopy};
 use std::alloc::Global;
+use std::hash::DefaultHasher;
 use std::mem::drop;
 use std::test::Fail;
 
@@ -26,7 +27,7 @@ fn copy_and_remove(alloc: Global, drain: &mut Drain) -> Result<bool, Fail>
 
 // Whether a row that is removed stays in a copy.
 fn removed_row_stays(alloc: Global) -> Result<bool, Fail> {
-    let mut drain = Drain::new(alloc);
+    let mut drain = Drain::new(alloc, Keys::after(DefaultHasher::new()));
     let stays = copy_and_remove(alloc, &mut drain);
     drop(drain);
     stays
