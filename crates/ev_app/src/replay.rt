@@ -57,5 +57,5 @@ pub(crate) fn replay(alloc: Global, keys: Keys, script: &Script) -> Result<Regis
     ensures { IfOk result (λ registry. HasReplayed script.now registry.journaled) }
 {
     let registry = Registry::new(alloc, keys, script.workers, &script.node, Format::Two)?;
-    ev_actors::replay(alloc, script, registry)
+    ev_actors::replay(alloc, keys, script, registry)
 }

@@ -85,5 +85,5 @@ fn run<R: Threads + Wait + Sync, P: Pace + Sync>(
     ensures { IfOk result (λ registry. HasRun script.now registry.journaled) }
 {
     let registry = Registry::new(alloc, keys, script.workers, &script.node, Format::Two)?;
-    ev_run::run(rt, alloc, script, pace, registry)
+    ev_run::run(rt, alloc, keys, script, pace, registry)
 }

@@ -38,7 +38,7 @@ const SCRIPT: &str = r#"{"workers":1}
 fn replayed(alloc: Global, script: &Script) -> Result<Vec<u8>, AllocError> {
     let keys = Keys::of(&[script.count]);
     let registry = Registry::new(alloc, keys, script.workers, &script.node, Format::Two)?;
-    let registry = ev_actors::replay(alloc, script, registry)?;
+    let registry = ev_actors::replay(alloc, keys, script, registry)?;
     let text = render_journal(alloc, Format::Two, 1, registry.journal());
     drop(registry);
     text

@@ -69,7 +69,7 @@ fn run_at<R: Threads + Wait + Sync, P: Pace + Sync>(
     let script = read(alloc, text)?;
     let keys = Keys::of(&[script.count]);
     let begun = Registry::new(alloc, keys, script.workers, &script.node, Format::Two)?;
-    let ran = run(rt, alloc, &script, pace, begun);
+    let ran = run(rt, alloc, keys, &script, pace, begun);
     drop(script);
     Ok(ran?)
 }

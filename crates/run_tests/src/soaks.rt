@@ -39,7 +39,7 @@ fn the_run_of_a_soak_is_legal(rt: HostRuntime) -> Result<(), Fail> {
     let script = script(alloc, SEED, COUNT)?;
     let keys = Keys::of(&[SEED]);
     let begun = Registry::new(alloc, keys, script.workers, &script.node, Format::Two)?;
-    let registry = run(&rt, alloc, &script, &Free, begun)?;
+    let registry = run(&rt, alloc, keys, &script, &Free, begun)?;
     let rows = rows_of(alloc, registry.journal());
     drop(registry);
     let rows = rows?;
