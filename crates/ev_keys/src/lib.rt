@@ -1,6 +1,5 @@
-//! Keys of hash tables. A table whose hasher is the same at every start lets whoever chooses the names that go into it choose names
-//! that all meet in one place, and then each look-up compares them all. So the tables of this program hash by keys that are made of
-//! the input: a name can't be chosen after its keys.
+//! Keys by which tables of an input's names hash, made of that input: a name can't be chosen after its keys, so nobody can make
+//! names that all meet in one place of a table, where each look-up would compare them all.
 #![tactic(auto)]
 
 use std::hash::{BuildHasher, DefaultHasher, Hash, Hasher};
