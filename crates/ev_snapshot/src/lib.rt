@@ -22,6 +22,8 @@
 //!   of clusters is kept. What contracts see is computed from the table by name (`listing`); that two lists in the
 //!   order of names with the same look-ups are equal is the lemma by which each change of the tables is one of the
 //!   list.
+//! - All tables hash by the keys that the first snapshot is given, which are made of the input: so none is made of keys
+//!   that were chosen to meet in it. Those by number need none, and have them as a part of the one type of tables.
 //! - Whether anything changed is asked under the names that the changes touch, before and after: that all others are
 //!   as before is proved, so *unchanged* needs no look at them.
 //! - A change is a number and what serves of it now. All numbers go before any is put in, so an update, which ends

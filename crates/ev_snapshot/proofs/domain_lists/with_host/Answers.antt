@@ -1,7 +1,7 @@
-use Rattle.std.proofs.Common.{◌≡◌, ℕ, ◌+◌, ◌<◌, ◌++◌, List, [], ◌∷◌, length, map, take, get_or, ap, sym, ◌∙◌, subst, arith}
+use Rattle.std.proofs.Common.{◌≡◌, ℕ, ◌+◌, ◌<◌, ◌≤◌, ◌++◌, List, [], ◌∷◌, length, map, take, get_or, ap, sym, ◌∙◌, subst, arith}
 use Rattle.std.specs.Str.{str_to_ascii_lowercase}
 use Rattle.std.proofs.lemmas.Grind.{common_steps}
-use Rattle.std.proofs.lemmas.List.{map_more}
+use Rattle.std.proofs.lemmas.List.{append-nil, map_more, take_all}
 use Rattle.ev_types.specs.declared.routes.VirtualHost.{VirtualHost}
 use Rattle.ev_model.specs.Choice.{HostDomain}
 use Rattle.ev_snapshot.specs.Domains.{host_at, lower_domain}
@@ -31,3 +31,20 @@ loop-domain-preserved c =
     c.loop-domain.domains c.in_ok-domains.domains c.in_ok-lower_domain.field-0
     (omega arith) same c.domain-item.is c.loop-domain.invariant (c.in_ok-lower_domain.ensures ∙ ap (lower_domain c.domain-item.result) is)
     (c.in_ok-domains.ensures ∙ ap (λ ds. ds ++ c.in_ok-lower_domain.field-0 ∷ []) c.domains-in-loop-domain.view_is)
+
+pub returns : goal.returns
+returns c =
+    let hosts = c.args.table.now.hosts in
+    let place = c.args.place in
+    let front = c.args.domains in
+    let index = c.loop-domain.domain-index in
+    let made : List ℕ → HostDomain = λ text. record { domain = str_to_ascii_lowercase text; host = host_at hosts place } in
+    let texts = (host_at hosts place).domains in
+    let is = c.in_ok-host.ensures.value ∙ c.in_ok-new.ensures in
+    let items = c.as_slice-domain-items.ensures.elements in
+    let same : c.as_slice-domain-items.result.now ≡ texts =
+    items ∙ ap (λ (h : VirtualHost). h.domains) (c.host-2.ensures ∙ c.get.ensures.value ∙ is) in
+    let past : length texts ≤ index = omega (arith, ap length same) in
+    c.loop-domain.invariant
+    ∙ ap (λ ts. front ++ map made ts) (take_all index texts past)
+    ∙ ap (λ ds. front ++ ds) (sym (append-nil (map made texts)))
