@@ -16,6 +16,7 @@ use crate::numbers::Numbers;
 use crate::outcome::ExpandError;
 use crate::private::first_use;
 use crate::text_so_far::TextSoFar;
+use ev_script::LineTree;
 use ev_types::{Event, Item, Profile};
 use serde_json::Value;
 use std::alloc::{AllocError, Global};
@@ -109,10 +110,10 @@ pub fn expand_with<E: Expansion + Drop>(
     profile: Profile,
     expansion: E,
     head: &Value,
-    lines: &[Value],
+    lines: &[LineTree],
 ) -> Result<Vec<u8>, ExpandError>
     requires { E.is_behind profile expansion [] }
-    ensures { IsExpanded (E.rules profile) (view head.now) (map view lines.now) result }
+    ensures { IsExpanded (E.rules profile) (view head.now) lines.now result }
 {
     let mut expansion = expansion;
     if lines.len() >= MOST_LINES {
@@ -128,6 +129,7 @@ pub fn expand_with<E: Expansion + Drop>(
     let mut numbers = Numbers::new(alloc);
     for (index, line) in lines.iter().enumerate() {
         let at = index as u32 + 2;
+        let tree = line.read(alloc)?;
         let has_room = push_line(
             alloc,
             profile,
@@ -135,7 +137,7 @@ pub fn expand_with<E: Expansion + Drop>(
             &mut numbers,
             &mut text,
             at,
-            line,
+            &tree,
         )?;
         if !has_room {
             return Err(ExpandError::Large { line: at });
