@@ -6,15 +6,18 @@ ghost use Rattle.ev_actors.specs.Working.{AreAtWork};
 
 use crate::journaled::Journaled;
 use crate::steps::{settle, take_line};
+use ev_keys::Keys;
 use ev_types::Script;
 use ev_worker::Worker;
 use std::alloc::{AllocError, Global};
 
 /// Takes the whole script on one thread, in one pass over its lines: what comes back shows the script's replay, by the rules of
 /// format 2. What is passed has done nothing yet. Each worker keeps its accepts and closes until it settles, by a line of its
-/// own, where its batch is full, or after the last line. The rows of what is reaped are let go at once.
+/// own, where its batch is full, or after the last line. The rows of what is reaped are let go at once. The workers' tables hash by
+/// these keys.
 pub fn replay<R: Journaled + Drop>(
     alloc: Global,
+    keys: Keys,
     script: &Script,
     journaled: R,
 ) -> Result<R, AllocError>
@@ -23,7 +26,7 @@ pub fn replay<R: Journaled + Drop>(
     ensures let_go { IfOk result (λ after. R.deferred journaled ≡ [] → R.deferred after ≡ []) }
 {
     let mut journaled = journaled;
-    let mut workers = begin(alloc, &journaled, script.workers)?;
+    let mut workers = begin(alloc, keys, &journaled, script.workers)?;
     for line in script.lines.as_slice() {
         take_line(
             alloc,
@@ -40,14 +43,19 @@ pub fn replay<R: Journaled + Drop>(
 }
 
 // The workers, each of which has the last picture and has done nothing yet.
-fn begin<R: Journaled>(alloc: Global, journaled: &R, count: u32) -> Result<Vec<Worker>, AllocError>
+fn begin<R: Journaled>(
+    alloc: Global,
+    keys: Keys,
+    journaled: &R,
+    count: u32,
+) -> Result<Vec<Worker>, AllocError>
     ensures { IfOk result (λ workers. HaveBegun count (last_picture (world_now
         (R.shows journaled.now))) workers.items) }
 {
     let mut workers = Vec::new(alloc);
     for number in 0..count {
         let snapshot = journaled.snapshot()?;
-        workers.push(Worker::new(alloc, number, snapshot)?)?;
+        workers.push(Worker::new(alloc, keys, number, snapshot)?)?;
     }
     Ok(workers)
 }

@@ -1,4 +1,4 @@
-ghost use Rattle.std.specs.Prelude.{◌≡◌, ◌≤◌, ◌<◌, ◌+◌, ◌&&◌, ◌↔◌, true, false, [], length, IsTrue, IfOk, OnOk};
+ghost use Rattle.std.specs.Prelude.{◌≡◌, ◌≤◌, ◌<◌, ◌+◌, ◌&&◌, ◌↔◌, true, false, [], length, IsTrue, IfOk, OnErr, OnOk};
 ghost use Rattle.ev_types.specs.Events.{IsMainSide, MayMake};
 ghost use Rattle.ev_types.specs.declared.events.Actor.TheVariants.{Worker as by_worker};
 ghost use Rattle.ev_model.specs.Operations.{batch_limit, is_automatic};
@@ -38,6 +38,7 @@ pub fn join(alloc: Global, worker: &mut Worker, line: &Line) -> Result<bool, All
     ensures answer { IfOk result (λ joined. joined ≡ is_batched line.now.event) }
     ensures joined { OnOk result (is_batched line.now.event ≡ true → HasJoined line.now worker.old worker.new) }
     ensures other { is_batched line.now.event ≡ false → worker.new ≡ worker.old }
+    ensures err { OnErr result (worker.new ≡ worker.old) }
 {
     match &line.event {
         Event::Accept(ask) => {

@@ -23,6 +23,7 @@ use Rattle.ev_sotw_delta.proofs.LimitLemmas.{fits_front}
 use Rattle.ev_sotw.specs.Text.{stated_in, sotw_text}
 use Rattle.ev_sotw_delta.specs.SameWorld.{SameWorld}
 use Rattle.ev_app.specs.declared.commands.Command.TheVariants.{Sotw}
+use Rattle.ev_app.specs.declared.input.KeyedScript.{KeyedScript}
 use Rattle.ev_app.specs.declared.made.Made.{Made}
 use Rattle.ev_app.specs.Faults.{IsFirstEarly}
 use Rattle.ev_app.specs.Scripts.{ReadsScript}
@@ -48,8 +49,8 @@ never_large bytes trees reads fits line number late =
 -- ---- readings
 
 -- the script of a whole text
-pub read_again : (text left : List ℕ) (script : ScriptParts) → ReadsScript (Some text) (Some left) (Ok script) → script_of false text ≡ Some script
-read_again text left script read =
+pub read_again : (text left : List ℕ) (keyed : KeyedScript) → ReadsScript (Some text) (Some left) (Ok keyed) → script_of false text ≡ Some keyed.script
+read_again text left keyed read =
     let front : (rest : List ℕ) × (text ≡ read.input.bytes ++ rest) × (IsAtEnd (Some left) → rest ≡ []) = front_of text read.input.bytes (Some left) read.takes.taken in
     let same : text ≡ read.input.bytes = front.1 ∙ ap (λ (rest : List ℕ). read.input.bytes ++ rest) (front.2 (read.takes.ended read.is.ended)) ∙ append-nil read.input.bytes in
     ap (script_of false) same ∙ read.is.reads

@@ -6,6 +6,7 @@ use Rattle.ev_types.specs.Scripts.{ScriptParts}
 use Rattle.ev_script.specs.Faults.{Input, IsFaultOf, HasNoFault, plain_lines}
 use Rattle.ev_script.specs.Script.{script_of}
 use Rattle.ev_app.specs.Input.{TakesInput}
+use Rattle.ev_app.specs.declared.input.KeyedScript.{KeyedScript}
 
 -- the bytes to the end of the input are this script, which has no fault
 pub record IsInput (input : Input) (script : ScriptParts) : Type 0 where
@@ -14,14 +15,14 @@ pub record IsInput (input : Input) (script : ScriptParts) : Type 0 where
   pub reads : script_of false input.bytes ≡ Some script
 
 -- what an answer about the input means
-abbrev pub IsInputAnswer : Input → Result ScriptParts ScriptFault → Type 0
-IsInputAnswer input (Ok script) = IsInput input script
+abbrev pub IsInputAnswer : Input → Result KeyedScript ScriptFault → Type 0
+IsInputAnswer input (Ok read) = IsInput input read.script
 IsInputAnswer input (Err (Bad line kind)) = IsFaultOf plain_lines input line kind
 IsInputAnswer input (Err Read) = HasNoFault plain_lines input × (¬ (IsTrue input.ended))
 IsInputAnswer input (Err OutOfMemory) = ⊤
 
 -- what is known of a source's bytes before and after, and what the bytes taken in between are
-pub record ReadsScript (before after : Option (List ℕ)) (result : Result ScriptParts ScriptFault) : Type 0 where
+pub record ReadsScript (before after : Option (List ℕ)) (result : Result KeyedScript ScriptFault) : Type 0 where
   pub input : Input
   pub takes : TakesInput false before after input
   pub is : IsInputAnswer input result

@@ -17,6 +17,7 @@ use Rattle.ev_sotw_delta.specs.SameWorld.{IsSameWorld, RunsAreSameWorld}
 use Rattle.ev_app.specs.declared.status.Status.TheVariants.{Done}
 use Rattle.ev_app.specs.declared.made.Made.{Made}
 use Rattle.ev_app.specs.Trees.{AreTreesOf}
+use Rattle.ev_app.specs.declared.input.KeyedScript.{KeyedScript}
 
 -- the journal is that of the replay of the script that says the same, which is within the bounds of scripts; it has the laws, and is
 -- the same world
@@ -48,8 +49,8 @@ pub record GrowsTooLarge (bytes : List ℕ) (line number : ℕ) : Type 0 where
   pub numbered : number ≡ 10
 
 -- the script that says the same, which is an input, or why it is none
-abbrev pub IsDeltaAnswer : ScriptTrees → Result ScriptParts ScriptFault → Type 0
-IsDeltaAnswer trees (Ok script) = FitsInput (written_of trees) × (script ≡ delta_script trees)
+abbrev pub IsDeltaAnswer : ScriptTrees → Result KeyedScript ScriptFault → Type 0
+IsDeltaAnswer trees (Ok read) = FitsInput (written_of trees) × (read.script ≡ delta_script trees)
 IsDeltaAnswer trees (Err (Bad line number)) = IsFirstTooLarge (written_of trees) line × (number ≡ 10)
 IsDeltaAnswer trees (Err Read) = ⊥
 IsDeltaAnswer trees (Err lacks_memory) = ⊤

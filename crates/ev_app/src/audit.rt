@@ -41,6 +41,7 @@ fn audit_made(alloc: Global, audited: &Audited) -> Result<Made, AllocError>
 {
     let finding = audit(
         alloc,
+        audited.keys,
         audited.format,
         &audited.script,
         audited.rows.as_slice(),

@@ -52,7 +52,7 @@ fn dump_made(alloc: Global, audited: &Audited, entries: u32) -> Result<Made, Scr
     ensures read { result ≢ Err ScriptFault.Read }
 {
     let rows = audited.rows.as_slice();
-    let Ok(finding) = audit(alloc, audited.format, &audited.script, rows) else {
+    let Ok(finding) = audit(alloc, audited.keys, audited.format, &audited.script, rows) else {
         return Err(ScriptFault::OutOfMemory);
     };
     if finding != Finding::Legal {
@@ -100,6 +100,7 @@ fn dump_text(alloc: Global, audited: &Audited, entries: u32) -> Result<Vec<u8>, 
 {
     let registry = state_after(
         alloc,
+        audited.keys,
         audited.format,
         &audited.script,
         audited.rows.as_slice(),

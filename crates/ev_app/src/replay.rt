@@ -6,13 +6,14 @@ ghost use Rattle.ev_actors.specs.Journals.{HasReplayed};
 ghost use Rattle.ev_app.specs.Replay.{IsReplayText};
 ghost use Rattle.ev_app.specs.Texts.{IsMadeBy};
 
-use crate::input::read_input;
+use crate::input::{KeyedScript, read_input};
 use crate::made::Made;
 use crate::run::workers_of;
 use crate::status::Status;
 use ev_actors::Journaled;
 use ev_io::{ScriptFault, Source};
 use ev_journal::render_journal;
+use ev_keys::Keys;
 use ev_model_laws::runs_have_the_laws;
 use ev_registry::Registry;
 use ev_types::{Format, Script};
@@ -27,8 +28,8 @@ pub(crate) fn make_replay<S: Source>(alloc: Global, source: &mut S) -> Result<Ma
     ensures same_count { (S.faults source.new ≡ S.faults source.old) ⊎ (result ≡ Err ScriptFault.Read) }
     ensures count { S.faults source.old ≤ S.faults source.new }
 {
-    let script = read_input(alloc, source)?;
-    match replay_text(alloc, &script) {
+    let KeyedScript { script, keys } = read_input(alloc, source)?;
+    match replay_text(alloc, keys, &script) {
         Ok(text) => Ok(Made {
             text,
             status: Status::Done,
@@ -38,23 +39,23 @@ pub(crate) fn make_replay<S: Source>(alloc: Global, source: &mut S) -> Result<Ma
 }
 
 // The text of the journal of a script's replay on one thread, by the rules of format 2, and what the script keeps.
-fn replay_text(alloc: Global, script: &Script) -> Result<Vec<u8>, AllocError>
+fn replay_text(alloc: Global, keys: Keys, script: &Script) -> Result<Vec<u8>, AllocError>
     ensures text { IfOk result (λ text. IsReplayText script.now text.items) }
     ensures kept { OnOk result (IsScript script.now) }
 {
     // the journal is a run, and each run has the laws
     runs_have_the_laws();
     let workers = workers_of(script);
-    let registry = replay(alloc, script)?;
+    let registry = replay(alloc, keys, script)?;
     let text = render_journal(alloc, Format::Two, workers, registry.journal());
     drop(registry);
     Ok(text?)
 }
 
-// The registry after the whole script.
-pub(crate) fn replay(alloc: Global, script: &Script) -> Result<Registry, AllocError>
+// The registry after the whole script. Its tables hash by these keys.
+pub(crate) fn replay(alloc: Global, keys: Keys, script: &Script) -> Result<Registry, AllocError>
     ensures { IfOk result (λ registry. HasReplayed script.now registry.journaled) }
 {
-    let registry = Registry::new(alloc, script.workers, &script.node, Format::Two)?;
-    ev_actors::replay(alloc, script, registry)
+    let registry = Registry::new(alloc, keys, script.workers, &script.node, Format::Two)?;
+    ev_actors::replay(alloc, keys, script, registry)
 }

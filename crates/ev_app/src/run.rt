@@ -6,13 +6,14 @@ ghost use Rattle.ev_app.specs.declared.commands.Command.TheVariants.{Run};
 ghost use Rattle.ev_app.specs.Runs.{IsRunText};
 ghost use Rattle.ev_app.specs.Texts.{IsMadeBy};
 
-use crate::input::read_input;
+use crate::input::{KeyedScript, read_input};
 use crate::made::Made;
 use crate::status::Status;
 use ev_actors::Journaled;
 use ev_io::{ScriptFault, Source};
 use ev_journal::render_journal;
 use ev_journal_laws::text_tells_journal;
+use ev_keys::Keys;
 use ev_registry::Registry;
 use ev_run::Pace;
 use ev_types::{Format, Script};
@@ -34,8 +35,8 @@ pub(crate) fn make_run<R: Threads + Wait + Sync, S: Source, P: Pace + Sync>(
     ensures same_count { (S.faults source.new ≡ S.faults source.old) ⊎ (result ≡ Err ScriptFault.Read) }
     ensures count { S.faults source.old ≤ S.faults source.new }
 {
-    let script = read_input(alloc, source)?;
-    match run_text(rt, alloc, &script, pace) {
+    let KeyedScript { script, keys } = read_input(alloc, source)?;
+    match run_text(rt, alloc, keys, &script, pace) {
         Ok(text) => Ok(Made {
             text,
             status: Status::Done,
@@ -49,6 +50,7 @@ pub(crate) fn make_run<R: Threads + Wait + Sync, S: Source, P: Pace + Sync>(
 fn run_text<R: Threads + Wait + Sync, P: Pace + Sync>(
     rt: &R,
     alloc: Global,
+    keys: Keys,
     script: &Script,
     pace: &P,
 ) -> Result<Vec<u8>, AllocError>
@@ -58,7 +60,7 @@ fn run_text<R: Threads + Wait + Sync, P: Pace + Sync>(
     // no other journal has the text
     text_tells_journal();
     let workers = workers_of(script);
-    let registry = run(rt, alloc, script, pace)?;
+    let registry = run(rt, alloc, keys, script, pace)?;
     let text = render_journal(alloc, Format::Two, workers, registry.journal());
     drop(registry);
     Ok(text?)
@@ -72,15 +74,16 @@ pub(crate) fn workers_of(script: &Script) -> u32
     script.workers
 }
 
-// The registry after the whole script.
+// The registry after the whole script. Its tables hash by these keys.
 fn run<R: Threads + Wait + Sync, P: Pace + Sync>(
     rt: &R,
     alloc: Global,
+    keys: Keys,
     script: &Script,
     pace: &P,
 ) -> Result<Registry, AllocError>
     ensures { IfOk result (λ registry. HasRun script.now registry.journaled) }
 {
-    let registry = Registry::new(alloc, script.workers, &script.node, Format::Two)?;
-    ev_run::run(rt, alloc, script, pace, registry)
+    let registry = Registry::new(alloc, keys, script.workers, &script.node, Format::Two)?;
+    ev_run::run(rt, alloc, keys, script, pace, registry)
 }

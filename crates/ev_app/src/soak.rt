@@ -6,6 +6,7 @@ ghost use Rattle.ev_app.specs.Commands.{IsSoak};
 use crate::replay::replay;
 use crate::run::workers_of;
 use ev_actors::Journaled;
+use ev_keys::Keys;
 use ev_soak::{script, write_soak};
 use std::alloc::{AllocError, Global};
 use std::mem::drop;
@@ -19,7 +20,7 @@ pub(crate) fn soak_text(alloc: Global, seed: u64, count: u32) -> Result<Vec<u8>,
     let script = script(alloc, seed, count)?;
     // what the script keeps
     let _workers = workers_of(&script);
-    let registry = replay(alloc, &script)?;
+    let registry = replay(alloc, Keys::of(&[seed]), &script)?;
     let version = registry.latest();
     let text = write_soak(alloc, count + 1, registry.journal(), version);
     drop(registry);

@@ -10,7 +10,7 @@ ghost use Rattle.ev_app.specs.declared.commands.Command.TheVariants.{Sotw};
 ghost use Rattle.ev_app.specs.Sotw.{IsSotwText, IsDeltaAnswer, IsSotwAnswer};
 ghost use Rattle.ev_app.specs.Texts.{IsMadeBy};
 
-use crate::input::read_input;
+use crate::input::{KeyedScript, read_input};
 use crate::made::Made;
 use crate::replay::replay;
 use crate::run::workers_of;
@@ -18,6 +18,7 @@ use crate::status::Status;
 use crate::trees::read_trees_of;
 use ev_actors::Journaled;
 use ev_io::{MemSource, ScriptFault, Source};
+use ev_keys::Keys;
 use ev_model_laws::{replay_is_a_run_of_its_script, runs_have_the_laws};
 use ev_script::ScriptTrees;
 use ev_sotw::render_sotw;
@@ -52,8 +53,8 @@ fn sotw_made(alloc: Global, trees: &ScriptTrees) -> Result<Made, ScriptFault>
     ensures answer { IsSotwAnswer trees.now result }
     ensures read { result ≢ Err ScriptFault.Read }
 {
-    let script = delta_of(alloc, trees)?;
-    match sotw_text(alloc, trees, &script) {
+    let KeyedScript { script, keys } = delta_of(alloc, trees)?;
+    match sotw_text(alloc, keys, trees, &script) {
         Ok(text) => Ok(Made {
             text,
             status: Status::Done,
@@ -63,7 +64,7 @@ fn sotw_made(alloc: Global, trees: &ScriptTrees) -> Result<Made, ScriptFault>
 }
 
 // The incremental script that says what the trees say, or why there is none.
-fn delta_of(alloc: Global, trees: &ScriptTrees) -> Result<Script, ScriptFault>
+fn delta_of(alloc: Global, trees: &ScriptTrees) -> Result<KeyedScript, ScriptFault>
     requires trees { (input : Input) × IsTreesAnswer sotw_lines input (Ok trees.now) }
     ensures answer { IsDeltaAnswer trees.now result }
     ensures read { result ≢ Err ScriptFault.Read }
@@ -80,13 +81,13 @@ fn delta_of(alloc: Global, trees: &ScriptTrees) -> Result<Script, ScriptFault>
 
 // The script that a text without a fault is.
 #[tactic(auto, using(crate::proofs::SotwLemmas::read_again))]
-fn read_text(alloc: Global, text: Vec<u8>) -> Result<Script, ScriptFault>
-    ensures script { IfOk result (λ script. script_of false text.items ≡ Some script) }
+fn read_text(alloc: Global, text: Vec<u8>) -> Result<KeyedScript, ScriptFault>
+    ensures script { IfOk result (λ read. script_of false text.items ≡ Some read.script) }
     ensures memory { IfErr result (λ fault. fault ≡ OutOfMemory) }
 {
     let mut source = MemSource::new(text, PIECE, Vec::new(alloc));
     match read_input(alloc, &mut source) {
-        Ok(script) => Ok(script),
+        Ok(read) => Ok(read),
         // the text has no fault, and memory gives all of it: it was memory that ran out
         Err(_) => Err(ScriptFault::OutOfMemory),
     }
@@ -94,7 +95,12 @@ fn read_text(alloc: Global, text: Vec<u8>) -> Result<Script, ScriptFault>
 
 // The text of the journal of the replay of a script of the state of the world, by the incremental script that says the same.
 #[tactic(auto, using(crate::proofs::SotwLemmas::sotw_told))]
-fn sotw_text(alloc: Global, trees: &ScriptTrees, script: &Script) -> Result<Vec<u8>, AllocError>
+fn sotw_text(
+    alloc: Global,
+    keys: Keys,
+    trees: &ScriptTrees,
+    script: &Script,
+) -> Result<Vec<u8>, AllocError>
     requires trees { (input : Input) × IsTreesAnswer sotw_lines input (Ok trees.now) }
     requires script { script.now ≡ delta_script trees.now }
     ensures { IfOk result (λ text. IsSotwText trees.now text.items) }
@@ -104,7 +110,7 @@ fn sotw_text(alloc: Global, trees: &ScriptTrees, script: &Script) -> Result<Vec<
     replay_is_a_run_of_its_script();
     same_world();
     let workers = workers_of(script);
-    let registry = replay(alloc, script)?;
+    let registry = replay(alloc, keys, script)?;
     let text = render_sotw(alloc, trees.lines.as_slice(), workers, registry.journal());
     drop(registry);
     Ok(text?)

@@ -4,15 +4,17 @@ ghost use Rattle.ev_model.specs.Finding.{finding_of};
 ghost use Rattle.ev_audit.specs.Audits.{HasLegalJournal, IsBefore};
 
 use crate::walk::Walk;
+use ev_keys::Keys;
 use ev_types::{Finding, Format, Row, Script};
 use std::alloc::{AllocError, Global};
 use std::mem::drop;
 
 /// What is found of a journal that is held against its script, by the rules of its format. Its rows may be any: of actors that the
 /// script doesn't have, out of order, or too few. Where it finds them legal, they are those of a run of the machine that holds the
-/// script's operations, with all laws of runs.
+/// script's operations, with all laws of runs. The tables by what the input names hash by these keys.
 pub fn audit(
     alloc: Global,
+    keys: Keys,
     format: Format,
     script: &Script,
     rows: &[Row],
@@ -22,7 +24,7 @@ pub fn audit(
     ensures legal { result ≡ Ok Legal → HasLegalJournal format script.now rows.now }
 {
     let _ = &script.workers;
-    let mut walk = Walk::new(alloc, format, script)?;
+    let mut walk = Walk::new(alloc, keys, format, script)?;
     let found = walk_over(alloc, &mut walk, script, rows);
     drop(walk);
     found

@@ -9,6 +9,7 @@ ghost use Rattle.ev_walk_laws.specs.Walks.{leaves_out};
 ghost use Rattle.ev_audit.specs.Audits.{IsBefore, batch_after, breaks_open, is_settle_word, world_before};
 
 use crate::steps::{has_open, step_due};
+use ev_keys::Keys;
 use ev_operations::Courses;
 use ev_proxy::Proxy;
 use ev_types::{Actor, Finding, Format, Op, Row, Script, is_same_answer};
@@ -25,12 +26,17 @@ pub(crate) struct Walk {
 
 impl Walk {
     /// The walk before the first row.
-    pub(crate) fn new(alloc: Global, format: Format, script: &Script) -> Result<Walk, AllocError>
+    pub(crate) fn new(
+        alloc: Global,
+        keys: Keys,
+        format: Format,
+        script: &Script,
+    ) -> Result<Walk, AllocError>
         ensures format { IfOk result (λ walk. walk.courses.format ≡ format) }
         ensures before { IfOk result (λ walk. (rows : List Row) → IsBefore script.now rows 0 walk) }
     {
         let courses = Courses::new(alloc, format, script)?;
-        let proxy = Proxy::new(alloc, script.workers, &script.node)?;
+        let proxy = Proxy::new(alloc, keys, script.workers, &script.node)?;
         Ok(Walk {
             proxy,
             courses,

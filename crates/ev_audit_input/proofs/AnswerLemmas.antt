@@ -3,6 +3,7 @@ use Rattle.std.proofs.Common.{◌≡◌, ℕ, ◌+◌, ◌<◌, ◌≤◌, Bool,
 use Rattle.std.proofs.lemmas.List.{take_all, length-take}
 use Rattle.std.specs.Io.KnownBytes.{IsAtEnd}
 use Rattle.std.specs.declared.alloc.Global.{Global}
+use Rattle.ev_keys.specs.declared.Keys.{Keys}
 use Rattle.ev_io.specs.declared.limits.TheConstants.{MAX_INPUT_BYTES}
 use Rattle.ev_io.specs.declared.faults.LineFault.{LineFault}
 use Rattle.ev_io.specs.declared.faults.LineFault.TheVariants as limit
@@ -264,9 +265,9 @@ module _ (before now after : Option (List ℕ)) (old new : LinesState) (script :
         is = tt;
       }
 
-  pub rows_read : (format : Format) (rows : Vec Row Global) → RowsRead now after old new script.workers text (Ok (format, rows))
-      → ReadsAuditInput before after (Ok record { format = format; script = script; rows = rows })
-  rows_read format rows read =
+  pub rows_read : (format : Format) (rows : Vec Row Global) (keys : Keys) → RowsRead now after old new script.workers text (Ok (format, rows))
+      → ReadsAuditInput before after (Ok record { format = format; script = script; rows = rows; keys = keys })
+  rows_read format rows keys read =
       let goes = (read.2 s.bytes s.taken).0 in
       let r : IsRead script.workers text old new (s.bytes ++ read.0) format rows.items = (read.2 s.bytes s.taken).1 in
       record {

@@ -4,6 +4,7 @@ ghost use Rattle.ev_audit_input.specs.Parts.{ReadsAuditInput};
 
 use ev_io::{Lines, MAX_LINES, ScriptFault, Source};
 use ev_journal_read::read_rows;
+use ev_keys::Keys;
 use ev_script::read_audited_script;
 use ev_types::{Format, Row, Script};
 use std::alloc::Global;
@@ -15,6 +16,8 @@ pub struct Audited {
     pub format: Format,
     pub script: Script,
     pub rows: Vec<Row>,
+    /// Keys of the lines of both, for tables of what the script names.
+    pub keys: Keys,
 }
 
 /// Reads the script and the journal that the source's bytes are.
@@ -43,5 +46,6 @@ pub fn read_audited<S: Source>(alloc: Global, source: &mut S) -> Result<Audited,
         format,
         script,
         rows,
+        keys: lines.keys(),
     })
 }

@@ -9,6 +9,7 @@ use crate::dead::{dead_notes, nothing_holds};
 use crate::notes::{Note, Notes, is_waiting, kind_of, mark, put};
 use crate::shown::Shows;
 use crate::waiters::Waiters;
+use ev_keys::Keys;
 use ev_ledger::Ledger;
 use ev_types::{Format, Gen, Kind, Name, RowStatus, Shared, TryCopy};
 use std::alloc::{AllocError, Global};
@@ -38,14 +39,14 @@ impl Model for Drain {
 }
 
 impl Drain {
-    /// No generation drains. It takes no memory.
-    pub fn new(alloc: Global) -> Drain
+    /// No generation drains. Names hash by these keys. It takes no memory.
+    pub fn new(alloc: Global, keys: Keys) -> Drain
         ensures empty { result ≡ [] }
         ensures world { HasRetired result [] [] }
     {
         Drain {
             notes: BTreeMap::new(alloc),
-            waiters: Waiters::new(alloc),
+            waiters: Waiters::new(alloc, keys),
         }
     }
 

@@ -5,12 +5,13 @@ ghost use Rattle.indexmap.specs.IndexMap.{get};
 ghost use Rattle.ev_drain.specs.Retired.{newly_retired};
 ghost use Rattle.ev_drain.specs.Waiters.{ChangesUnder, Enters, EntersWaiter, HasNoEmpty, HasNoOtherEmpty, SameUnder, numbers_under, without_number};
 
+use ev_keys::Keys;
 use ev_types::{Gen, Kind, Name, Seq, TryCopy};
 use indexmap::IndexMap;
 use std::alloc::{AllocError, Global};
 use std::marker::Model;
 
-type Numbers = IndexMap<Name, Seq<Gen>>;
+type Numbers = IndexMap<Name, Seq<Gen>, Keys>;
 
 /// By a listener's name the numbers of the generations that may wait for its drain timeout. A name without any has no entry.
 #[derive(Drop)]
@@ -29,12 +30,12 @@ impl Model for Waiters {
 }
 
 impl Waiters {
-    /// No name. It takes no memory.
-    pub(crate) fn new(alloc: Global) -> Waiters
+    /// No name. Names hash by these keys. It takes no memory.
+    pub(crate) fn new(alloc: Global, keys: Keys) -> Waiters
         ensures { result ≡ [] }
     {
         Waiters {
-            numbers: IndexMap::new(alloc),
+            numbers: IndexMap::with_hasher(alloc, keys),
         }
     }
 
@@ -137,11 +138,11 @@ impl TryCopy for Waiters {
     }
 }
 
-// The same entries in the same order, in memory of their own.
+// The same entries in the same order, in memory of their own. Names hash by the same keys.
 fn copy_numbers(alloc: Global, map: &Numbers) -> Result<Numbers, AllocError>
     ensures { IfOk result (λ copied. copied.entries ≡ map.now.entries) }
 {
-    let mut copied = IndexMap::new(alloc);
+    let mut copied = IndexMap::with_hasher(alloc, *map.hasher());
     for (name, numbers) in map {
         put(&mut copied, name.copy(alloc)?, numbers.copy(alloc)?)?;
     }

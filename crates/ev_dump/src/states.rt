@@ -4,14 +4,16 @@ ghost use Rattle.ev_model.specs.Finding.{finding_of, journal_told};
 ghost use Rattle.ev_fronts.specs.Fronts.{ends_commit};
 
 use ev_fronts::entries_told;
+use ev_keys::Keys;
 use ev_registry::Registry;
 use ev_types::{Format, Row, Script};
 use std::alloc::{AllocError, Global};
 
 /// The registry in which the first n entries were done of a journal whose rows are found legal with their script, up to where a
-/// commit ends.
+/// commit ends. The tables by what the input names hash by these keys.
 pub fn state_after(
     alloc: Global,
+    keys: Keys,
     format: Format,
     script: &Script,
     rows: &[Row],
@@ -28,5 +30,5 @@ pub fn state_after(
 {
     let workers = script.workers;
     let front = entries_told(alloc, script, &rows[..entries as usize])?;
-    Registry::of_journal(alloc, format, workers, &script.node, front)
+    Registry::of_journal(alloc, keys, format, workers, &script.node, front)
 }

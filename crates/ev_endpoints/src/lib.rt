@@ -12,16 +12,21 @@ ghost use Rattle.ev_types.specs.declared.hosts.Host as declared;
 ghost use Rattle.indexmap.specs.IndexMap.{get};
 ghost use Rattle.ev_endpoints.specs.Results.{hosts_in, result_in, results_of, Notes, Forgets, Trims, Appends, Keeps, KeepsAmong, is_eligible};
 
+use ev_keys::Keys;
 use ev_types::{Assignment, Gen, Host, HostRow, TryCopy};
 use indexmap::IndexMap;
 use std::alloc::{AllocError, Global};
 use std::marker::Model;
 
+type Hosts = IndexMap<Host, bool, Keys>;
+
 /// The last health result of each host for each generation; a generation without a result has no entry. Contracts see the results
 /// as a list of lists, by number and by host, and look them up by `result_in`.
 #[derive(Drop)]
 pub struct Endpoints {
-    results: IndexMap<u32, IndexMap<Host, bool>>,
+    // By these a map of hosts hashes. Generations' numbers are drawn, and need none.
+    keys: Keys,
+    results: IndexMap<u32, Hosts>,
 }
 
 impl Model for Endpoints {
@@ -35,11 +40,12 @@ impl Model for Endpoints {
 }
 
 impl Endpoints {
-    /// No result. It takes no memory.
-    pub fn new(alloc: Global) -> Endpoints
+    /// No result. Hosts are hashed by these keys. It takes no memory.
+    pub fn new(alloc: Global, keys: Keys) -> Endpoints
         ensures { result ≡ [] }
     {
         Endpoints {
+            keys,
             results: IndexMap::new(alloc),
         }
     }
@@ -63,7 +69,7 @@ impl Endpoints {
             };
             return Ok(());
         }
-        let mut hosts = IndexMap::new(alloc);
+        let mut hosts = IndexMap::with_hasher(alloc, self.keys);
         let Ok(_) = hosts.insert(host, healthy) else {
             return Err(AllocError);
         };
@@ -147,15 +153,18 @@ impl TryCopy for Endpoints {
         for (number, hosts) in &self.results {
             put_hosts(&mut copied, *number, copy_hosts(alloc, hosts)?)?;
         }
-        Ok(Endpoints { results: copied })
+        Ok(Endpoints {
+            keys: self.keys,
+            results: copied,
+        })
     }
 }
 
 // Appends the results of a number that has none yet to the others.
 fn put_hosts(
-    results: &mut IndexMap<u32, IndexMap<Host, bool>>,
+    results: &mut IndexMap<u32, Hosts>,
     number: u32,
-    hosts: IndexMap<Host, bool>,
+    hosts: Hosts,
 ) -> Result<(), AllocError>
     requires { get nat_eq results.old number ≡ None }
     ensures { OnOk result (Appends results.old.entries results.new.entries number hosts.entries) }
@@ -167,13 +176,10 @@ fn put_hosts(
 }
 
 // The same results in the same order, in memory of their own.
-fn copy_hosts(
-    alloc: Global,
-    hosts: &IndexMap<Host, bool>,
-) -> Result<IndexMap<Host, bool>, AllocError>
+fn copy_hosts(alloc: Global, hosts: &Hosts) -> Result<Hosts, AllocError>
     ensures { IfOk result (λ copied. copied.entries ≡ hosts.now.entries) }
 {
-    let mut copied = IndexMap::new(alloc);
+    let mut copied = IndexMap::with_hasher(alloc, *hosts.hasher());
     for (host, healthy) in hosts {
         put_new(&mut copied, host.copy(alloc)?, *healthy)?;
     }
@@ -181,7 +187,7 @@ fn copy_hosts(
 }
 
 // Appends the result of a host that has none yet to the others.
-fn put_new(hosts: &mut IndexMap<Host, bool>, host: Host, healthy: bool) -> Result<(), AllocError>
+fn put_new(hosts: &mut Hosts, host: Host, healthy: bool) -> Result<(), AllocError>
     requires { get host_same hosts.old host ≡ None }
     ensures { OnOk result (hosts.new.entries ≡ hosts.old.entries ++ (host, healthy) ∷ []) }
 {
@@ -192,14 +198,10 @@ fn put_new(hosts: &mut IndexMap<Host, bool>, host: Host, healthy: bool) -> Resul
 }
 
 // The results of the hosts that are among these rows.
-fn standing(
-    alloc: Global,
-    hosts: &IndexMap<Host, bool>,
-    rows: &[HostRow],
-) -> Result<IndexMap<Host, bool>, AllocError>
+fn standing(alloc: Global, hosts: &Hosts, rows: &[HostRow]) -> Result<Hosts, AllocError>
     ensures { IfOk result (λ kept. KeepsAmong hosts.now kept rows.now) }
 {
-    let mut kept = IndexMap::new(alloc);
+    let mut kept = IndexMap::with_hasher(alloc, *hosts.hasher());
     for row in rows {
         if let Some(healthy) = hosts.get(&row.host) {
             put(&mut kept, row.host.copy(alloc)?, *healthy)?;
@@ -209,7 +211,7 @@ fn standing(
 }
 
 // Keeps one more result.
-fn put(hosts: &mut IndexMap<Host, bool>, host: Host, healthy: bool) -> Result<(), AllocError>
+fn put(hosts: &mut Hosts, host: Host, healthy: bool) -> Result<(), AllocError>
     ensures { OnOk result (Keeps hosts.old hosts.new host healthy) }
 {
     let Ok(_) = hosts.insert(host, healthy) else {

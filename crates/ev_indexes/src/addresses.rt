@@ -11,12 +11,13 @@ ghost use Rattle.ev_model.specs.Verdicts.{listening_address};
 ghost use Rattle.ev_indexes.specs.Watched.{numbers_without};
 ghost use Rattle.ev_indexes.specs.Addresses.{EntersAt, EntersNumber, HoldsAddress, LeavesAt, LeavesNumber, ReleasesAddress};
 
+use ev_keys::Keys;
 use ev_types::{Content, Gen, Host, Seq, TryCopy};
 use indexmap::IndexMap;
 use std::alloc::{AllocError, Global};
 use std::marker::Model;
 
-type Numbers = IndexMap<Host, Seq<Gen>>;
+type Numbers = IndexMap<Host, Seq<Gen>, Keys>;
 
 /// By address and port the numbers of the generations that hold it. An address that none holds has no entry.
 #[derive(Drop)]
@@ -35,12 +36,12 @@ impl Model for Addresses {
 }
 
 impl Addresses {
-    /// No address is held. It takes no memory.
-    pub fn new(alloc: Global) -> Addresses
+    /// No address is held. Addresses are hashed by these keys. It takes no memory.
+    pub fn new(alloc: Global, keys: Keys) -> Addresses
         ensures { result ≡ [] }
     {
         Addresses {
-            numbers: IndexMap::new(alloc),
+            numbers: IndexMap::with_hasher(alloc, keys),
         }
     }
 
@@ -155,7 +156,7 @@ impl TryCopy for Addresses {
 fn copy_numbers(alloc: Global, map: &Numbers) -> Result<Numbers, AllocError>
     ensures { IfOk result (λ copied. copied.entries ≡ map.now.entries) }
 {
-    let mut copied = IndexMap::new(alloc);
+    let mut copied = IndexMap::with_hasher(alloc, *map.hasher());
     for (address, numbers) in map {
         put(&mut copied, address.copy(alloc)?, numbers.copy(alloc)?)?;
     }

@@ -3,6 +3,7 @@ ghost use Rattle.std.specs.Str.{bytes_eq};
 ghost use Rattle.indexmap.specs.IndexMap.{get};
 
 use crate::{Standing, Watch};
+use ev_keys::Keys;
 use ev_types::{Name, TryCopy};
 use indexmap::IndexMap;
 use std::alloc::{AllocError, Global};
@@ -10,11 +11,11 @@ use std::alloc::{AllocError, Global};
 /// The same entries in the same order, in memory of their own.
 pub(crate) fn copy_map<V: TryCopy + Drop>(
     alloc: Global,
-    map: &IndexMap<Name, V>,
-) -> Result<IndexMap<Name, V>, AllocError>
+    map: &IndexMap<Name, V, Keys>,
+) -> Result<IndexMap<Name, V, Keys>, AllocError>
     ensures { IfOk result (λ copied. copied.entries ≡ map.now.entries) }
 {
-    let mut copied = IndexMap::new(alloc);
+    let mut copied = IndexMap::with_hasher(alloc, *map.hasher());
     for (name, value) in map {
         put(&mut copied, name.copy(alloc)?, value.copy(alloc)?)?;
     }
@@ -22,7 +23,7 @@ pub(crate) fn copy_map<V: TryCopy + Drop>(
 }
 
 // Appends a value of a name that has none yet to the others.
-fn put<V: Drop>(map: &mut IndexMap<Name, V>, name: Name, value: V) -> Result<(), AllocError>
+fn put<V: Drop>(map: &mut IndexMap<Name, V, Keys>, name: Name, value: V) -> Result<(), AllocError>
     requires { get bytes_eq map.old name ≡ None }
     ensures { OnOk result (map.new.entries ≡ map.old.entries ++ (name, value) ∷ []) }
 {

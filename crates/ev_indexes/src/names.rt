@@ -5,6 +5,7 @@ ghost use Rattle.ev_indexes.specs.Kept.{Sets};
 ghost use Rattle.ev_indexes.specs.Standings.{nobody, standing_in};
 
 use crate::copies::copy_map;
+use ev_keys::Keys;
 use ev_mentions::NameKey;
 use ev_types::{Gen, Name, TryCopy};
 use indexmap::IndexMap;
@@ -21,7 +22,7 @@ pub struct Standing {
 /// By name which generations are live. A name of which none is live has no entry.
 #[derive(Drop)]
 pub struct Names {
-    names: IndexMap<Name, Standing>,
+    names: IndexMap<Name, Standing, Keys>,
 }
 
 impl Model for Names {
@@ -36,12 +37,12 @@ impl Model for Names {
 }
 
 impl Names {
-    /// No name. It takes no memory.
-    pub fn new(alloc: Global) -> Names
+    /// No name. Names are hashed by these keys. It takes no memory.
+    pub fn new(alloc: Global, keys: Keys) -> Names
         ensures { result ≡ [] }
     {
         Names {
-            names: IndexMap::new(alloc),
+            names: IndexMap::with_hasher(alloc, keys),
         }
     }
 

@@ -6,6 +6,7 @@ ghost use Rattle.ev_indexes.specs.Indexes.{IsIndexed};
 use crate::{Addresses, Due, Names, Watches};
 use ev_endpoints::Endpoints;
 use ev_generations::Generations;
+use ev_keys::Keys;
 use ev_types::{Kind, TryCopy};
 use std::alloc::{AllocError, Global};
 
@@ -22,8 +23,9 @@ pub struct State {
 }
 
 impl State {
-    /// No generation of this kind, and nothing known. It takes no memory, and stands for every world in which nothing happened.
-    pub fn new(alloc: Global, kind: Kind) -> State
+    /// No generation of this kind, and nothing known. Its tables by names, addresses and hosts hash by these keys. It takes no
+    /// memory, and stands for every world in which nothing happened.
+    pub fn new(alloc: Global, keys: Keys, kind: Kind) -> State
         ensures kind { result.kind ≡ kind }
         ensures indexed { IsIndexed result }
         ensures made { result.table.made ≡ 0 }
@@ -32,10 +34,10 @@ impl State {
         State {
             kind,
             table: Generations::new(alloc),
-            names: Names::new(alloc),
-            watches: Watches::new(alloc),
-            addresses: Addresses::new(alloc),
-            results: Endpoints::new(alloc),
+            names: Names::new(alloc, keys),
+            watches: Watches::new(alloc, keys),
+            addresses: Addresses::new(alloc, keys),
+            results: Endpoints::new(alloc, keys),
             due: Due::new(alloc),
         }
     }

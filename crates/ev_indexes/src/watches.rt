@@ -11,6 +11,7 @@ ghost use Rattle.ev_indexes.specs.Watched.{Turns, unwatched, has_watcher, watche
 
 use crate::Numbers;
 use crate::copies::copy_map;
+use ev_keys::Keys;
 use ev_mentions::NameKey;
 use ev_types::{Arrival, Content, Gen, Name, Seq, TryCopy};
 use indexmap::IndexMap;
@@ -68,7 +69,7 @@ pub fn put_all(numbers: &mut Seq<Gen>, more: &[Gen]) -> Result<(), AllocError>
 /// By name what is known of it. A name of which nothing is known has no entry.
 #[derive(Drop)]
 pub struct Watches {
-    watches: IndexMap<Name, Watch>,
+    watches: IndexMap<Name, Watch, Keys>,
 }
 
 impl Model for Watches {
@@ -83,12 +84,12 @@ impl Model for Watches {
 }
 
 impl Watches {
-    /// No name is watched. It takes no memory.
-    pub fn new(alloc: Global) -> Watches
+    /// No name is watched. Names are hashed by these keys. It takes no memory.
+    pub fn new(alloc: Global, keys: Keys) -> Watches
         ensures { result ≡ [] }
     {
         Watches {
-            watches: IndexMap::new(alloc),
+            watches: IndexMap::with_hasher(alloc, keys),
         }
     }
 

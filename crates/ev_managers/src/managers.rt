@@ -12,6 +12,7 @@ ghost use Rattle.ev_managers.specs.Moved.{AreTold};
 
 use crate::moved::{Moved, promote};
 use ev_generations::Steps;
+use ev_keys::Keys;
 use ev_types::{Gen, GenRow, Kind};
 use ev_warming::Manager;
 use std::alloc::{AllocError, Global};
@@ -27,16 +28,16 @@ pub struct Managers {
 }
 
 impl Managers {
-    /// No generation, and nothing known. It takes no memory.
-    pub fn new(alloc: Global) -> Managers
+    /// No generation, and nothing known. Their tables hash by these keys. It takes no memory.
+    pub fn new(alloc: Global, keys: Keys) -> Managers
         ensures kept { AreManagersKept result }
         ensures forgotten { AreForgotten result }
         ensures stands { (workers : ℕ) (node : List ℕ) → StandFor result (opening workers node) }
     {
         Managers {
             made: 0,
-            clusters: Manager::new(alloc, Kind::Cds),
-            listeners: Manager::new(alloc, Kind::Lds),
+            clusters: Manager::new(alloc, keys, Kind::Cds),
+            listeners: Manager::new(alloc, keys, Kind::Lds),
         }
     }
 

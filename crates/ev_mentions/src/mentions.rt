@@ -5,19 +5,23 @@ ghost use Rattle.ev_model.specs.Verdicts.{items_named, is_among, is_removed};
 ghost use Rattle.ev_mentions.specs.Mentions.{HasNamed, Puts, PutsAgain};
 
 use crate::keys::NameKey;
+use ev_keys::Keys;
 use ev_types::{Item, Response, Text};
 use indexmap::IndexSet;
 use std::alloc::{AllocError, Global};
+use std::hash::{DefaultHasher, Hash};
 use std::marker::Model;
+
+type NameSet<'a> = IndexSet<NameKey<'a>, Keys>;
 
 /// The names that a response mentions, each found by a look-up: those of its resources, and those that it removes. Contracts see
 /// the response.
 #[derive(Drop)]
 pub struct Mentions<'a> {
     response: &'a Response,
-    named: IndexSet<NameKey<'a>>,
-    twice: IndexSet<NameKey<'a>>,
-    removed: IndexSet<NameKey<'a>>,
+    named: NameSet<'a>,
+    twice: NameSet<'a>,
+    removed: NameSet<'a>,
 }
 
 impl<'a> Model for Mentions<'a> {
@@ -38,10 +42,11 @@ impl<'a> Mentions<'a> {
     pub fn of(alloc: Global, response: &'a Response) -> Result<Mentions<'a>, AllocError>
         ensures { IfOk result (λ mentions. mentions ≡ response.now) }
     {
-        let mut named = IndexSet::new(alloc);
-        let mut twice = IndexSet::new(alloc);
+        let keys = keys_of(response);
+        let mut named = IndexSet::with_hasher(alloc, keys);
+        let mut twice = IndexSet::with_hasher(alloc, keys);
         note_all(response.items.as_slice(), &mut named, &mut twice)?;
-        let removed = set_of(alloc, response.removed.as_slice())?;
+        let removed = set_of(alloc, keys, response.removed.as_slice())?;
         Ok(Mentions {
             response,
             named,
@@ -85,11 +90,23 @@ impl<'a> Mentions<'a> {
     }
 }
 
+// The keys of the names that a response mentions.
+fn keys_of(response: &Response) -> Keys {
+    let mut fed = DefaultHasher::new();
+    for item in response.items.as_slice() {
+        item.name.as_str().hash(&mut fed);
+    }
+    for name in response.removed.as_slice() {
+        name.as_str().hash(&mut fed);
+    }
+    Keys::after(fed)
+}
+
 // Notes which names resources have, and which two or more have.
 fn note_all<'a>(
     items: &'a [Item],
-    named: &mut IndexSet<NameKey<'a>>,
-    twice: &mut IndexSet<NameKey<'a>>,
+    named: &mut NameSet<'a>,
+    twice: &mut NameSet<'a>,
 ) -> Result<(), AllocError>
     requires named { (name : List ℕ) → contains bytes_eq named.old name ≡ false }
     requires twice { (name : List ℕ) → contains bytes_eq twice.old name ≡ false }
@@ -105,8 +122,8 @@ fn note_all<'a>(
 // Notes one more resource of the name.
 fn note<'a>(
     name: &'a str,
-    named: &mut IndexSet<NameKey<'a>>,
-    twice: &mut IndexSet<NameKey<'a>>,
+    named: &mut NameSet<'a>,
+    twice: &mut NameSet<'a>,
 ) -> Result<(), AllocError>
     ensures named { OnOk result (Puts named.old named.new name.now) }
     ensures twice { OnOk result (PutsAgain named.old twice.old twice.new name.now) }
@@ -119,7 +136,7 @@ fn note<'a>(
 }
 
 // Puts the name into the set.
-fn insert<'a>(set: &mut IndexSet<NameKey<'a>>, name: &'a str) -> Result<(), AllocError>
+fn insert<'a>(set: &mut NameSet<'a>, name: &'a str) -> Result<(), AllocError>
     ensures { OnOk result (Puts set.old set.new name.now) }
 {
     let Ok(_) = set.insert(NameKey::new(name)) else {
@@ -129,10 +146,10 @@ fn insert<'a>(set: &mut IndexSet<NameKey<'a>>, name: &'a str) -> Result<(), Allo
 }
 
 // The set of these names.
-fn set_of<'a>(alloc: Global, names: &'a [Text]) -> Result<IndexSet<NameKey<'a>>, AllocError>
+fn set_of<'a>(alloc: Global, keys: Keys, names: &'a [Text]) -> Result<NameSet<'a>, AllocError>
     ensures { IfOk result (λ set. (name : List ℕ) → contains bytes_eq set name ≡ is_among name names.now) }
 {
-    let mut set = IndexSet::new(alloc);
+    let mut set = IndexSet::with_hasher(alloc, keys);
     for name in names {
         insert(&mut set, name.as_str())?;
     }

@@ -8,6 +8,7 @@ ghost use Rattle.ev_model.specs.Dead.{numbers_in_use, picture_held};
 ghost use Rattle.ev_snapshot.specs.Changes.{IsOrdered};
 ghost use Rattle.ev_pictures.specs.Pictures.{AnswersPublication, IsAnswerOf, Publishes, StandsAfter, HasPictures, is_shown_by, is_shown_in, opening_pictures, settled_on, shown_after, version_after, version_held, version_showing, version_where, with_shown, with_settled};
 
+use ev_keys::Keys;
 use ev_snapshot::{Changes, Snapshot};
 use ev_types::Gen;
 use std::alloc::{AllocError, Global};
@@ -34,12 +35,13 @@ impl Model for Pictures {
 }
 
 impl Pictures {
-    /// Nothing was published, and each of this many workers holds the empty picture.
-    pub fn new(alloc: Global, workers: u32) -> Result<Pictures, AllocError>
+    /// Nothing was published, and each of this many workers holds the empty picture. The tables of all pictures hash by these
+    /// keys.
+    pub fn new(alloc: Global, keys: Keys, workers: u32) -> Result<Pictures, AllocError>
         ensures empty { IfOk result (λ pictures. pictures ≡ opening_pictures workers) }
         ensures world { IfOk result (λ pictures. (node : List ℕ) → HasPictures pictures (opening workers node)) }
     {
-        let last = Snapshot::empty(alloc)?;
+        let last = Snapshot::empty(alloc, keys)?;
         let held = held_by_all(alloc, &last, workers)?;
         Ok(Pictures { last, held })
     }

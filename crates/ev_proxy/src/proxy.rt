@@ -18,6 +18,7 @@ ghost use Rattle.ev_proxy.specs.Proxies.{AreRowsOf, IsAt, IsKnown, numbers_reape
 use crate::changed::Changed;
 use ev_drain::Deferred;
 use ev_generations::Steps;
+use ev_keys::Keys;
 use ev_retirement::Holders;
 use ev_snapshot::Snapshot;
 use ev_state::State;
@@ -41,13 +42,14 @@ pub struct Proxy {
 }
 
 impl Proxy {
-    /// Nothing is known yet, and each of this many workers holds the empty picture.
-    pub fn new(alloc: Global, workers: u32, node: &Text) -> Result<Proxy, AllocError>
+    /// Nothing is known yet, and each of this many workers holds the empty picture. The tables by what an input names hash by
+    /// these keys.
+    pub fn new(alloc: Global, keys: Keys, workers: u32, node: &Text) -> Result<Proxy, AllocError>
         ensures at { IfOk result (λ p. IsAt p (opening workers node.now)) }
         ensures deferred { IfOk result (λ p. p.deferred.0 ≡ []) }
     {
-        let holders = Holders::new(alloc, workers)?;
-        let state = State::new(alloc, node)?;
+        let holders = Holders::new(alloc, keys, workers)?;
+        let state = State::new(alloc, keys, node)?;
         Ok(Proxy {
             state,
             holders,

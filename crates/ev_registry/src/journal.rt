@@ -15,6 +15,7 @@ use crate::steps::{make_anew, recover, settle_after, step_after};
 use crate::views::{View, rows_of};
 use ev_actors::Journaled;
 use ev_drain::Deferred;
+use ev_keys::Keys;
 use ev_proxy::Proxy;
 use ev_snapshot::Snapshot;
 use ev_types::{Actor, Entry, Event, Format, GenRow, Seq, Text, TryCopy};
@@ -30,6 +31,8 @@ use std::sync::Arc;
 #[derive(Drop)]
 pub struct Registry {
     alloc: Global,
+    // By these the tables of what is known hash, also when it is made anew.
+    keys: Keys,
     format: Format,
     workers: u32,
     node: Text,
@@ -56,9 +59,11 @@ impl Model for Registry {
 }
 
 impl Registry {
-    /// A registry in which nothing was done yet, for 1 to 16 workers, by the rules of a format.
+    /// A registry in which nothing was done yet, for 1 to 16 workers, by the rules of a format. The tables by what an input names
+    /// hash by these keys.
     pub fn new(
         alloc: Global,
+        keys: Keys,
         workers: u32,
         node: &Text,
         format: Format,
@@ -70,13 +75,14 @@ impl Registry {
         ensures none { IfOk result (λ made. made.deferred ≡ []) }
         ensures known { IfOk result (λ made. made.is_lost ≡ false) }
     {
-        let registry = Registry::of_journal(alloc, format, workers, node, Vec::new(alloc))?;
+        let registry = Registry::of_journal(alloc, keys, format, workers, node, Vec::new(alloc))?;
         Ok(registry)
     }
 
     /// The registry in which these entries were done, which are a run: each event once more, in order. No row waits to be dropped.
     pub fn of_journal(
         alloc: Global,
+        keys: Keys,
         format: Format,
         workers: u32,
         node: &Text,
@@ -91,6 +97,7 @@ impl Registry {
     {
         let kept = node.copy(alloc)?;
         let past = Past {
+            keys,
             format,
             workers,
             node,
@@ -106,6 +113,7 @@ impl Registry {
         };
         Ok(Registry {
             alloc,
+            keys,
             format,
             workers,
             node: kept,
@@ -158,6 +166,7 @@ impl Journaled for Registry {
     {
         let is_lost = replace(&mut self.is_lost, true);
         let past = Past {
+            keys: self.keys,
             format: self.format,
             workers: self.workers,
             node: &self.node,
@@ -193,6 +202,7 @@ impl Journaled for Registry {
     {
         let was_lost = replace(&mut self.is_lost, true);
         let past = Past {
+            keys: self.keys,
             format: self.format,
             workers: self.workers,
             node: &self.node,

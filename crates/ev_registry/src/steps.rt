@@ -43,7 +43,7 @@ pub(crate) fn make_anew(alloc: Global, past: Past<'_>) -> Result<Proxy, AllocErr
     requires stepped { HaveStepped past.format past.workers (opening past.workers past.node.now) past.journal.now }
     ensures { IfOk result (λ proxy. IsAt proxy (world_now (parts_of past.entry))) }
 {
-    let mut proxy = Proxy::new(alloc, past.workers, past.node)?;
+    let mut proxy = Proxy::new(alloc, past.keys, past.workers, past.node)?;
     for place in 0..past.journal.len() {
         step_again(&mut proxy, alloc, past, place)?;
     }
@@ -64,6 +64,7 @@ fn step_again(
 {
     let entry = &past.journal[place];
     let before = Past {
+        keys: past.keys,
         format: past.format,
         workers: past.workers,
         node: past.node,

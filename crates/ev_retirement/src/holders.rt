@@ -16,6 +16,7 @@ use crate::asking::Asking;
 use crate::closing::{Closing, enter_on_each};
 use crate::retiring::is_dropped;
 use ev_drain::Drain;
+use ev_keys::Keys;
 use ev_ledger::Ledger;
 use ev_pictures::Pictures;
 use ev_snapshot::{Changes, Snapshot};
@@ -50,14 +51,15 @@ impl Model for Holders {
 
 impl Holders {
     /// Nothing was published, no connection is open, and no generation drains; each of this many workers holds the empty picture.
-    pub fn new(alloc: Global, workers: u32) -> Result<Holders, AllocError>
+    /// Names and addresses hash by these keys.
+    pub fn new(alloc: Global, keys: Keys, workers: u32) -> Result<Holders, AllocError>
         ensures world { IfOk result (λ holders. (node : List ℕ) → HoldsFor holders (opening workers node)) }
     {
-        let pictures = Pictures::new(alloc, workers)?;
+        let pictures = Pictures::new(alloc, keys, workers)?;
         Ok(Holders {
             pictures,
             ledger: Ledger::new(alloc),
-            drain: Drain::new(alloc),
+            drain: Drain::new(alloc, keys),
             asking: Asking::new(alloc),
             closing: Closing::new(alloc),
         })

@@ -13,6 +13,7 @@ use crate::players::{passes_of, play_all, players_of};
 use ev_actors::Journaled;
 use ev_commits::Kept;
 use ev_gate::{Gate, Pass, Stands};
+use ev_keys::Keys;
 use ev_model_laws::runs_have_the_laws;
 use ev_types::{Actor, Script};
 use ev_worker::Worker;
@@ -23,10 +24,11 @@ use std::thread::Threads;
 /// Takes the whole script with a thread for each actor: what comes back shows a run of the script by the rules of format 2, which
 /// holds each actor's operations in order, but for settles that are left out while a worker rests. What is passed has done nothing
 /// yet. Which run it is, the threads decide; `pace` is called before each turn. Where an actor has no memory the others go on to
-/// their end, and the answer is that error.
+/// their end, and the answer is that error. The workers' tables hash by these keys.
 pub fn run<R: Threads + Wait + Sync, J: Journaled + Send + Drop, P: Pace + Sync>(
     rt: &R,
     alloc: Global,
+    keys: Keys,
     script: &Script,
     pace: &P,
     journaled: J,
@@ -35,7 +37,7 @@ pub fn run<R: Threads + Wait + Sync, J: Journaled + Send + Drop, P: Pace + Sync>
     ensures { IfOk result (λ journaled. HasRun script.now (J.shows journaled)) }
 {
     let seats = 4 + worker_count(script);
-    let tasks = make_tasks(alloc, &journaled, script)?;
+    let tasks = make_tasks(alloc, keys, &journaled, script)?;
     let rooms = Rooms::new(alloc, seats as usize)?;
     run_tasks(rt, alloc, script, pace, journaled, tasks, rooms, seats)
 }
@@ -142,6 +144,7 @@ fn main_tasks(alloc: Global) -> Result<Vec<Task>, AllocError>
 // What each actor begins with: a worker with the last picture, with nothing done yet.
 fn make_tasks<J: Journaled>(
     alloc: Global,
+    keys: Keys,
     journaled: &J,
     script: &Script,
 ) -> Result<Vec<Task>, AllocError>
@@ -152,7 +155,7 @@ fn make_tasks<J: Journaled>(
 {
     let mut tasks = main_tasks(alloc)?;
     for number in 0..worker_count(script) {
-        tasks.push(Task::Worker(make_worker(alloc, journaled, number)?))?;
+        tasks.push(Task::Worker(make_worker(alloc, keys, journaled, number)?))?;
     }
     Ok(tasks)
 }
@@ -160,11 +163,12 @@ fn make_tasks<J: Journaled>(
 // A worker that has done nothing yet, with the last picture.
 fn make_worker<J: Journaled>(
     alloc: Global,
+    keys: Keys,
     journaled: &J,
     number: u32,
 ) -> Result<Worker, AllocError>
     ensures { IfOk result (λ worker. HasBegun number (last_picture (world_now (J.shows journaled.now))) worker) }
 {
     let snapshot = journaled.snapshot()?;
-    Worker::new(alloc, number, snapshot)
+    Worker::new(alloc, keys, number, snapshot)
 }

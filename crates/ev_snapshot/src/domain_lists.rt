@@ -6,27 +6,32 @@ ghost use Rattle.ev_snapshot.specs.Domains.{domains_in, host_at, lower_domain};
 use crate::domain_table::Domains;
 use crate::domains::Domain;
 use crate::routed_host::RoutedHost;
+use ev_keys::Keys;
 use ev_model::Routing;
 use ev_types::{RouteTable, Shared, Text};
 use std::alloc::{AllocError, Global};
 
-/// The domains by which connections go.
-pub(crate) fn domains_in(alloc: Global, routing: &Routing) -> Result<Domains, AllocError>
+/// The domains by which connections go. Their tables hash by these keys.
+pub(crate) fn domains_in(
+    alloc: Global,
+    keys: Keys,
+    routing: &Routing,
+) -> Result<Domains, AllocError>
     ensures { IfOk result (λ domains. domains ≡ domains_in routing.now) }
 {
     match routing {
-        Routing::Table(table) => domains_of(alloc, table),
-        Routing::Tcp(_) | Routing::Other => Ok(Domains::new(alloc)),
+        Routing::Table(table) => domains_of(alloc, keys, table),
+        Routing::Tcp(_) | Routing::Other => Ok(Domains::new(alloc, keys)),
     }
 }
 
 // The domains of each virtual host of a table, in order.
-fn domains_of(alloc: Global, table: &Shared<RouteTable>) -> Result<Domains, AllocError>
+fn domains_of(alloc: Global, keys: Keys, table: &Shared<RouteTable>) -> Result<Domains, AllocError>
     ensures { IfOk result (λ domains. domains ≡ domains_of table.now) }
 {
-    let mut domains = Domains::new(alloc);
+    let mut domains = Domains::new(alloc, keys);
     for place in 0..table.get().hosts.len() {
-        domains = with_host(alloc, domains, table, place)?;
+        domains = with_host(alloc, keys, domains, table, place)?;
     }
     Ok(domains)
 }
@@ -34,6 +39,7 @@ fn domains_of(alloc: Global, table: &Shared<RouteTable>) -> Result<Domains, Allo
 // The domains with those of the virtual host at this place.
 fn with_host(
     alloc: Global,
+    keys: Keys,
     domains: Domains,
     table: &Shared<RouteTable>,
     place: usize,
@@ -42,7 +48,7 @@ fn with_host(
     ensures { IfOk result (λ new. new ≡ domains ++ domains_of (record { hosts = host_at table.now.hosts place ∷ [] })) }
 {
     let mut domains = domains;
-    let host = Shared::new(alloc, RoutedHost::new(alloc, table, place)?)?;
+    let host = Shared::new(alloc, RoutedHost::new(alloc, keys, table, place)?)?;
     for domain in host.get().host().domains.as_slice() {
         domains = domains.with(lower_domain(alloc, domain, &host)?)?;
     }

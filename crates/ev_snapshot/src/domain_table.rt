@@ -11,6 +11,7 @@ use crate::host_texts::{DomainText, HostText};
 use crate::lengths::Lengths;
 use crate::star_texts::{PrefixText, SuffixText};
 use crate::texts::begins_lower;
+use ev_keys::Keys;
 use ev_types::Seq;
 use indexmap::IndexMap;
 use std::alloc::{AllocError, Global};
@@ -21,7 +22,7 @@ use std::marker::Model;
 #[derive(Drop)]
 pub(crate) struct Domains {
     list: Seq<Domain>,
-    by_text: IndexMap<DomainText, Domain>,
+    by_text: IndexMap<DomainText, Domain, Keys>,
     /// How many bytes the suffix forms have beside the star.
     suffixes: Lengths,
     /// How many bytes the prefix forms have beside the star.
@@ -43,13 +44,13 @@ impl Model for Domains {
 }
 
 impl Domains {
-    /// No domain. It takes no memory.
-    pub(crate) fn new(alloc: Global) -> Domains
+    /// No domain. Its table hashes by these keys. It takes no memory.
+    pub(crate) fn new(alloc: Global, keys: Keys) -> Domains
         ensures { result ≡ [] }
     {
         Domains {
             list: Seq::new(alloc),
-            by_text: IndexMap::new(alloc),
+            by_text: IndexMap::with_hasher(alloc, keys),
             suffixes: Lengths::new(alloc),
             prefixes: Lengths::new(alloc),
         }
@@ -170,7 +171,10 @@ fn enter_form(lengths: &mut Lengths, is_form: bool, count: usize) -> Result<(), 
 }
 
 // Enters a domain into the table by text, where it is the first of its text.
-fn enter_text(table: &mut IndexMap<DomainText, Domain>, domain: &Domain) -> Result<(), AllocError>
+fn enter_text(
+    table: &mut IndexMap<DomainText, Domain, Keys>,
+    domain: &Domain,
+) -> Result<(), AllocError>
     ensures { OnOk result (GainsText domain.now (get bytes_eq table.old) (get bytes_eq table.new)) }
 {
     let text = domain.key()?;

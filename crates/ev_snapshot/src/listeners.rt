@@ -13,6 +13,7 @@ use crate::names::Row;
 use crate::routed::RoutedListener;
 use crate::rows::Rows;
 use crate::table::Table;
+use ev_keys::Keys;
 use ev_types::{Ask, Gen, Host, Ip, Shared};
 use std::alloc::{AllocError, Global};
 use std::marker::Model;
@@ -39,14 +40,19 @@ impl Model for Listeners {
 }
 
 impl Listeners {
-    /// No listener.
-    pub(crate) fn new(alloc: Global) -> Result<Listeners, AllocError>
+    /// No listener. Its tables hash by these keys.
+    pub(crate) fn new(alloc: Global, keys: Keys) -> Result<Listeners, AllocError>
         ensures { IfOk result (λ listeners. listeners ≡ []) }
     {
         Ok(Listeners {
-            rows: Rows::new(alloc)?,
-            groups: Table::new(alloc)?,
+            rows: Rows::new(alloc, keys)?,
+            groups: Table::new(alloc, keys)?,
         })
+    }
+
+    /// The keys by which its tables hash.
+    pub(crate) fn keys(&self) -> Keys {
+        self.groups.keys()
     }
 
     /// The listener that a connection comes to: at its address and port, else one that takes every address.

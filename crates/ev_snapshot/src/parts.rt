@@ -8,6 +8,7 @@ use crate::listeners::Listeners;
 use crate::routed::RoutedListener;
 use crate::rows::Rows;
 use crate::weighed::WeighedCluster;
+use ev_keys::Keys;
 use ev_model::{ServedCluster, ServedListener};
 use ev_types::Shared;
 use std::alloc::{AllocError, Global};
@@ -20,14 +21,14 @@ pub(crate) struct Parts {
 }
 
 impl Parts {
-    /// No cluster and no listener.
-    pub(crate) fn new(alloc: Global) -> Result<Parts, AllocError>
+    /// No cluster and no listener. Their tables hash by these keys.
+    pub(crate) fn new(alloc: Global, keys: Keys) -> Result<Parts, AllocError>
         ensures clusters { IfOk result (λ parts. parts.clusters ≡ []) }
         ensures listeners { IfOk result (λ parts. parts.listeners ≡ []) }
     {
         Ok(Parts {
-            clusters: Rows::new(alloc)?,
-            listeners: Listeners::new(alloc)?,
+            clusters: Rows::new(alloc, keys)?,
+            listeners: Listeners::new(alloc, keys)?,
         })
     }
 
@@ -239,8 +240,9 @@ fn shared_listener(
 ) -> Result<Shared<RoutedListener>, AllocError>
     ensures { IfOk result (λ shared. shared ≡ listener.now) }
 {
+    let keys = before.keys();
     let before = before.named(listener.name.as_str());
-    Shared::new(alloc, RoutedListener::new(alloc, listener, before)?)
+    Shared::new(alloc, RoutedListener::new(alloc, keys, listener, before)?)
 }
 
 // Whether these changes leave the listeners under each name that they touch.

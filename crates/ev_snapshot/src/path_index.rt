@@ -12,6 +12,7 @@ ghost use Rattle.ev_snapshot.specs.Paths.{AreCovered, FindsFirst, KeepsLengths, 
 use crate::paths::{PREFIX, PathKey, PathText, SEPARATED, WHOLE};
 use crate::table::put;
 use crate::texts::without_query;
+use ev_keys::Keys;
 use ev_types::{PathMatch, PathSpecifier, Route, RouteTable, Seq, Shared};
 use indexmap::IndexMap;
 use std::alloc::{AllocError, Global};
@@ -19,14 +20,15 @@ use std::alloc::{AllocError, Global};
 /// The first place of each path match of a virtual host's routes, and the lengths of those by a prefix, each once.
 #[derive(Drop)]
 pub(crate) struct PathIndex {
-    places: IndexMap<PathKey, usize>,
+    places: IndexMap<PathKey, usize, Keys>,
     lengths: Seq<usize>,
 }
 
 impl PathIndex {
-    /// The index of the virtual host at this place.
+    /// The index of the virtual host at this place, which hashes by these keys.
     pub(crate) fn new(
         alloc: Global,
+        keys: Keys,
         table: &Shared<RouteTable>,
         host: usize,
     ) -> Result<PathIndex, AllocError>
@@ -35,7 +37,7 @@ impl PathIndex {
     {
         let routes = table.get().hosts.as_slice()[host].routes.as_slice();
         Ok(PathIndex {
-            places: places_of(alloc, table, host, routes.len())?,
+            places: places_of(alloc, keys, table, host, routes.len())?,
             lengths: lengths_of(alloc, routes)?,
         })
     }
@@ -138,15 +140,16 @@ fn is_part(path: &[u8], length: usize) -> bool
 // The first place of each path match of the first n routes of the virtual host at this place.
 fn places_of(
     alloc: Global,
+    keys: Keys,
     table: &Shared<RouteTable>,
     host: usize,
     count: usize,
-) -> Result<IndexMap<PathKey, usize>, AllocError>
+) -> Result<IndexMap<PathKey, usize, Keys>, AllocError>
     requires host { host < length table.now.hosts }
     requires count { count ≡ length (host_at table.now.hosts host).routes }
     ensures { IfOk result (λ places. FindsFirst (host_at table.now.hosts host).routes (get bytes_eq places)) }
 {
-    let mut places = IndexMap::new(alloc);
+    let mut places = IndexMap::with_hasher(alloc, keys);
     for route in (0..count).rev() {
         put(
             &mut places,

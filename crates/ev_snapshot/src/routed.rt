@@ -6,6 +6,7 @@ ghost use Rattle.ev_snapshot.specs.Wanted.{left_by};
 use crate::criteria::Criteria;
 use crate::names::Row;
 use crate::routed_chain::{IndexedRouting, RoutedChain, indexed};
+use ev_keys::Keys;
 use ev_model::{Routing, ServedChain, ServedListener};
 use ev_types::{Gen, Host, Name, Seq, Shared, TryCopy};
 use std::alloc::{AllocError, Global};
@@ -39,17 +40,19 @@ impl Model for RoutedListener {
 
 impl RoutedListener {
     /// A copy of this listener. Its routes and what its chains ask for are shared; so are the tables of each chain that the
-    /// listener before has in the same place.
+    /// listener before has in the same place. New ones hash by these keys.
     pub(crate) fn new(
         alloc: Global,
+        keys: Keys,
         listener: &ServedListener,
         before: Option<&RoutedListener>,
     ) -> Result<RoutedListener, AllocError>
         ensures { IfOk result (λ routed. routed ≡ listener.now) }
     {
-        let filter_chains = chains_of(alloc, listener.filter_chains.as_slice(), before)?;
+        let filter_chains = chains_of(alloc, keys, listener.filter_chains.as_slice(), before)?;
         let default_filter_chain = default_of(
             alloc,
+            keys,
             &listener.default_filter_chain,
             default_before(before),
         )?;
@@ -102,6 +105,7 @@ impl RoutedListener {
 // The chains with their tables.
 fn chains_of(
     alloc: Global,
+    keys: Keys,
     chains: &[ServedChain],
     before: Option<&RoutedListener>,
 ) -> Result<Seq<RoutedChain>, AllocError>
@@ -112,6 +116,7 @@ fn chains_of(
         let chain = &chains[place];
         let routing = indexed(
             alloc,
+            keys,
             &chain.routing,
             routing_before(before, place),
             last_routing(routed.as_slice()),
@@ -154,13 +159,14 @@ fn default_before(before: Option<&RoutedListener>) -> Option<&Shared<IndexedRout
 // The routing of the default chain with its tables.
 fn default_of(
     alloc: Global,
+    keys: Keys,
     routing: &Option<Routing>,
     before: Option<&Shared<IndexedRouting>>,
 ) -> Result<Option<Shared<IndexedRouting>>, AllocError>
     ensures { IfOk result (λ indexed. indexed ≡ routing.now) }
 {
     match routing {
-        Some(routing) => Ok(Some(indexed(alloc, routing, before, None)?)),
+        Some(routing) => Ok(Some(indexed(alloc, keys, routing, before, None)?)),
         None => Ok(None),
     }
 }

@@ -5,6 +5,7 @@ ghost use Rattle.ev_snapshot.specs.Domains.{host_for};
 use crate::domain_lists::domains_in;
 use crate::domain_table::Domains;
 use crate::routed_host::RoutedHost;
+use ev_keys::Keys;
 use ev_model::Routing;
 use ev_types::{FilterChainMatch, Shared, TryCopy};
 use std::alloc::{AllocError, Global};
@@ -30,11 +31,15 @@ impl Model for IndexedRouting {
 }
 
 impl IndexedRouting {
-    /// A copy of this routing; its routes are shared.
-    pub(crate) fn new(alloc: Global, routing: &Routing) -> Result<IndexedRouting, AllocError>
+    /// A copy of this routing; its routes are shared. Its tables hash by these keys.
+    pub(crate) fn new(
+        alloc: Global,
+        keys: Keys,
+        routing: &Routing,
+    ) -> Result<IndexedRouting, AllocError>
         ensures { IfOk result (λ indexed. indexed ≡ routing.now) }
     {
-        let domains = domains_in(alloc, routing)?;
+        let domains = domains_in(alloc, keys, routing)?;
         let routing = routing.copy(alloc)?;
         Ok(IndexedRouting { routing, domains })
     }
@@ -73,6 +78,7 @@ impl PartialEq for IndexedRouting {
 /// The routing with its domains, shared with one of these where that is the same.
 pub(crate) fn indexed(
     alloc: Global,
+    keys: Keys,
     routing: &Routing,
     before: Option<&Shared<IndexedRouting>>,
     last: Option<&Shared<IndexedRouting>>,
@@ -85,7 +91,7 @@ pub(crate) fn indexed(
     if let Some(same) = same_as(routing, before) {
         return same.share();
     }
-    Shared::new(alloc, IndexedRouting::new(alloc, routing)?)
+    Shared::new(alloc, IndexedRouting::new(alloc, keys, routing)?)
 }
 
 // The other routing, where it is the same.

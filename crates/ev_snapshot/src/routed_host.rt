@@ -7,6 +7,7 @@ ghost use Rattle.ev_snapshot.specs.Paths.{are_by_path, is_by_path};
 
 use crate::path_index::PathIndex;
 use crate::routes::route_for;
+use ev_keys::Keys;
 use ev_types::{Ask, PathSpecifier, Route, RouteTable, Shared, VirtualHost};
 use std::alloc::{AllocError, Global};
 use std::marker::Model;
@@ -39,16 +40,17 @@ impl Model for RoutedHost {
 }
 
 impl RoutedHost {
-    /// The virtual host at this place of the table, of which nothing is copied.
+    /// The virtual host at this place of the table, of which nothing is copied. An index hashes by these keys.
     pub(crate) fn new(
         alloc: Global,
+        keys: Keys,
         table: &Shared<RouteTable>,
         place: usize,
     ) -> Result<RoutedHost, AllocError>
         requires { place < length table.now.hosts }
         ensures { IfOk result (λ host. host ≡ host_at table.now.hosts place) }
     {
-        let index = index_for(alloc, table, place)?;
+        let index = index_for(alloc, keys, table, place)?;
         let table = table.share()?;
         Ok(RoutedHost {
             table,
@@ -80,6 +82,7 @@ impl RoutedHost {
 // them.
 fn index_for(
     alloc: Global,
+    keys: Keys,
     table: &Shared<RouteTable>,
     place: usize,
 ) -> Result<Option<PathIndex>, AllocError>
@@ -91,7 +94,7 @@ fn index_for(
     if count <= FEW_ROUTES || !are_by_path(routes) {
         return Ok(None);
     }
-    let index = PathIndex::new(alloc, table, place)?;
+    let index = PathIndex::new(alloc, keys, table, place)?;
     if index.lengths() > count / TRIED {
         return Ok(None);
     }

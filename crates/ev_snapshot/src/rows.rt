@@ -9,6 +9,7 @@ ghost use Rattle.ev_snapshot.specs.Rows.{named, numbered, put_before, without_na
 
 use crate::names::{NameOf, Row};
 use crate::table::Table;
+use ev_keys::Keys;
 use ev_types::{Gen, Shared};
 use std::alloc::{AllocError, Global};
 use std::marker::Model;
@@ -35,13 +36,13 @@ impl<T: Row> Model for Rows<T> {
 }
 
 impl<T: Row> Rows<T> {
-    /// No row.
-    pub(crate) fn new(alloc: Global) -> Result<Rows<T>, AllocError>
+    /// No row. Its tables hash by these keys.
+    pub(crate) fn new(alloc: Global, keys: Keys) -> Result<Rows<T>, AllocError>
         ensures { IfOk result (λ rows. rows ≡ []) }
     {
         Ok(Rows {
-            by_name: Table::new(alloc)?,
-            by_number: Table::new(alloc)?,
+            by_name: Table::new(alloc, keys)?,
+            by_number: Table::new(alloc, keys)?,
         })
     }
 

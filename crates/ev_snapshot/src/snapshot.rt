@@ -19,6 +19,7 @@ use crate::routed_chain::IndexedRouting;
 use crate::routed_host::RoutedHost;
 use crate::targets::{name_picked, weight_sum};
 use crate::weighed::WeighedCluster;
+use ev_keys::Keys;
 use ev_model::{Choice, Routing, Taken};
 use ev_types::{Action, Ask, Gen, Host, Route, Target};
 use std::alloc::{AllocError, Global};
@@ -45,13 +46,13 @@ impl Model for Snapshot {
 }
 
 impl Snapshot {
-    /// The snapshot of picture 0, which shows nothing.
-    pub fn empty(alloc: Global) -> Result<Arc<Snapshot>, AllocError>
+    /// The snapshot of picture 0, which shows nothing. Its tables hash by these keys, and so do those of each snapshot after it.
+    pub fn empty(alloc: Global, keys: Keys) -> Result<Arc<Snapshot>, AllocError>
         ensures picture { IfOk result (λ snapshot. arc_value snapshot ≡ empty_picture) }
     {
         let empty = Snapshot {
             version: 0,
-            parts: Parts::new(alloc)?,
+            parts: Parts::new(alloc, keys)?,
         };
         Ok(Arc::new(alloc, empty)?)
     }

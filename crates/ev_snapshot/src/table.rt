@@ -1,8 +1,9 @@
 ghost use Rattle.std.specs.Prelude.{◌≡◌, ◌++◌, ◌∷◌, [], None, Some, IfOk, OnOk};
 ghost use Rattle.std.specs.Option.{option_copied};
-ghost use Rattle.indexmap.specs.IndexMap.{get};
+ghost use Rattle.indexmap.specs.IndexMap.{get, hasher_of};
 ghost use Rattle.ev_snapshot.specs.Layers.{HasOverBase, HaveSame, LooksBelow, LooksOver, SetsAt, SetsEntry, SetsNew, entry_at, entry_by, entry_in, found, found_by, is_short};
 
+use ev_keys::Keys;
 use ev_types::{Seq, Shared, TryCopy};
 use indexmap::{Equivalent, IndexMap};
 use std::alloc::{AllocError, Global};
@@ -10,28 +11,35 @@ use std::hash::Hash;
 use std::sync::Arc;
 
 /// What is another entry of a table than below, or none.
-pub(crate) type Layer<K, V> = IndexMap<K, Option<V>>;
+pub(crate) type Layer<K, V> = IndexMap<K, Option<V>, Keys>;
 
 /// A table in layers. Over a base lie layers of what is another entry since, or none, the newest first; many snapshots
 /// share them. What changes now lies over all. The base and each layer are at least four times as long as the one over
 /// them: so there are few, and a copy, which shares them, costs as much as there are.
 #[derive(Drop)]
 pub(crate) struct Table<K: Eq + Hash, V> {
-    pub(crate) base: Arc<IndexMap<K, V>>,
+    pub(crate) base: Arc<IndexMap<K, V, Keys>>,
     pub(crate) layers: Seq<Shared<Layer<K, V>>>,
     pub(crate) over: Layer<K, V>,
 }
 
 impl<K: Eq + Hash + TryCopy + Drop, V: TryCopy + Drop> Table<K, V> {
-    /// A table without entries.
-    pub(crate) fn new(alloc: Global) -> Result<Table<K, V>, AllocError>
+    /// A table without entries, which hashes by these keys.
+    pub(crate) fn new(alloc: Global, keys: Keys) -> Result<Table<K, V>, AllocError>
         ensures { IfOk result (λ table. (key : K) → found K.eq table key ≡ None) }
     {
         Ok(Table {
-            base: Arc::new(alloc, IndexMap::new(alloc))?,
+            base: Arc::new(alloc, IndexMap::with_hasher(alloc, keys))?,
             layers: Seq::new(alloc),
-            over: IndexMap::new(alloc),
+            over: IndexMap::with_hasher(alloc, keys),
         })
+    }
+
+    /// The keys by which it hashes.
+    pub(crate) fn keys(&self) -> Keys
+        ensures { result ≡ hasher_of self.now.over }
+    {
+        *self.over.hasher()
     }
 
     /// What it has under a key, by a look-up in each layer at most.
@@ -105,7 +113,7 @@ impl<K: Eq + Hash + TryCopy + Drop, V: TryCopy + Drop> Table<K, V> {
         Ok(Table {
             base: Arc::new(alloc, base)?,
             layers: Seq::new(alloc),
-            over: IndexMap::new(alloc),
+            over: IndexMap::with_hasher(alloc, self.keys()),
         })
     }
 
@@ -123,7 +131,7 @@ impl<K: Eq + Hash + TryCopy + Drop, V: TryCopy + Drop> Table<K, V> {
         Ok(Table {
             base: Arc::try_clone(&self.base)?,
             layers,
-            over: IndexMap::new(alloc),
+            over: IndexMap::with_hasher(alloc, self.keys()),
         })
     }
 }
@@ -186,7 +194,7 @@ fn is_short(length: usize, over: usize) -> bool
 
 /// Puts a value in place of that of its key.
 pub(crate) fn put<K: Eq + Hash + Drop, V: Drop>(
-    map: &mut IndexMap<K, V>,
+    map: &mut IndexMap<K, V, Keys>,
     key: K,
     value: V,
 ) -> Result<(), AllocError>
@@ -200,7 +208,7 @@ pub(crate) fn put<K: Eq + Hash + Drop, V: Drop>(
 
 // Puts a value in place of that of its key, or removes the key.
 fn put_or_remove<K: Eq + Hash + Drop, V: Drop>(
-    map: &mut IndexMap<K, V>,
+    map: &mut IndexMap<K, V, Keys>,
     key: K,
     value: Option<V>,
 ) -> Result<(), AllocError>
@@ -215,14 +223,14 @@ fn put_or_remove<K: Eq + Hash + Drop, V: Drop>(
     }
 }
 
-// A map with the same under each key, in memory of its own.
+// A map with the same under each key, in memory of its own. It hashes by the same keys.
 fn copy_of<K: Eq + Hash + TryCopy + Drop, V: TryCopy + Drop>(
     alloc: Global,
-    map: &IndexMap<K, V>,
-) -> Result<IndexMap<K, V>, AllocError>
+    map: &IndexMap<K, V, Keys>,
+) -> Result<IndexMap<K, V, Keys>, AllocError>
     ensures { IfOk result (λ copied. (key : K) → get K.eq copied key ≡ get K.eq map.now key) }
 {
-    let mut copied = IndexMap::new(alloc);
+    let mut copied = IndexMap::with_hasher(alloc, *map.hasher());
     put_below(alloc, &mut copied, map)?;
     Ok(copied)
 }
@@ -230,8 +238,8 @@ fn copy_of<K: Eq + Hash + TryCopy + Drop, V: TryCopy + Drop>(
 // Puts what an older map has into one, but under its keys.
 fn put_below<K: Eq + Hash + TryCopy + Drop, V: TryCopy + Drop>(
     alloc: Global,
-    map: &mut IndexMap<K, V>,
-    older: &IndexMap<K, V>,
+    map: &mut IndexMap<K, V, Keys>,
+    older: &IndexMap<K, V, Keys>,
 ) -> Result<(), AllocError>
     ensures { OnOk result (LooksBelow (get K.eq older.now) (get K.eq map.old) (get K.eq map.new)) }
 {
@@ -244,7 +252,7 @@ fn put_below<K: Eq + Hash + TryCopy + Drop, V: TryCopy + Drop>(
 // Puts a copy of a value under its key, where there is none.
 fn put_new<K: Eq + Hash + TryCopy + Drop, V: TryCopy + Drop>(
     alloc: Global,
-    map: &mut IndexMap<K, V>,
+    map: &mut IndexMap<K, V, Keys>,
     key: &K,
     value: &V,
 ) -> Result<(), AllocError>
@@ -260,7 +268,7 @@ fn put_new<K: Eq + Hash + TryCopy + Drop, V: TryCopy + Drop>(
 // Puts what lies over a base into it.
 fn put_over<K: Eq + Hash + TryCopy + Drop, V: TryCopy + Drop>(
     alloc: Global,
-    base: &mut IndexMap<K, V>,
+    base: &mut IndexMap<K, V, Keys>,
     over: &Layer<K, V>,
 ) -> Result<(), AllocError>
     ensures { OnOk result (LooksOver (get K.eq over.now) (get K.eq base.old) (get K.eq base.new)) }
@@ -274,7 +282,7 @@ fn put_over<K: Eq + Hash + TryCopy + Drop, V: TryCopy + Drop>(
 // Puts a copy of a value in place of that of its key, or removes the key.
 fn put_copy_or_remove<K: Eq + Hash + TryCopy + Drop, V: TryCopy + Drop>(
     alloc: Global,
-    map: &mut IndexMap<K, V>,
+    map: &mut IndexMap<K, V, Keys>,
     key: &K,
     value: &Option<V>,
 ) -> Result<(), AllocError>

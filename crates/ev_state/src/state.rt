@@ -1,6 +1,7 @@
 ghost use Rattle.std.specs.Prelude.{◌≡◌, ℕ, IfOk};
 ghost use Rattle.ev_model.specs.World.{opening};
 
+use ev_keys::Keys;
 use ev_managers::Managers;
 use ev_subscription::Subscription;
 use ev_targets::Targets;
@@ -18,13 +19,13 @@ pub struct State {
 impl State {
     ghost use Rattle.ev_state.specs.States.{ManagesAt};
 
-    /// Nothing is known yet, however many workers there are.
-    pub fn new(alloc: Global, node: &Text) -> Result<State, AllocError>
+    /// Nothing is known yet, however many workers there are. The tables hash by these keys.
+    pub fn new(alloc: Global, keys: Keys, node: &Text) -> Result<State, AllocError>
         ensures { IfOk result (λ s. (workers : ℕ) → ManagesAt s (opening workers node.now)) }
     {
         let node = node.copy(alloc)?;
         Ok(State {
-            managers: Managers::new(alloc),
+            managers: Managers::new(alloc, keys),
             subscription: Subscription::new(alloc, node),
             targets: Targets::new(),
         })

@@ -6,10 +6,13 @@ ghost use Rattle.ev_model.specs.Verdicts.{is_among};
 ghost use Rattle.ev_mentions.specs.Mentions.{Puts};
 ghost use Rattle.ev_subscription.specs.Sets.{names_outside};
 
+use ev_keys::Keys;
 use ev_mentions::NameKey;
 use ev_types::{Name, Seq, TryCopy};
 use indexmap::IndexSet;
 use std::alloc::{AllocError, Global};
+
+type NameSet<'a> = IndexSet<NameKey<'a>, Keys>;
 
 /// The names of a kind that began to be watched, and those that ceased to be, each in the order of their bytes.
 #[derive(Drop)]
@@ -46,10 +49,10 @@ fn other_than(alloc: Global, others: &[Name], names: &[Name]) -> Result<Seq<Name
 }
 
 // The set of these names.
-fn set_of<'a>(alloc: Global, names: &'a [Name]) -> Result<IndexSet<NameKey<'a>>, AllocError>
+fn set_of<'a>(alloc: Global, names: &'a [Name]) -> Result<NameSet<'a>, AllocError>
     ensures { IfOk result (λ set. (name : List ℕ) → contains bytes_eq set name ≡ is_among name names.now) }
 {
-    let mut set = IndexSet::new(alloc);
+    let mut set = IndexSet::with_hasher(alloc, Keys::of(names));
     for name in names {
         insert(&mut set, name.as_str())?;
     }
@@ -57,7 +60,7 @@ fn set_of<'a>(alloc: Global, names: &'a [Name]) -> Result<IndexSet<NameKey<'a>>,
 }
 
 // Puts the name into the set.
-fn insert<'a>(set: &mut IndexSet<NameKey<'a>>, name: &'a str) -> Result<(), AllocError>
+fn insert<'a>(set: &mut NameSet<'a>, name: &'a str) -> Result<(), AllocError>
     ensures { OnOk result (Puts set.old set.new name.now) }
 {
     let Ok(_) = set.insert(NameKey::new(name)) else {
@@ -67,11 +70,7 @@ fn insert<'a>(set: &mut IndexSet<NameKey<'a>>, name: &'a str) -> Result<(), Allo
 }
 
 // Those names that aren't in the set, in their order.
-fn outside(
-    alloc: Global,
-    set: &IndexSet<NameKey<'_>>,
-    names: &[Name],
-) -> Result<Vec<Name>, AllocError>
+fn outside(alloc: Global, set: &NameSet<'_>, names: &[Name]) -> Result<Vec<Name>, AllocError>
     ensures { IfOk result (λ left. left.items ≡ names_outside set.now names.now) }
 {
     let mut left = Vec::new(alloc);
@@ -84,7 +83,7 @@ fn outside(
 // Adds a name to the others, where it isn't in the set.
 fn push_outside(
     alloc: Global,
-    set: &IndexSet<NameKey<'_>>,
+    set: &NameSet<'_>,
     name: &Name,
     left: &mut Vec<Name>,
 ) -> Result<(), AllocError>

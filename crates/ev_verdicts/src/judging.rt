@@ -9,9 +9,11 @@ use crate::addresses::address_of;
 use crate::known::Known;
 use crate::made::Made;
 use crate::rules::rule_of;
+use ev_keys::Keys;
 use ev_mentions::{LiveRow, Mentions};
 use ev_types::{Body, Content, Host, Item, Kind, Response, Seq, Verdict};
 use std::alloc::{AllocError, Global};
+use std::hash::{DefaultHasher, Hash};
 
 /// The verdict on each resource of a response, in its order, by what is known before it. The response's type is one of the four.
 /// Each resource costs a few look-ups, and a heap allocation where it is a listener; nothing that is known is copied.
@@ -71,7 +73,7 @@ fn judge_items<K: Known>(
     ensures verdicts { IfOk result (λ it. it ≡ judged_first (K.answers known.now) kind mentions.now items.now) }
     ensures one_each { IfOk result (λ verdicts. length verdicts ≡ length items.now) }
 {
-    let mut made = Made::new(alloc);
+    let mut made = Made::new(alloc, keys_of(items));
     let mut verdicts = Vec::new(alloc);
     for item in items {
         let verdict = judge(alloc, kind, known, mentions, &made, item)?;
@@ -79,6 +81,25 @@ fn judge_items<K: Known>(
         verdicts.push(verdict)?;
     }
     Ok(Seq::from_vec(verdicts))
+}
+
+// The keys of the names and the addresses of these resources.
+fn keys_of(items: &[Item]) -> Keys {
+    let mut fed = DefaultHasher::new();
+    for item in items {
+        feed(&mut fed, item);
+    }
+    Keys::after(fed)
+}
+
+// Feeds the name of a resource and the address of a listener.
+fn feed(fed: &mut DefaultHasher, item: &Item) {
+    item.name.as_str().hash(fed);
+    if let Body::Good(content) = &item.body {
+        if let Some(address) = address_of(content) {
+            address.hash(fed);
+        }
+    }
 }
 
 // The verdict on one resource.

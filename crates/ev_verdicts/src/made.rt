@@ -5,15 +5,16 @@ ghost use Rattle.ev_verdicts.specs.Made.{AddsName, AddsAt};
 
 use crate::addresses::address_of;
 use crate::keys::AddressKey;
+use ev_keys::Keys;
 use ev_mentions::NameKey;
 use ev_types::{Content, Host, Seq};
 use indexmap::IndexMap;
 use std::alloc::{AllocError, Global};
 use std::marker::Model;
 
-type Names<'a> = IndexMap<NameKey<'a>, Option<AddressKey<'a>>>;
+type Names<'a> = IndexMap<NameKey<'a>, Option<AddressKey<'a>>, Keys>;
 
-type Addresses<'a> = IndexMap<AddressKey<'a>, Seq<NameKey<'a>>>;
+type Addresses<'a> = IndexMap<AddressKey<'a>, Seq<NameKey<'a>>, Keys>;
 
 /// The generations that a response made so far: their names, each with the address of a listener. Contracts see the list.
 #[derive(Drop)]
@@ -35,12 +36,12 @@ impl<'a> Model for Made<'a> {
 
 impl<'a> Made<'a> {
     /// Nothing yet. It takes no memory.
-    pub(crate) fn new(alloc: Global) -> Made<'a>
+    pub(crate) fn new(alloc: Global, keys: Keys) -> Made<'a>
         ensures { result ≡ [] }
     {
         Made {
-            names: IndexMap::new(alloc),
-            by_address: IndexMap::new(alloc),
+            names: IndexMap::with_hasher(alloc, keys),
+            by_address: IndexMap::with_hasher(alloc, keys),
         }
     }
 

@@ -15,6 +15,7 @@ use crate::changes::{self, Promoted, put_one};
 use crate::forgetting::forget;
 use ev_generations::Steps;
 use ev_indexes::{Standing, State, put_all};
+use ev_keys::Keys;
 use ev_types::{Arrival, Gen, Kind, Name, Seq, TryCopy};
 use std::alloc::{AllocError, Global};
 use std::mem;
@@ -32,9 +33,9 @@ pub struct Manager {
 impl Manager {
     ghost use Rattle.ev_warming.specs.Managers.{IsKept};
 
-    /// No generation of clusters or of listeners, and nothing known. It takes no memory, and stands for every world in which
-    /// nothing happened.
-    pub fn new(alloc: Global, kind: Kind) -> Manager
+    /// No generation of clusters or of listeners, and nothing known. Its tables hash by these keys. It takes no memory, and stands
+    /// for every world in which nothing happened.
+    pub fn new(alloc: Global, keys: Keys, kind: Kind) -> Manager
         requires rows { is_by_name kind ≡ false }
         ensures kind { result.state.kind ≡ kind }
         ensures kept { IsKept result }
@@ -43,7 +44,7 @@ impl Manager {
         ensures stands { (workers : ℕ) (node : List ℕ) → HasRows result.state (opening workers node) }
     {
         Manager {
-            state: State::new(alloc, kind),
+            state: State::new(alloc, keys, kind),
             stale: Seq::new(alloc),
         }
     }

@@ -4,13 +4,14 @@ ghost use Rattle.ev_model.specs.Picture.{has_number};
 ghost use Rattle.ev_worker.specs.Members.{LosesWhere, chosen_on, on_of};
 
 use crate::lines::Accepted;
+use ev_keys::Keys;
 use ev_model::Choice;
 use ev_types::Gen;
 use indexmap::IndexMap;
 
 /// A worker's open connections: by number, the listener that each is on and, where it was forwarded or a host is found elsewhere,
 /// the cluster.
-pub(crate) type Members = IndexMap<u64, (Gen, Option<Gen>)>;
+pub(crate) type Members = IndexMap<u64, (Gen, Option<Gen>), Keys>;
 
 /// Opens a connection on a listener and, where it was forwarded, on a cluster, in room that is there; without a listener
 /// or a filter chain nothing is opened.

@@ -10,6 +10,7 @@ ghost use Rattle.ev_worker.specs.Workers.{HasNoneOpen, IsMadeFrom, SameOpen, Set
 use crate::batches::{BATCH_LIMIT, Batch};
 use crate::lines::{Accepted, BatchLine, Closed, Outcome, Settled};
 use crate::members::{Members, close, close_all, on_of, open_on};
+use ev_keys::Keys;
 use ev_snapshot::Snapshot;
 use ev_types::{Ask, Event};
 use indexmap::IndexMap;
@@ -40,15 +41,21 @@ impl Model for Worker {
 }
 
 impl Worker {
-    /// A worker that has nothing open and serves from this snapshot. It takes the memory for its first 256 lines.
-    pub fn new(alloc: Global, number: u32, snapshot: Arc<Snapshot>) -> Result<Worker, AllocError>
+    /// A worker that has nothing open and serves from this snapshot. The numbers of its connections hash by these keys. It takes
+    /// the memory for its first 256 lines.
+    pub fn new(
+        alloc: Global,
+        keys: Keys,
+        number: u32,
+        snapshot: Arc<Snapshot>,
+    ) -> Result<Worker, AllocError>
         ensures number { IfOk result (λ worker. worker.number ≡ number) }
         ensures picture { IfOk result (λ worker. worker.picture ≡ arc_value snapshot) }
         ensures opened { IfOk result (λ worker. worker.opened ≡ []) }
         ensures lines { IfOk result (λ worker. worker.lines ≡ []) }
         ensures begins { IfOk result (λ worker. IsMadeFrom [] worker) }
     {
-        let members = IndexMap::with_capacity(alloc, BATCH_LIMIT)?;
+        let members = IndexMap::with_capacity_and_hasher(alloc, BATCH_LIMIT, keys)?;
         let batch = Batch::new(alloc, number)?;
         Ok(Worker {
             snapshot,

@@ -3,10 +3,12 @@ ghost use Rattle.std.specs.Prelude.{◌≡◌, []};
 
 use ev_drain::Drain;
 use ev_endpoints::Endpoints;
+use ev_keys::Keys;
 use ev_ledger::Ledger;
 use ev_subscription::Subscription;
 use ev_types::{Gen, Host, Kind, Name, Text, TryCopy};
 use std::alloc::Global;
+use std::hash::DefaultHasher;
 use std::mem::drop;
 use std::test::Fail;
 
@@ -25,7 +27,7 @@ fn copy_and_remove(alloc: Global, drain: &mut Drain) -> Result<bool, Fail>
 
 // Whether a row that is removed stays in a copy.
 fn removed_row_stays(alloc: Global) -> Result<bool, Fail> {
-    let mut drain = Drain::new(alloc);
+    let mut drain = Drain::new(alloc, Keys::after(DefaultHasher::new()));
     let stays = copy_and_remove(alloc, &mut drain);
     drop(drain);
     stays
@@ -76,7 +78,7 @@ fn copied_result(alloc: Global, results: &mut Endpoints) -> Result<Option<bool>,
 
 // The same of copied results.
 fn result_of_copy(alloc: Global) -> Result<Option<bool>, Fail> {
-    let mut results = Endpoints::new(alloc);
+    let mut results = Endpoints::new(alloc, Keys::of(&[1u32]));
     let told = copied_result(alloc, &mut results);
     drop(results);
     told

@@ -2,9 +2,11 @@
 ghost use Rattle.std.specs.Prelude.{◌≡◌, ◌<◌, ◌-◌, [], OnOk};
 
 use ev_drain::{Deferred, Drain, Shows};
+use ev_keys::Keys;
 use ev_ledger::Ledger;
 use ev_types::{Content, Format, Gen, GenRow, Kind, Name, RouteTable, RowStatus, Seq, Shared};
 use std::alloc::Global;
+use std::hash::DefaultHasher;
 use std::mem::drop;
 use std::process::Abort;
 use std::test::Fail;
@@ -91,7 +93,7 @@ fn go(
 
 // Rows are dead once nothing holds them.
 fn assert_dead(rt: &impl Abort, alloc: Global) -> Result<(), Fail> {
-    let mut drain = Drain::new(alloc);
+    let mut drain = Drain::new(alloc, Keys::after(DefaultHasher::new()));
     let closed = Ledger::new(alloc);
     let mut open = Ledger::new(alloc);
     let went = go(rt, alloc, &mut drain, &mut open, &closed);

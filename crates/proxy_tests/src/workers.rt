@@ -1,8 +1,10 @@
 //! A worker is idle until its first line.
+use ev_keys::Keys;
 use ev_snapshot::Snapshot;
 use ev_types::{Ask, Host, Name, Seq, Text};
 use ev_worker::Worker;
 use std::alloc::Global;
+use std::hash::DefaultHasher;
 use std::mem::drop;
 use std::test::Fail;
 
@@ -40,8 +42,9 @@ fn is_idle(alloc: Global, worker: &mut Worker) -> Result<(bool, bool), Fail> {
 
 #[test]
 fn a_worker_is_idle_until_its_first_line(rt: HostRuntime) -> Result<(), Fail> {
-    let nothing = Snapshot::empty(rt.alloc())?;
-    let mut worker = Worker::new(rt.alloc(), 0, nothing)?;
+    let keys = Keys::after(DefaultHasher::new());
+    let nothing = Snapshot::empty(rt.alloc(), keys)?;
+    let mut worker = Worker::new(rt.alloc(), keys, 0, nothing)?;
     let idle = is_idle(rt.alloc(), &mut worker);
     drop(worker);
     assert_eq!(rt; idle?, (true, false));

@@ -2,6 +2,7 @@
 use ev_actors::Journaled;
 use ev_io::{Lines, MemSource};
 use ev_journal::render_journal;
+use ev_keys::Keys;
 use ev_registry::Registry;
 use ev_script::read_script;
 use ev_targets::Targets;
@@ -35,8 +36,9 @@ const SCRIPT: &str = r#"{"workers":1}
 
 // The text of the journal of a script's replay.
 fn replayed(alloc: Global, script: &Script) -> Result<Vec<u8>, AllocError> {
-    let registry = Registry::new(alloc, script.workers, &script.node, Format::Two)?;
-    let registry = ev_actors::replay(alloc, script, registry)?;
+    let keys = Keys::of(&[script.count]);
+    let registry = Registry::new(alloc, keys, script.workers, &script.node, Format::Two)?;
+    let registry = ev_actors::replay(alloc, keys, script, registry)?;
     let text = render_journal(alloc, Format::Two, 1, registry.journal());
     drop(registry);
     text

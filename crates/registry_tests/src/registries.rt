@@ -4,6 +4,7 @@ ghost use Rattle.ev_actors.specs.Journals.{world_now};
 
 use ev_actors::Journaled;
 use ev_journal::render_journal;
+use ev_keys::Keys;
 use ev_mentions::LiveRow;
 use ev_model_laws::{acknowledges_exactly, has_a_replay, has_one_replay, replay_holds_operations};
 use ev_registry::Registry;
@@ -147,7 +148,7 @@ fn a_registry_enters_what_it_does(rt: HostRuntime) -> Result<(), Fail> {
 
 // Whether a new registry takes the response.
 fn enters(alloc: Global, node: &Text, event: &Event) -> Result<bool, Fail> {
-    let mut registry = Registry::new(alloc, 1, node, Format::Two)?;
+    let mut registry = Registry::new(alloc, Keys::of(&[1u32]), 1, node, Format::Two)?;
     let taken = takes_two_clusters(alloc, &mut registry, event);
     drop(registry);
     taken

@@ -8,6 +8,7 @@ use crate::runs::{PUBLISHED, read};
 use ev_actors::Journaled;
 use ev_commits::{Kept, enter};
 use ev_gate::{Gate, Pass};
+use ev_keys::Keys;
 use ev_registry::Registry;
 use ev_types::{Actor, Event, Format, Text};
 use std::alloc::Global;
@@ -108,7 +109,7 @@ fn tell_behind<R: Threads + Wait + Sync>(
     node: &Text,
     event: &Event,
 ) -> Result<Told, Fail> {
-    let mut registry = Registry::new(alloc, 1, node, Format::Two)?;
+    let mut registry = Registry::new(alloc, Keys::of(&[1u32]), 1, node, Format::Two)?;
     match takes_a_cluster(&mut registry, event) {
         Ok(true) => tell(rt, alloc, registry),
         Ok(false) => {

@@ -1,6 +1,7 @@
 use crate::paces::{Hold, Holds, Step};
 use ev_actors::Journaled;
 use ev_io::{Lines, MemSource};
+use ev_keys::Keys;
 use ev_registry::Registry;
 use ev_run::{Pace, run};
 use ev_script::read_script;
@@ -66,8 +67,9 @@ fn run_at<R: Threads + Wait + Sync, P: Pace + Sync>(
     pace: &P,
 ) -> Result<Registry, Fail> {
     let script = read(alloc, text)?;
-    let begun = Registry::new(alloc, script.workers, &script.node, Format::Two)?;
-    let ran = run(rt, alloc, &script, pace, begun);
+    let keys = Keys::of(&[script.count]);
+    let begun = Registry::new(alloc, keys, script.workers, &script.node, Format::Two)?;
+    let ran = run(rt, alloc, keys, &script, pace, begun);
     drop(script);
     Ok(ran?)
 }

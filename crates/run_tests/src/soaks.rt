@@ -2,6 +2,7 @@ use ev_actors::Journaled;
 use ev_audit::audit;
 use ev_journal::write_line;
 use ev_journal_read::read_row;
+use ev_keys::Keys;
 use ev_registry::Registry;
 use ev_run::{Free, run};
 use ev_soak::script;
@@ -36,8 +37,9 @@ fn rows_of(alloc: Global, journal: &[Entry]) -> Result<Vec<Row>, Fail> {
 fn the_run_of_a_soak_is_legal(rt: HostRuntime) -> Result<(), Fail> {
     let alloc = rt.alloc();
     let script = script(alloc, SEED, COUNT)?;
-    let begun = Registry::new(alloc, script.workers, &script.node, Format::Two)?;
-    let registry = run(&rt, alloc, &script, &Free, begun)?;
+    let keys = Keys::of(&[SEED]);
+    let begun = Registry::new(alloc, keys, script.workers, &script.node, Format::Two)?;
+    let registry = run(&rt, alloc, keys, &script, &Free, begun)?;
     let rows = rows_of(alloc, registry.journal());
     drop(registry);
     let rows = rows?;
@@ -45,7 +47,7 @@ fn the_run_of_a_soak_is_legal(rt: HostRuntime) -> Result<(), Fail> {
     if !few {
         return Err(Fail::new("too many rows"));
     }
-    let finding = audit(alloc, Format::Two, &script, rows.as_slice())?;
+    let finding = audit(alloc, keys, Format::Two, &script, rows.as_slice())?;
     assert!(rt; finding == Finding::Legal);
     Ok(())
 }

@@ -1,5 +1,5 @@
 -- What the input is, at each end.
-use Rattle.ev_app.proofs.InputLemmas.{reads_nothing, reads_script}
+use Rattle.ev_app.proofs.InputLemmas.{reads_fault, reads_nothing, reads_script}
 use Rattle.ev_app.proofs.input.read_input.Goals as goal
 
 pub returns-in_default-clause-reads : goal.returns-in_default-clause-reads

@@ -41,7 +41,7 @@ returns-clause-reads g c =
     rows_read (g.S.Source.left c.args.source.now) (g.S.Source.left c.read_audited_script.new.source) (g.S.Source.left c.read_rows.new.source) c.read_audited_script.new.lines c.read_rows.new.lines c.in_ok-audited.audited.script c.in_ok-audited.audited.journal.items behind
     (c.in_ok-format.ensures.at_most c.in_ok-audited.ensures.at_most)
     (still_at_end (g.S.Source.left c.read_audited_script.new.source) (g.S.Source.left c.read_rows.new.source) c.read_audited_script.new.lines c.read_rows.new.lines c.in_ok-audited.audited.script.workers c.in_ok-audited.audited.journal.items (Ok (c.in_ok-format.format, c.in_ok-format.rows)) read c.in_ok-audited.ensures.at_end c.in_ok-format.ensures.at_end)
-    c.in_ok-format.format c.in_ok-format.rows read
+    c.in_ok-format.format c.in_ok-format.rows c.keys.result read
 
 pub returns-clause-few : goal.returns-clause-few
 returns-clause-few g c =

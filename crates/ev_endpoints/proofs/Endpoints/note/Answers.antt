@@ -32,7 +32,7 @@ returns-clause-ok c =
     let w = c.insert-2.new.self in
     let none : lookup (nat_eq c.number-at.result) es ≡ None = sym c.get_mut.ensures.value ∙ (λ i. option_copied_mut (c.in_default.is i)) in
     let made : (h : Host) → inner (Some w) h ≡ cond (host_same c.in_ok-host.host h) (Some c.args.healthy) None =
-    λ h. c.in-Ok-insert.ensures.updates.0 h ∙ (λ i. cond (host_same c.in_ok-host.host h) (Some c.args.healthy) (lookup (host_same h) (c.new-hosts.ensures.empty i))) in
+    λ h. c.in-Ok-insert.ensures.updates.0 h ∙ (λ i. cond (host_same c.in_ok-host.host h) (Some c.args.healthy) (lookup (host_same h) (c.with_hasher-hosts.ensures.empty i))) in
     λ n h.
     notes_by es c.insert-3.new.self.entries c.number-at.result (Some w)
     (λ q. c.in-Ok-insert-2.ensures.updates.0 q ∙ (λ i. cond (nat_eq c.number-at.result q) (Some w) (lookup (nat_eq q) (c.get_mut.follows.holds-at-none i).entries)))
@@ -63,7 +63,7 @@ invariant_of-self-2 c =
     let host = c.in_ok-host.host in
     let w = c.insert-2.new.self in
     let kept : lookup (host_same host) w.entries ≡ Some c.args.healthy =
-    c.in-Ok-insert.ensures.updates.0 host ∙ (λ i. cond ((host_decides host host).1 refl i) (Some c.args.healthy) (lookup (host_same host) c.new-hosts.result.entries)) in
+    c.in-Ok-insert.ensures.updates.0 host ∙ (λ i. cond ((host_decides host host).1 refl i) (Some c.args.healthy) (lookup (host_same host) c.with_hasher-hosts.result.entries)) in
     still_no_empty es c.insert-3.new.self.entries c.number-at.result (Some w)
     (λ q. c.in-Ok-insert-2.ensures.updates.0 q ∙ (λ i. cond (nat_eq c.number-at.result q) (Some w) (lookup (nat_eq q) (c.get_mut.follows.holds-at-none i).entries)))
     (λ m e. some_as w m e (found_some w host c.args.healthy kept)) c.self.invariant
