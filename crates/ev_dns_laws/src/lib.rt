@@ -22,7 +22,6 @@ mod laws;
 
 use ev_dns::expand;
 use ev_expand::ExpandError;
-use ev_keys::Keys;
 use ev_script::ScriptTrees;
 pub use laws::answers_are_last;
 use std::alloc::Global;
@@ -34,11 +33,7 @@ use std::alloc::Global;
 /// `Private` exactly for the first line that uses a name that begins with `dns/` for endpoints. `Large` where there is none,
 /// exactly for the line with whose output the text goes above a limit of inputs. `OutOfMemory` where memory runs out, and for 2^32
 /// lines and more.
-pub fn resolve(
-    alloc: Global,
-    keys: Keys,
-    trees: &ScriptTrees,
-) -> Result<Vec<u8>, ExpandError>
+pub fn resolve(alloc: Global, trees: &ScriptTrees) -> Result<Vec<u8>, ExpandError>
     requires read { (input : Input) × IsTreesAnswer dns_lines input (Ok trees.now) }
     ensures expanded { IsExpanded (dns_rules trees.now.header.profile) (view trees.now.head)
         (lines_in trees.now) result }
@@ -47,5 +42,11 @@ pub fn resolve(
         ≡ Some (expanded_script (dns_rules trees.now.header.profile) trees.now)) }
     ensures kept { OnOk result (IsScript (expanded_script (dns_rules trees.now.header.profile) trees.now)) }
 {
-    expand(alloc, keys, trees.header.profile, &trees.head, &trees.lines)
+    expand(
+        alloc,
+        trees.keys,
+        trees.header.profile,
+        &trees.head,
+        &trees.lines,
+    )
 }

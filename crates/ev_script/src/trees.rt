@@ -13,6 +13,7 @@ use crate::line_tree::LineTree;
 use crate::lines::read_line;
 use crate::read_input::{ReadLines, read_lines_with};
 use ev_io::{Lines, ScriptFault, Source};
+use ev_keys::Keys;
 use ev_types::Profile;
 use serde_json::Value;
 use std::alloc::{AllocError, Global};
@@ -83,6 +84,8 @@ pub struct ScriptTrees {
     pub head: Value,
     /// The trees of the lines after it, in order.
     pub lines: Vec<LineTree>,
+    /// Keys of all lines, for tables of what they name. Which they are isn't promised.
+    pub keys: Keys,
 }
 
 /// Reads the trees of a script's lines, under the faults of `read_script`. The reader of lines is a fresh one.
@@ -140,5 +143,6 @@ pub fn read_trees_with<S: Source, F: Forms<Head = HeadTree, Kept = LineTree>>(
         header: head.header,
         head: head.tree,
         lines: kept,
+        keys: lines.keys(),
     })
 }

@@ -20,7 +20,6 @@ ghost use Rattle.ev_tls_secrets.specs.Sealing.{tls_rules};
 mod laws;
 
 use ev_expand::ExpandError;
-use ev_keys::Keys;
 use ev_script::ScriptTrees;
 use ev_tls_secrets::expand;
 pub use laws::accepts_are_sealed;
@@ -33,11 +32,7 @@ use std::alloc::Global;
 /// `Private` exactly for the first line that uses a name that begins with `tls/` for endpoints. `Large` where there is none,
 /// exactly for the line with whose output the text goes above a limit of inputs. `OutOfMemory` where memory runs out, and for 2^32
 /// lines and more.
-pub fn seal(
-    alloc: Global,
-    keys: Keys,
-    trees: &ScriptTrees,
-) -> Result<Vec<u8>, ExpandError>
+pub fn seal(alloc: Global, trees: &ScriptTrees) -> Result<Vec<u8>, ExpandError>
     requires read { (input : Input) × IsTreesAnswer plain_lines input (Ok trees.now) }
     ensures expanded { IsExpanded (tls_rules trees.now.header.profile) (view trees.now.head)
         (lines_in trees.now) result }
@@ -46,5 +41,11 @@ pub fn seal(
         ≡ Some (expanded_script (tls_rules trees.now.header.profile) trees.now)) }
     ensures kept { OnOk result (IsScript (expanded_script (tls_rules trees.now.header.profile) trees.now)) }
 {
-    expand(alloc, keys, trees.header.profile, &trees.head, &trees.lines)
+    expand(
+        alloc,
+        trees.keys,
+        trees.header.profile,
+        &trees.head,
+        &trees.lines,
+    )
 }
