@@ -1,4 +1,4 @@
-use std::alloc::AllocError;
+use std::alloc::{AllocError, AllocFailed};
 
 /// What reading a line gave.
 #[derive(Clone, Copy, Debug, PartialEq, Eq)]
@@ -53,6 +53,17 @@ impl From<AllocError> for ScriptFault {
     ghost from_gives = { λ _ fault. fault ≡ OutOfMemory };
 
     fn from(_error: AllocError) -> ScriptFault {
+        ScriptFault::OutOfMemory
+    }
+}
+
+impl<T: Drop> From<AllocFailed<T>> for ScriptFault {
+    ghost use Rattle.std.specs.Prelude.{◌≡◌};
+    ghost use Rattle.ev_io.specs.declared.faults.ScriptFault.TheVariants.{OutOfMemory};
+
+    ghost from_gives = { λ _ fault. fault ≡ OutOfMemory };
+
+    fn from(_error: AllocFailed<T>) -> ScriptFault {
         ScriptFault::OutOfMemory
     }
 }
