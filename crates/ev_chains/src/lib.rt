@@ -27,6 +27,7 @@
 mod chains;
 mod changes;
 mod closing;
+mod draining;
 mod events;
 mod keys;
 mod listed;
