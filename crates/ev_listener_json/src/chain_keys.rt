@@ -1,9 +1,10 @@
 ghost use Rattle.std.specs.Prelude.{◌≡◌, ◌∷◌, IfOk, map, option_to_list};
 ghost use Rattle.ev_listener_json.specs.ChainKeys.{number_key, text_key, port_key, range_key, or_bare, keys_by};
 
-use ev_types::{CidrRange, FilterChainMatch, Ip, Text};
+use ev_keys::Keys;
+use ev_types::{CidrRange, FilterChain, FilterChainMatch, Ip, Text};
 use std::alloc::{AllocError, Global};
-use std::hash::{Hash, Hasher};
+use std::hash::{DefaultHasher, Hash, Hasher};
 use std::marker::Model;
 
 /// A criterion by which filter chains are found.
@@ -126,6 +127,28 @@ impl<'a> Hash for ChainKey<'a> {
         state.write_u8(self.length);
         state.write_u128(self.bits);
         u8::hash_slice(self.text.as_bytes(), state);
+    }
+}
+
+/// What a table of these chains' keys hashes by: it is made of all that they ask for, so that no chain can be made to meet others there.
+pub(crate) fn hash_keys_of(chains: &[FilterChain]) -> Keys {
+    let mut fed = DefaultHasher::new();
+    for chain in chains {
+        feed(&mut fed, chain.criteria.get());
+    }
+    Keys::after(fed)
+}
+
+// Feeds a hasher with what a filter chain asks for.
+fn feed(fed: &mut DefaultHasher, asked: &FilterChainMatch) {
+    for range in asked.prefix_ranges.as_slice() {
+        ChainKey::of_range(*range).hash(fed);
+    }
+    for name in asked.server_names.as_slice() {
+        ChainKey::of_text(6, name.as_str()).hash(fed);
+    }
+    for protocol in asked.application_protocols.as_slice() {
+        ChainKey::of_text(8, protocol.as_str()).hash(fed);
     }
 }
 

@@ -2,6 +2,7 @@ ghost use Rattle.std.specs.Prelude.{◌≡◌, [], OnOk};
 ghost use Rattle.ev_listener_json.specs.ChainPlaces.{count_under, places_under, Enters, EntersMatch, Puts};
 
 use crate::chain_keys::{ChainKey, Criterion, keys_by};
+use ev_keys::Keys;
 use ev_types::{FilterChainMatch, Seq};
 use indexmap::IndexMap;
 use std::alloc::{AllocError, Global};
@@ -10,7 +11,7 @@ use std::marker::Model;
 /// The places of filter chains in a list, each under the chain's keys.
 #[derive(Drop)]
 pub(crate) struct ChainPlaces<'a> {
-    lists: IndexMap<ChainKey<'a>, Seq<usize>>,
+    lists: IndexMap<ChainKey<'a>, Seq<usize>, Keys>,
 }
 
 impl<'a> Model for ChainPlaces<'a> {
@@ -22,12 +23,12 @@ impl<'a> Model for ChainPlaces<'a> {
 }
 
 impl<'a> ChainPlaces<'a> {
-    /// No place. It takes no memory.
-    pub(crate) fn new(alloc: Global) -> ChainPlaces<'a>
+    /// No place, in a table that hashes by these keys. It takes no memory.
+    pub(crate) fn new(alloc: Global, keys: Keys) -> ChainPlaces<'a>
         ensures { result ≡ [] }
     {
         ChainPlaces {
-            lists: IndexMap::new(alloc),
+            lists: IndexMap::with_hasher(alloc, keys),
         }
     }
 

@@ -5,7 +5,7 @@ ghost use Rattle.ev_types.specs.FilterChains.{has_value, overlap, collide, has_c
 ghost use Rattle.ev_types.specs.declared.listeners.FilterChain as declared;
 ghost use Rattle.ev_listener_json.specs.ChainPlaces.{any_collides, any_under, collides_given, collides_there, fewer_keys, fewest_keys, HasAll};
 
-use crate::chain_keys::{ChainKey, Criterion, keys_by};
+use crate::chain_keys::{ChainKey, Criterion, hash_keys_of, keys_by};
 use crate::chain_places::ChainPlaces;
 use ev_types::{FilterChain, FilterChainMatch};
 use std::alloc::{AllocError, Global};
@@ -15,7 +15,7 @@ use std::alloc::{AllocError, Global};
 pub fn has_collision(alloc: Global, chains: &[FilterChain]) -> Result<bool, AllocError>
     ensures { IfOk result (λ has. has ≡ has_collision (map (λ (c : declared.FilterChain). c.criteria) chains.now)) }
 {
-    let mut places = ChainPlaces::new(alloc);
+    let mut places = ChainPlaces::new(alloc, hash_keys_of(chains));
     for (place, chain) in chains.iter().enumerate() {
         let one = chain.criteria.get();
         if collides_with_any(alloc, &places, &chains[..place], one)? {

@@ -5,14 +5,16 @@ ghost use Rattle.ev_types.specs.SameHosts.{host_same, AreHostsOf};
 ghost use Rattle.ev_types.specs.declared.hosts.Host as declared;
 
 use crate::{Host, HostRow, TryCopy};
+use ev_keys::Keys;
 use indexmap::IndexSet;
 use std::alloc::{AllocError, Global};
+use std::hash::{DefaultHasher, Hash};
 use std::marker::Model;
 
-/// Hosts, each once, of which one is found without a walk. Contracts see them as a list.
+/// Hosts, each once, of which one is found without a walk: by keys that are made of them all. Contracts see them as a list.
 #[derive(Drop)]
 pub(crate) struct HostIndex {
-    hosts: IndexSet<Host>,
+    hosts: IndexSet<Host, Keys>,
 }
 
 impl Model for HostIndex {
@@ -29,7 +31,7 @@ impl HostIndex {
     pub(crate) fn of(alloc: Global, rows: &[HostRow]) -> Result<HostIndex, AllocError>
         ensures { IfOk result (AreHostsOf rows.now) }
     {
-        let mut hosts = IndexSet::new(alloc);
+        let mut hosts = IndexSet::with_hasher(alloc, keys_of(rows));
         for row in rows {
             put(&mut hosts, row.host.copy(alloc)?)?;
         }
@@ -52,8 +54,17 @@ impl HostIndex {
     }
 }
 
+// Keys that are made of the hosts of these rows.
+fn keys_of(rows: &[HostRow]) -> Keys {
+    let mut fed = DefaultHasher::new();
+    for row in rows {
+        row.host.hash(&mut fed);
+    }
+    Keys::after(fed)
+}
+
 // Puts one more host among them.
-fn put(hosts: &mut IndexSet<Host>, host: Host) -> Result<(), AllocError>
+fn put(hosts: &mut IndexSet<Host, Keys>, host: Host) -> Result<(), AllocError>
     ensures { OnOk result ((h : declared.Host) → contains host_same hosts.new h
         ≡ (host_same host h || contains host_same hosts.old h)) }
 {
