@@ -1,11 +1,11 @@
 -- What is kept of the chains stays so by each event.
-use Rattle.std.proofs.Common.{◌≡◌, ℕ, ◌≤◌, ◌==◌, Bool, true, false, not, ◌&&◌, ◌||◌, cond, nat_eq, List, [], ◌∷◌, ◌++◌, filter, find, length, map, Option, Some, None, is_some, option_map, refl, sym, ap, ◌∙◌, arith, inl, inr}
+use Rattle.std.proofs.Common.{◌≡◌, ℕ, ◌≤◌, ◌==◌, Bool, true, false, not, ◌&&◌, ◌||◌, cond, nat_eq, List, [], ◌∷◌, ◌++◌, filter, find, length, map, Option, Some, None, is_some, option_map, refl, sym, ap, ◌∙◌, subst, arith, inl, inr}
 use Rattle.std.specs.Prelude.{◌⊎◌}
 use Rattle.std.specs.List.{list_any, IsDistinct}
 use Rattle.std.specs.Option.{unwrap_or}
 use Rattle.std.proofs.lemmas.Bool.{true≢false, false≢true, or_parts}
 use Rattle.std.proofs.lemmas.Bool.Decides.{nat_tests}
-use Rattle.std.proofs.lemmas.List.{filter-append}
+use Rattle.std.proofs.lemmas.List.Elements.{filter-append}
 use Rattle.std.proofs.lemmas.List.Folds.{list_any-append}
 use Rattle.ev_model.specs.World.{OpenMember}
 use Rattle.ev_model.specs.Dead.{is_open_on, is_forwarded_to}
@@ -20,7 +20,7 @@ use Rattle.ev_chains.specs.State.{busy_among, has_open, idle_among}
 use Rattle.ev_chains.specs.Kept.{Apart, AreNumbered, ArePlaced, HasRow, draining_in, drains, is_foreign, is_in, is_used}
 use Rattle.ev_chains.proofs.ConnLemmas.{any_left, own, same}
 use Rattle.ev_chains.proofs.RowLemmas.{and_parts, or_true, right_true}
-use Rattle.ev_chains.proofs.NumberLemmas.{apart_filter, ascending_same, distinct_apart, filter_all, filter_twice, filter_where, has_filter, in_has, not_true}
+use Rattle.ev_chains.proofs.NumberLemmas.{apart_append, apart_filter, ascending_same, distinct_apart, filter_all, filter_twice, filter_where, has_filter, in_has, not_true}
 
 or_false : (b : Bool) → (b || false) ≡ b
 or_false true = refl
@@ -117,38 +117,69 @@ closing_same f xs ys (m ∷ opened) all =
 
 module _ (began idle busy : List ℕ) (opened : List OpenMember) (placed : ArePlaced began idle busy opened) where
   -- of those that began to drain, the idle and the busy ones
-  idle_open : (n : ℕ) → (not (has_open opened n) && drains idle busy n) ≡ is_in idle n
-  idle_open n = ap (λ b. not b && drains idle busy n) (open_used n opened placed.own) ∙ by (is_in idle n) (is_in busy n) refl refl
+  idle_open : (n : ℕ) → (not (has_open opened n) && drains idle busy n) ≡ has_number n idle
+  idle_open n = ap (λ b. not b && drains idle busy n) (open_used n opened placed.own) ∙ by (has_number n idle) (is_in busy n) refl refl
     where
       and_false : (b : Bool) → (b && false) ≡ false
       and_false true = refl
       and_false false = refl
 
-      by : (i b : Bool) → is_in idle n ≡ i → is_in busy n ≡ b → (not (is_used n opened) && (i || b)) ≡ i
+      by : (i b : Bool) → has_number n idle ≡ i → is_in busy n ≡ b → (not (is_used n opened) && (i || b)) ≡ i
       by true b is has = ap (λ u. not u && true) (placed.idle_unused n is)
       by false true is has = ap (λ u. not u && true) (placed.busy_used n has)
       by false false is has = and_false (not (is_used n opened))
 
   busy_open : (n : ℕ) → (drains idle busy n && has_open opened n) ≡ is_in busy n
-  busy_open n = ap (λ b. drains idle busy n && b) (open_used n opened placed.own) ∙ by (is_in idle n) (is_in busy n) refl refl
+  busy_open n = ap (λ b. drains idle busy n && b) (open_used n opened placed.own) ∙ by (has_number n idle) (is_in busy n) refl refl
     where
-      by : (i b : Bool) → is_in idle n ≡ i → is_in busy n ≡ b → ((i || b) && is_used n opened) ≡ b
+      by : (i b : Bool) → has_number n idle ≡ i → is_in busy n ≡ b → ((i || b) && is_used n opened) ≡ b
       by true true is has = placed.busy_used n has
       by true false is has = placed.idle_unused n is
       by false true is has = placed.busy_used n has
       by false false is has = refl
 
   drains_began : (n : ℕ) → drains idle busy n ≡ true → has_number n began ≡ true
-  drains_began n h = elim (or_true (is_in idle n) (is_in busy n) h) [
+  drains_began n h = elim (or_true (has_number n idle) (is_in busy n) h) [
     | inl is ↦ placed.idle_began n is
     | inr is ↦ placed.busy_began n is
   ]
+
+  -- the same list of all that began to, with each number in the one or the other
+  same_draining : (idle_then busy_then : List ℕ) → ((n : ℕ) → drains idle_then busy_then n ≡ drains idle busy n) → draining_in began idle_then busy_then ≡ draining_in began idle busy
+  same_draining idle_then busy_then all = filter_where (drains idle_then busy_then) (drains idle busy) began (λ n has. all n)
+
+  -- more are idle
+  module _ (began_then more : List ℕ) (opened_then : List OpenMember) (apart : Apart more)
+      (grows : (n : ℕ) → has_number n began ≡ true → has_number n began_then ≡ true)
+      (unused : (n : ℕ) → has_number n idle ≡ true → is_used n opened_then ≡ false)
+      (new : (n : ℕ) → has_number n more ≡ true → (has_number n began_then ≡ true) × ((is_used n opened_then ≡ false) × (has_number n idle ≡ false))) where
+    each : (n : ℕ) → (has_number n idle ≡ true) ⊎ (has_number n more ≡ true) → (has_number n began_then ≡ true) × (is_used n opened_then ≡ false)
+    each n (inl was) = (grows n (placed.idle_began n was), unused n was)
+    each n (inr is) = ((new n is).0, (new n is).1.0)
+
+    parts : (n : ℕ) → has_number n (idle ++ more) ≡ true → (has_number n idle ≡ true) ⊎ (has_number n more ≡ true)
+    parts n has = or_true (has_number n idle) (has_number n more) (sym (list_any-append (λ k. k == n) idle more) ∙ has)
+
+    more_idle : (busy_then : List ℕ) → list_any is_foreign opened_then ≡ false → ((n : ℕ) → is_in busy_then n ≡ true → (has_number n began_then ≡ true) × (is_used n opened_then ≡ true))
+        → ArePlaced began_then (idle ++ more) busy_then opened_then
+    more_idle busy_then own busies = record {
+      own = own;
+      idle_apart = apart_append idle more placed.idle_apart apart (λ n was. not_true (has_number n more) (λ is. true≢false (sym was ∙ (new n is).1.1)));
+      idle_began = λ n has. (each n (parts n has)).0;
+      idle_unused = λ n has. (each n (parts n has)).1;
+      busy_began = λ n has. (busies n has).0;
+      busy_used = λ n has. (busies n has).1;
+    }
+
+  busy_other : (n : ℕ) → is_in busy n ≡ true → has_number n idle ≡ false
+  busy_other n is = not_true (has_number n idle) (λ has. true≢false (sym (placed.busy_used n is) ∙ placed.idle_unused n has))
 
   -- ---- a connection comes
 
   pub placed_accept : (conn number : ℕ) → has_number number began ≡ false → ArePlaced began idle busy (with_member (member_on 0 conn number None) opened)
   placed_accept conn number other = record {
     own = any_put member_before is_foreign (member_on 0 conn number None) opened ∙ placed.own;
+    idle_apart = placed.idle_apart;
     idle_began = placed.idle_began;
     idle_unused = λ n is. put n ∙ (λ i. not_true (number == n) (λ h. true≢false (sym (placed.idle_began n is) ∙ ap (λ k. has_number k began) (sym (same number n h)) ∙ other)) i || placed.idle_unused n is i);
     busy_began = placed.busy_began;
@@ -167,65 +198,65 @@ module _ (began idle busy : List ℕ) (opened : List OpenMember) (placed : ArePl
     still : (n : ℕ) → is_at n (on_in 0 conn opened) ≡ false → is_in busy n ≡ true → is_used n left ≡ true
     still n other is = ap (λ b. b || is_used n left) (sym other) ∙ sym (used_closed n conn opened apart) ∙ placed.busy_used n is
 
-    unused : (n : ℕ) → is_in idle n ≡ true → is_used n left ≡ false
+    unused : (n : ℕ) → has_number n idle ≡ true → is_used n left ≡ false
     unused n is = none_left (λ m. m.listener == n) (λ m. not (is_member 0 conn m)) opened (placed.idle_unused n is)
 
-    -- it wasn't the last on its chain, or none was open
-    pub placed_close : ((n : ℕ) → is_at n (on_in 0 conn opened) ≡ true → has_open left n ≡ true) → ArePlaced began idle busy left
-    placed_close open = record {
-      own = none_left is_foreign (λ m. not (is_member 0 conn m)) opened placed.own;
+    own_left : list_any is_foreign left ≡ false
+    own_left = none_left is_foreign (λ m. not (is_member 0 conn m)) opened placed.own
+
+    -- the chain that it was on doesn't drain, or has another
+    pub placed_close : (busy_then : List ℕ) → ((n : ℕ) → is_in busy_then n ≡ true → is_in busy n ≡ true)
+        → ((n : ℕ) → is_at n (on_in 0 conn opened) ≡ true → is_in busy_then n ≡ true → has_open left n ≡ true) → ArePlaced began idle busy_then left
+    placed_close busy_then within open = record {
+      own = own_left;
+      idle_apart = placed.idle_apart;
       idle_began = placed.idle_began;
       idle_unused = unused;
-      busy_began = placed.busy_began;
+      busy_began = λ n is. placed.busy_began n (within n is);
       busy_used = λ n is. by n (is_at n (on_in 0 conn opened)) refl is;
     }
       where
-        by : (n : ℕ) (t : Bool) → is_at n (on_in 0 conn opened) ≡ t → is_in busy n ≡ true → is_used n left ≡ true
-        by n true at is = sym (open_used n left (none_left is_foreign (λ m. not (is_member 0 conn m)) opened placed.own)) ∙ open n at
-        by n false at is = still n at is
+        by : (n : ℕ) (t : Bool) → is_at n (on_in 0 conn opened) ≡ t → is_in busy_then n ≡ true → is_used n left ≡ true
+        by n true at is = sym (open_used n left own_left) ∙ open n at is
+        by n false at is = still n at (within n is)
 
-    -- it was the last
-    pub placed_end : (number : ℕ) (cluster : Option ℕ) (idle_then busy_then : List ℕ) → on_in 0 conn opened ≡ Some (number, cluster) → has_open left number ≡ false
-        → ((n : ℕ) → is_in idle_then n ≡ (is_in idle n || ((number == n) && is_in busy number))) → ((n : ℕ) → is_in busy_then n ≡ (not (number == n) && is_in busy n))
-        → ArePlaced began idle_then busy_then left
-    placed_end number cluster idle_then busy_then on none idles busies = record {
-      own = lost;
-      idle_began = λ n is. ended_began n (idle_case n is);
-      idle_unused = λ n is. ended_unused n (idle_case n is);
-      busy_began = λ n is. placed.busy_began n (busy_case n is).1;
-      busy_used = λ n is. still n (ap (is_at n) on ∙ (busy_case n is).0) (busy_case n is).1;
-    }
-      where
-        lost : list_any is_foreign left ≡ false
-        lost = none_left is_foreign (λ m. not (is_member 0 conn m)) opened placed.own
+    -- it was the last on its chain
+    module _ (number : ℕ) (cluster : Option ℕ) (on : on_in 0 conn opened ≡ Some (number, cluster)) (none : has_open left number ≡ false)
+        (busy_then : List ℕ) (busies : (n : ℕ) → is_in busy_then n ≡ (not (nat_eq number n) && is_in busy n)) where
+      within : (n : ℕ) → is_in busy_then n ≡ true → ((number == n) ≡ false) × (is_in busy n ≡ true)
+      within n is =
+          let parts = and_parts (not (nat_eq number n)) (is_in busy n) (sym (busies n) ∙ is) in
+          (not_true (number == n) (λ h. false≢true (ap not (sym h) ∙ parts.0)), parts.1)
 
-        idle_case : (n : ℕ) → is_in idle_then n ≡ true → (is_in idle n ≡ true) ⊎ ((number ≡ n) × (is_in busy number ≡ true))
-        idle_case n is = elim (or_true (is_in idle n) ((number == n) && is_in busy number) (sym (idles n) ∙ is)) [
-          | inl was ↦ inl was
-          | inr ends ↦ let parts = and_parts (number == n) (is_in busy number) ends in inr (same number n parts.0, parts.1)
-        ]
+      ended : (t : Bool) → is_in busy number ≡ t → ArePlaced began (cond t (idle ++ number ∷ []) idle) busy_then left
+      ended true is =
+          more_idle began (number ∷ []) left (refl, tt) (λ n has. has) unused
+          (λ n has. by n (or_false (number == n) ∙ has)) busy_then own_left
+          (λ n has. (placed.busy_began n (within n has).1, still n (ap (is_at n) on ∙ (within n has).0) (within n has).1))
+        where
+          by : (n : ℕ) → (number == n) ≡ true → (has_number n began ≡ true) × ((is_used n left ≡ false) × (has_number n idle ≡ false))
+          by n at =
+              subst (λ k. (has_number k began ≡ true) × ((is_used k left ≡ false) × (has_number k idle ≡ false))) (same number n at)
+              (placed.busy_began number is, (sym (open_used number left own_left) ∙ none, busy_other number is))
+      ended false is = placed_close busy_then (λ n has. (within n has).1) (λ n at has. absurd (true≢false (sym at ∙ ap (is_at n) on ∙ (within n has).0)))
 
-        busy_case : (n : ℕ) → is_in busy_then n ≡ true → ((number == n) ≡ false) × (is_in busy n ≡ true)
-        busy_case n is =
-            let parts = and_parts (not (number == n)) (is_in busy n) (sym (busies n) ∙ is) in
-            (not_true (number == n) (λ h. false≢true (ap not (sym h) ∙ parts.0)), parts.1)
+      pub placed_end : ArePlaced began (cond (is_in busy number) (idle ++ number ∷ []) idle) busy_then left
+      placed_end = ended (is_in busy number) refl
 
-        ended_began : (n : ℕ) → (is_in idle n ≡ true) ⊎ ((number ≡ n) × (is_in busy number ≡ true)) → has_number n began ≡ true
-        ended_began n (inl was) = placed.idle_began n was
-        ended_began n (inr (at, has)) = ap (λ k. has_number k began) (sym at) ∙ placed.busy_began number has
-
-        ended_unused : (n : ℕ) → (is_in idle n ≡ true) ⊎ ((number ≡ n) × (is_in busy number ≡ true)) → is_used n left ≡ false
-        ended_unused n (inl was) = unused n was
-        ended_unused n (inr (at, has)) = ap (λ k. is_used k left) (sym at) ∙ sym (open_used number left lost) ∙ none
-
-    pub end_same : (number : ℕ) (idle_then busy_then : List ℕ) → ((n : ℕ) → is_in idle_then n ≡ (is_in idle n || ((number == n) && is_in busy number)))
-        → ((n : ℕ) → is_in busy_then n ≡ (not (number == n) && is_in busy n)) → draining_in began idle_then busy_then ≡ draining_in began idle busy
-    end_same number idle_then busy_then idles busies =
-        filter_where (drains idle_then busy_then) (drains idle busy) began (λ n has. (λ i. idles n i || busies n i) ∙ by n (number == n) refl)
-      where
-        by : (n : ℕ) (t : Bool) → (number == n) ≡ t → ((is_in idle n || (t && is_in busy number)) || (not t && is_in busy n)) ≡ drains idle busy n
-        by n true at = or_false (is_in idle n || is_in busy number) ∙ ap (λ k. is_in idle n || is_in busy k) (same number n at)
-        by n false at = ap (λ b. b || is_in busy n) (or_false (is_in idle n))
+      pub end_same : draining_in began (cond (is_in busy number) (idle ++ number ∷ []) idle) busy_then ≡ draining_in began idle busy
+      end_same = same_draining (cond (is_in busy number) (idle ++ number ∷ []) idle) busy_then (λ n. ap (λ b. has_number n (cond (is_in busy number) (idle ++ number ∷ []) idle) || b) (busies n) ∙ by (is_in busy number) refl n (number == n) refl)
+        where
+          by : (b : Bool) → is_in busy number ≡ b → (n : ℕ) (t : Bool) → (number == n) ≡ t
+              → (has_number n (cond b (idle ++ number ∷ []) idle) || (not t && is_in busy n)) ≡ drains idle busy n
+          by true is n t at =
+              ap (λ b. b || (not t && is_in busy n)) (list_any-append (λ k. k == n) idle (number ∷ []) ∙ ap (λ b. has_number n idle || (b || false)) at)
+              ∙ if_at t at
+            where
+              if_at : (t : Bool) → (number == n) ≡ t → ((has_number n idle || (t || false)) || (not t && is_in busy n)) ≡ drains idle busy n
+              if_at true at = or_false (has_number n idle || true) ∙ ap (λ b. has_number n idle || b) (sym is ∙ ap (is_in busy) (same number n at))
+              if_at false at = ap (λ b. b || is_in busy n) (or_false (has_number n idle))
+          by false is n true at = ap (λ b. has_number n idle || b) (sym is ∙ ap (is_in busy) (same number n at))
+          by false is n false at = refl
 
   -- ---- a drain timeout
 
@@ -243,7 +274,7 @@ module _ (began idle busy : List ℕ) (opened : List OpenMember) (placed : ArePl
   busy_all : (n : ℕ) → is_used n opened ≡ true → has_number n busy ≡ has_number n draining
   busy_all n used =
       sym (in_has n busy)
-      ∙ ap (λ b. b || is_in busy n) (sym (not_true (is_in idle n) (λ is. true≢false (sym used ∙ placed.idle_unused n is))))
+      ∙ ap (λ b. b || is_in busy n) (sym (not_true (has_number n idle) (λ is. true≢false (sym used ∙ placed.idle_unused n is))))
       ∙ sym (has_draining n)
 
   pub closed_same : closed_by busy 0 opened ≡ closed_by draining 0 opened
@@ -252,26 +283,26 @@ module _ (began idle busy : List ℕ) (opened : List OpenMember) (placed : ArePl
   pub left_same : left_open busy 0 opened ≡ left_open draining 0 opened
   left_same = closing_same not busy draining opened busy_all
 
-  pub placed_drain : (idle_then : List ℕ) → ((n : ℕ) → is_in idle_then n ≡ drains idle busy n) → ArePlaced began idle_then [] (left_open busy 0 opened)
-  placed_drain idle_then idles = record {
-    own = none_left is_foreign (λ m. not (is_closing busy 0 m)) opened placed.own;
-    idle_began = λ n is. drains_began n (sym (idles n) ∙ is);
-    idle_unused = λ n is. ap (is_used n) left_same ∙ used_drained n draining opened placed.own (has_draining n ∙ sym (idles n) ∙ is);
-    busy_began = λ n is. absurd (false≢true is);
-    busy_used = λ n is. absurd (false≢true is);
-  }
+  pub placed_drain : IsDistinct nat_eq busy → ArePlaced began (idle ++ busy) [] (left_open busy 0 opened)
+  placed_drain distinct =
+      more_idle began busy (left_open busy 0 opened) (distinct_apart busy distinct) (λ n has. has)
+      (λ n is. drained n (ap (λ b. b || is_in busy n) is))
+      (λ n has. let is = in_has n busy ∙ has in (placed.busy_began n is, (drained n (right_true (has_number n idle) (is_in busy n) is), busy_other n is)))
+      [] (none_left is_foreign (λ m. not (is_closing busy 0 m)) opened placed.own) (λ n has. absurd (false≢true has))
+    where
+      drained : (n : ℕ) → drains idle busy n ≡ true → is_used n (left_open busy 0 opened) ≡ false
+      drained n is = ap (is_used n) left_same ∙ used_drained n draining opened placed.own (has_draining n ∙ is)
 
-  pub drain_same : (idle_then : List ℕ) → ((n : ℕ) → is_in idle_then n ≡ drains idle busy n) → draining_in began idle_then [] ≡ draining
-  drain_same idle_then idles = filter_where (drains idle_then []) (drains idle busy) began (λ n has. or_false (is_in idle_then n) ∙ idles n)
+  pub drain_same : draining_in began (idle ++ busy) [] ≡ draining
+  drain_same = same_draining (idle ++ busy) [] (λ n. or_false (has_number n (idle ++ busy)) ∙ list_any-append (λ k. k == n) idle busy ∙ ap (λ b. has_number n idle || b) (sym (in_has n busy)))
 
   -- ---- a reaping
 
-  pub reaped_same : Apart began → IsDistinct nat_eq idle → ascending idle ≡ ascending (idle_among opened draining)
-  reaped_same apart distinct =
-      ascending_same idle (idle_among opened draining) (distinct_apart idle distinct)
+  pub reaped_same : Apart began → ascending idle ≡ ascending (idle_among opened draining)
+  reaped_same apart =
+      ascending_same idle (idle_among opened draining) placed.idle_apart
       (apart_filter (λ n. not (has_open opened n)) draining (apart_filter (drains idle busy) began apart))
-      (λ n. sym (in_has n idle) ∙ sym (idle_open n)
-      ∙ sym (has_filter (λ k. not (has_open opened k)) n draining ∙ ap (λ b. not (has_open opened n) && b) (has_draining n)))
+      (λ n. sym (idle_open n) ∙ sym (has_filter (λ k. not (has_open opened k)) n draining ∙ ap (λ b. not (has_open opened n) && b) (has_draining n)))
 
   pub reap_same : draining_in began [] busy ≡ busy_among opened draining
   reap_same =
@@ -281,6 +312,7 @@ module _ (began idle busy : List ℕ) (opened : List OpenMember) (placed : ArePl
   pub placed_reap : ArePlaced began [] busy opened
   placed_reap = record {
     own = placed.own;
+    idle_apart = tt;
     idle_began = λ n is. absurd (false≢true is);
     idle_unused = λ n is. absurd (false≢true is);
     busy_began = placed.busy_began;
@@ -289,47 +321,41 @@ module _ (began idle busy : List ℕ) (opened : List OpenMember) (placed : ArePl
 
   -- ---- a listener
 
-  module _ (gone idle_then busy_then : List ℕ) (idles : (n : ℕ) → is_in idle_then n ≡ (is_in idle n || has_number n (idle_among opened gone)))
+  module _ (gone busy_then : List ℕ) (apart : Apart gone) (new : (n : ℕ) → has_number n began ≡ true → has_number n gone ≡ false)
       (busies : (n : ℕ) → is_in busy_then n ≡ (is_in busy n || has_number n (busy_among opened gone))) where
-    more : (n : ℕ) → (has_number n began ≡ true) ⊎ (has_number n gone ≡ true) → has_number n (began ++ gone) ≡ true
-    more n has = list_any-append (λ k. k == n) began gone ∙ by has
-      where
-        by : (has_number n began ≡ true) ⊎ (has_number n gone ≡ true) → (has_number n began || has_number n gone) ≡ true
-        by (inl was) = ap (λ b. b || has_number n gone) was
-        by (inr goes) = right_true (has_number n began) (has_number n gone) goes
+    later : (n : ℕ) → has_number n began ≡ true → has_number n (began ++ gone) ≡ true
+    later n was = list_any-append (λ k. k == n) began gone ∙ ap (λ b. b || has_number n gone) was
 
-    gone_idle : (n : ℕ) → has_number n (idle_among opened gone) ≡ true → ((not (has_open opened n)) ≡ true) × (has_number n gone ≡ true)
-    gone_idle n has = and_parts (not (has_open opened n)) (has_number n gone) (sym (has_filter (λ k. not (has_open opened k)) n gone) ∙ has)
+    goes : (n : ℕ) → has_number n gone ≡ true → has_number n (began ++ gone) ≡ true
+    goes n is = list_any-append (λ k. k == n) began gone ∙ right_true (has_number n began) (has_number n gone) is
 
-    gone_busy : (n : ℕ) → has_number n (busy_among opened gone) ≡ true → (has_open opened n ≡ true) × (has_number n gone ≡ true)
-    gone_busy n has = and_parts (has_open opened n) (has_number n gone) (sym (has_filter (has_open opened) n gone) ∙ has)
+    then_idle : (n : ℕ) → has_number n (idle_among opened gone) ≡ true → (has_number n (began ++ gone) ≡ true) × ((is_used n opened ≡ false) × (has_number n idle ≡ false))
+    then_idle n has =
+        let parts = and_parts (not (has_open opened n)) (has_number n gone) (sym (has_filter (λ k. not (has_open opened k)) n gone) ∙ has) in
+        (
+          goes n parts.1,
+          (
+            sym (open_used n opened placed.own) ∙ not_true (has_open opened n) (λ h. false≢true (ap not (sym h) ∙ parts.0)),
+            not_true (has_number n idle) (λ was. true≢false (sym parts.1 ∙ new n (placed.idle_began n was))),
+          ),
+        )
 
-    idle_case : (n : ℕ) → is_in idle_then n ≡ true → (is_in idle n ≡ true) ⊎ (has_number n (idle_among opened gone) ≡ true)
-    idle_case n is = or_true (is_in idle n) (has_number n (idle_among opened gone)) (sym (idles n) ∙ is)
+    then_busy : (n : ℕ) → (is_in busy n ≡ true) ⊎ (has_number n (busy_among opened gone) ≡ true) → (has_number n (began ++ gone) ≡ true) × (is_used n opened ≡ true)
+    then_busy n (inl was) = (later n (placed.busy_began n was), placed.busy_used n was)
+    then_busy n (inr has) =
+        let parts = and_parts (has_open opened n) (has_number n gone) (sym (has_filter (has_open opened) n gone) ∙ has) in
+        (goes n parts.1, sym (open_used n opened placed.own) ∙ parts.0)
 
-    busy_case : (n : ℕ) → is_in busy_then n ≡ true → (is_in busy n ≡ true) ⊎ (has_number n (busy_among opened gone) ≡ true)
-    busy_case n is = or_true (is_in busy n) (has_number n (busy_among opened gone)) (sym (busies n) ∙ is)
+    pub placed_start : ArePlaced (began ++ gone) (idle ++ idle_among opened gone) busy_then opened
+    placed_start =
+        more_idle (began ++ gone) (idle_among opened gone) opened (apart_filter (λ n. not (has_open opened n)) gone apart) later placed.idle_unused then_idle
+        busy_then placed.own (λ n is. then_busy n (or_true (is_in busy n) (has_number n (busy_among opened gone)) (sym (busies n) ∙ is)))
 
-    pub placed_start : ArePlaced (began ++ gone) idle_then busy_then opened
-    placed_start = record {
-      own = placed.own;
-      idle_began = λ n is. elim (idle_case n is) [ | inl was ↦ more n (inl (placed.idle_began n was)) | inr goes ↦ more n (inr (gone_idle n goes).1) ];
-      idle_unused = λ n is. elim (idle_case n is) [
-        | inl was ↦ placed.idle_unused n was
-        | inr goes ↦ sym (open_used n opened placed.own) ∙ not_true (has_open opened n) (λ h. false≢true (ap not (sym h) ∙ (gone_idle n goes).0))
-      ];
-      busy_began = λ n is. elim (busy_case n is) [ | inl was ↦ more n (inl (placed.busy_began n was)) | inr goes ↦ more n (inr (gone_busy n goes).1) ];
-      busy_used = λ n is. elim (busy_case n is) [
-        | inl was ↦ placed.busy_used n was
-        | inr goes ↦ sym (open_used n opened placed.own) ∙ (gone_busy n goes).0
-      ];
-    }
-
-    drains_more : (n : ℕ) → drains idle_then busy_then n ≡ (drains idle busy n || has_number n gone)
+    drains_more : (n : ℕ) → drains (idle ++ idle_among opened gone) busy_then n ≡ (drains idle busy n || has_number n gone)
     drains_more n =
-        (λ i. (idles n ∙ ap (λ b. is_in idle n || b) (has_filter (λ k. not (has_open opened k)) n gone)) i
+        (λ i. (list_any-append (λ k. k == n) idle (idle_among opened gone) ∙ ap (λ b. has_number n idle || b) (has_filter (λ k. not (has_open opened k)) n gone)) i
         || (busies n ∙ ap (λ b. is_in busy n || b) (has_filter (has_open opened) n gone)) i)
-        ∙ either (is_in idle n) (is_in busy n) (has_open opened n) (has_number n gone)
+        ∙ either (has_number n idle) (is_in busy n) (has_open opened n) (has_number n gone)
       where
         either : (i b o g : Bool) → ((i || (not o && g)) || (b || (o && g))) ≡ ((i || b) || g)
         either true b o g = refl
@@ -340,8 +366,8 @@ module _ (began idle busy : List ℕ) (opened : List OpenMember) (placed : ArePl
         either false false false true = refl
         either false false false false = refl
 
-    pub start_same : ((n : ℕ) → has_number n began ≡ true → has_number n gone ≡ false) → draining_in (began ++ gone) idle_then busy_then ≡ draining ++ gone
-    start_same new =
-        filter-append (drains idle_then busy_then) began gone
-        ∙ (λ i. filter_where (drains idle_then busy_then) (drains idle busy) began (λ n has. drains_more n ∙ ap (λ b. drains idle busy n || b) (new n has) ∙ or_false (drains idle busy n)) i
-        ++ (filter_where (drains idle_then busy_then) (λ n. true) gone (λ n has. drains_more n ∙ right_true (drains idle busy n) (has_number n gone) has) ∙ filter_all gone) i)
+    pub start_same : draining_in (began ++ gone) (idle ++ idle_among opened gone) busy_then ≡ draining ++ gone
+    start_same =
+        filter-append (drains (idle ++ idle_among opened gone) busy_then) began gone
+        ∙ (λ i. filter_where (drains (idle ++ idle_among opened gone) busy_then) (drains idle busy) began (λ n has. drains_more n ∙ ap (λ b. drains idle busy n || b) (new n has) ∙ or_false (drains idle busy n)) i
+        ++ (filter_where (drains (idle ++ idle_among opened gone) busy_then) (λ n. true) gone (λ n has. drains_more n ∙ right_true (drains idle busy n) (has_number n gone) has) ∙ filter_all gone) i)

@@ -155,12 +155,12 @@ no_twin n chain (row ∷ rows) none (inr there) =
     no_twin n chain rows (or_parts (clashes chain.matches (match_of row)) (list_any (clashes chain.matches) (map match_of rows)) none).1 there
 
 -- where no number stands for two chains and no chain is there twice, those that go are apart
-gone_apart : (next rows : List Row) → has_clash (map match_of rows) ≡ false
+each_once : (next rows : List Row) → has_clash (map match_of rows) ≡ false
     → ((number : ℕ) (one other : Chain) → HasRow number one rows → HasRow number other rows → one ≡ other) → Apart (gone_in next rows)
-gone_apart next [] clear one = tt
-gone_apart next (row ∷ rows) clear one =
+each_once next [] clear one = tt
+each_once next (row ∷ rows) clear one =
     let parts = or_parts (list_any (clashes (match_of row)) (map match_of rows)) (has_clash (map match_of rows)) clear in
-    by (has_equal_chain next row) parts.0 (gone_apart next rows parts.1 (λ number a b has has'. one number a b (inr has) (inr has')))
+    by (has_equal_chain next row) parts.0 (each_once next rows parts.1 (λ number a b has has'. one number a b (inr has) (inr has')))
   where
     by : (t : Bool) → list_any (clashes (match_of row)) (map match_of rows) ≡ false → Apart (gone_in next rows)
         → Apart (map number_of (cond (not t) (row ∷ filter (λ r. not (has_equal_chain next r)) rows) (filter (λ r. not (has_equal_chain next r)) rows)))
@@ -176,44 +176,52 @@ gone_apart next (row ∷ rows) clear one =
 
 -- ---- the numbers once a listener is accepted
 
-module _ (made : ℕ) (old : List Row) (began : List ℕ) (chains : List Chain) (kept : AreNumbered made old began) where
-  abbrev pub next : List Row
-  next = numbered made old chains
+module _ (made : ℕ) (old : List Row) (began : List ℕ) (kept : AreNumbered made old began) where
+  -- those that go are apart, and new among those that began to drain
+  pub gone_apart : (rows : List Row) → Apart (gone_in rows old)
+  gone_apart rows = each_once rows old kept.clear kept.sound.one_chain
 
-  abbrev pub gone : List ℕ
-  gone = gone_in next old
-
-  -- those that go are new among those that began to drain
-  pub gone_new : (n : ℕ) → has_number n began ≡ true → has_number n gone ≡ false
-  gone_new n has = not_true (has_number n gone) (λ goes.
-      let found = gone_row n next old goes in
+  pub gone_new : (rows : List Row) (n : ℕ) → has_number n began ≡ true → has_number n (gone_in rows old) ≡ false
+  gone_new rows n has = not_true (has_number n (gone_in rows old)) (λ goes.
+      let found = gone_row n rows old goes in
       false≢true (sym (kept.other n found.0 found.1.0) ∙ has))
 
-  gone_drawn : (n : ℕ) → has_number n gone ≡ true → n ≤ made
-  gone_drawn n goes = let found = gone_row n next old goes in kept.sound.below n found.0 found.1.0
+  gone_drawn : (rows : List Row) (n : ℕ) → has_number n (gone_in rows old) ≡ true → n ≤ made
+  gone_drawn rows n goes = let found = gone_row n rows old goes in kept.sound.below n found.0 found.1.0
 
-  -- a chain that serves then has no number of one that began to drain
-  others : (n : ℕ) (chain : Chain) → HasRow n chain next → GotNumber made old chain n → (has_number n began ≡ true) ⊎ (has_number n gone ≡ true) → ⊥
-  others n chain has (inl found) (inl before) = true≢false (sym before ∙ kept.other n chain (for_some chain old n found))
-  others n chain has (inl found) (inr goes) =
-      let row = gone_row n next old goes in
-      for_none row.0 next n row.1.1
-      (subst (λ x. HasRow n x next) (kept.sound.one_chain n chain row.0 (for_some chain old n found) row.1.0) has)
-  others n chain has (inr fresh) (inl before) = let low = kept.drawn n before in let high = fresh.1 in absurd (omega (arith, low, high))
-  others n chain has (inr fresh) (inr goes) = let low = gone_drawn n goes in let high = fresh.1 in absurd (omega (arith, low, high))
+  module _ (chains : List Chain) where
+    abbrev next : List Row
+    next = numbered made old chains
 
-  parts : (n : ℕ) → has_number n (began ++ gone) ≡ true → (has_number n began ≡ true) ⊎ (has_number n gone ≡ true)
-  parts n has = or_true (has_number n began) (has_number n gone) (sym (list_any-append (λ k. k == n) began gone) ∙ has)
+    -- a chain that serves then has no number of one that began to drain
+    others : (n : ℕ) (chain : Chain) → HasRow n chain next → GotNumber made old chain n → (has_number n began ≡ true) ⊎ (has_number n (gone_in next old) ≡ true) → ⊥
+    others n chain has (inl found) (inl before) = true≢false (sym before ∙ kept.other n chain (for_some chain old n found))
+    others n chain has (inl found) (inr goes) =
+        let row = gone_row n next old goes in
+        for_none row.0 next n row.1.1
+        (subst (λ x. HasRow n x next) (kept.sound.one_chain n chain row.0 (for_some chain old n found) row.1.0) has)
+    others n chain has (inr fresh) (inl before) = let low = kept.drawn n before in let high = fresh.1 in absurd (omega (arith, low, high))
+    others n chain has (inr fresh) (inr goes) = let low = gone_drawn next n goes in let high = fresh.1 in absurd (omega (arith, low, high))
 
-  low : (n : ℕ) → (has_number n began ≡ true) ⊎ (has_number n gone ≡ true) → n ≤ made
-  low n (inl before) = kept.drawn n before
-  low n (inr goes) = gone_drawn n goes
+    parts : (n : ℕ) → has_number n (began ++ gone_in next old) ≡ true → (has_number n began ≡ true) ⊎ (has_number n (gone_in next old) ≡ true)
+    parts n has = or_true (has_number n began) (has_number n (gone_in next old)) (sym (list_any-append (λ k. k == n) began (gone_in next old)) ∙ has)
 
-  pub numbered_then : has_clash (map match_of next) ≡ false → AreNumbered (made_by made old chains) next (began ++ gone)
-  numbered_then clear = record {
-    clear = clear;
-    sound = sound_next old made chains (ap has_clash (sym (numbered_matches made old chains)) ∙ clear) kept.sound;
-    apart = apart_append began gone kept.apart (gone_apart next old kept.clear kept.sound.one_chain) gone_new;
-    drawn = λ n has. let first = low n (parts n has) in let more = made_more old made chains in omega (arith, first, more);
-    other = λ n chain has. not_true (has_number n (began ++ gone)) (λ had. others n chain has (row_number old made chains n chain has) (parts n had));
-  }
+    low : (n : ℕ) → (has_number n began ≡ true) ⊎ (has_number n (gone_in next old) ≡ true) → n ≤ made
+    low n (inl before) = kept.drawn n before
+    low n (inr goes) = gone_drawn next n goes
+
+    accepted : has_clash (map match_of next) ≡ false → AreNumbered (made_by made old chains) next (began ++ gone_in next old)
+    accepted clear = record {
+      clear = clear;
+      sound = sound_next old made chains (ap has_clash (sym (numbered_matches made old chains)) ∙ clear) kept.sound;
+      apart = apart_append began (gone_in next old) kept.apart (gone_apart next) (gone_new next);
+      drawn = λ n has. let first = low n (parts n has) in let more = made_more old made chains in omega (arith, first, more);
+      other = λ n chain has. not_true (has_number n (began ++ gone_in next old)) (λ had. others n chain has (row_number old made chains n chain has) (parts n had));
+    }
+
+    pub numbered_then : (rows : List Row) (made_then : ℕ) → next ≡ rows → made_by made old chains ≡ made_then → has_clash (map match_of rows) ≡ false
+        → AreNumbered made_then rows (began ++ gone_in rows old)
+    numbered_then rows made_then is_rows is_made clear =
+        subst (λ (n : ℕ). AreNumbered n rows (began ++ gone_in rows old)) is_made
+        (subst (λ (rs : List Row). AreNumbered (made_by made old chains) rs (began ++ gone_in rs old)) is_rows
+        (accepted (ap (λ (rs : List Row). has_clash (map match_of rs)) is_rows ∙ clear)))

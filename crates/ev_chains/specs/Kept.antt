@@ -47,11 +47,12 @@ is_foreign member = not (member.worker == 0) || is_some member.cluster
 abbrev pub is_in : List ℕ → ℕ → Bool
 is_in keys number = list_any (nat_eq number) keys
 
--- The chains that drain, without a connection and with one: they are of those that began to.
+-- The chains that drain, as a list of those without a connection and a set of those with one: they are of those that began to.
 pub record ArePlaced (began idle busy : List ℕ) (opened : List OpenMember) : Type 0 where
   pub own : list_any is_foreign opened ≡ false
-  pub idle_began : (number : ℕ) → is_in idle number ≡ true → has_number number began ≡ true
-  pub idle_unused : (number : ℕ) → is_in idle number ≡ true → is_used number opened ≡ false
+  pub idle_apart : Apart idle
+  pub idle_began : (number : ℕ) → has_number number idle ≡ true → has_number number began ≡ true
+  pub idle_unused : (number : ℕ) → has_number number idle ≡ true → is_used number opened ≡ false
   pub busy_began : (number : ℕ) → is_in busy number ≡ true → has_number number began ≡ true
   pub busy_used : (number : ℕ) → is_in busy number ≡ true → is_used number opened ≡ true
 
@@ -62,7 +63,7 @@ pub record AreKept (made : ℕ) (serving : List Row) (began idle busy : List ℕ
 
 -- the chain of this number drains
 abbrev pub drains : List ℕ → List ℕ → ℕ → Bool
-drains idle busy number = is_in idle number || is_in busy number
+drains idle busy number = has_number number idle || is_in busy number
 
 -- those that drain, in the order in which they began to
 abbrev pub draining_in : List ℕ → List ℕ → List ℕ → List ℕ

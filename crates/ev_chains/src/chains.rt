@@ -9,7 +9,7 @@ ghost use Rattle.ev_chains.specs.Steps.{accept, close, drain, drained_by, reap, 
 
 use crate::changes::{Changed, ascending, numbers_above, part_rows, plain_numbers};
 use crate::closing::{close_all, closing_conns, has_open};
-use crate::draining::Draining;
+use crate::draining::{Draining, push_all};
 use crate::listed::Listed;
 use crate::next::{Next, read_next};
 use ev_keys::Keys;
@@ -52,11 +52,11 @@ impl Model for Chains {
     ghost view = { λ c. record {
         made = c.made;
         serving = c.serving;
-        draining = draining_in c.began.items c.draining.idle.keys c.draining.busy.keys;
+        draining = draining_in c.began.items c.draining.idle.items c.draining.busy.keys;
         opened = c.ledger;
     } };
 
-    ghost invariant = { λ c. AreKept c.made c.serving c.began.items c.draining.idle.keys c.draining.busy.keys c.ledger };
+    ghost invariant = { λ c. AreKept c.made c.serving c.began.items c.draining.idle.items c.draining.busy.keys c.ledger };
 }
 
 impl Chains {
@@ -102,9 +102,7 @@ impl Chains {
         let gone = parted.gone.as_slice();
         self.began.reserve(gone.len())?;
         self.draining.start(alloc, &self.ledger, gone)?;
-        let Ok(_) = self.began.extend_from_slice(gone) else {
-            unreachable!()
-        };
+        push_all(&mut self.began, gone);
         self.serving = rows;
         self.made = made;
         Ok(changed)
@@ -158,7 +156,7 @@ impl Chains {
     {
         let closed = closing_conns(alloc, &self.ledger, self.draining.busy.as_slice())?;
         close_all(&mut self.ledger, closed.as_slice());
-        self.draining.end_all();
+        self.draining.end_all(alloc);
         Ok(closed)
     }
 

@@ -1,4 +1,4 @@
-ghost use Rattle.std.specs.Prelude.{◌≡◌, ◌+◌, ◌≤◌, ◌&&◌, ◌==◌, [], if◌then◌else◌, false, ℕ, length, nat_eq, OnOk, OnErr};
+ghost use Rattle.std.specs.Prelude.{◌≡◌, ◌+◌, ◌≤◌, ◌++◌, ◌∷◌, [], if◌then◌else◌, length, nat_eq, vec_len, vec_capacity, OnOk, OnErr};
 ghost use Rattle.indexmap.specs.IndexSet.{contains, spare, index_set_len};
 ghost use Rattle.ev_model.specs.Picture.{has_number};
 ghost use Rattle.ev_chains.specs.Sets.{Gains, Loses};
@@ -14,20 +14,20 @@ use std::alloc::{AllocError, Global};
 #[derive(Drop)]
 pub(crate) struct Draining {
     // Those on which no connection is open, with room for the others.
-    pub idle: IndexSet<Gen>,
+    pub idle: Vec<Gen>,
     // Those on which one is.
     pub busy: IndexSet<Gen>,
-    ghost room: { index_set_len busy ≤ spare idle },
+    ghost room: { length idle.items + length busy.keys ≤ vec_capacity idle },
 }
 
 impl Draining {
     // None drains. It takes no memory.
     pub fn new(alloc: Global) -> Draining
-        ensures idle { result.idle.keys ≡ [] }
+        ensures idle { result.idle.items ≡ [] }
         ensures busy { result.busy.keys ≡ [] }
     {
         Draining {
-            idle: IndexSet::new(alloc),
+            idle: Vec::new(alloc),
             busy: IndexSet::new(alloc),
         }
     }
@@ -39,47 +39,55 @@ impl Draining {
         ledger: &Ledger,
         numbers: &[Gen],
     ) -> Result<(), AllocError>
-        ensures idle { OnOk result (Gains (contains nat_eq) (λ n. has_number n (idle_among ledger.now numbers.now)) self.old.idle self.new.idle) }
+        ensures idle { OnOk result (self.new.idle.items ≡ self.old.idle.items ++ idle_among ledger.now numbers.now) }
         ensures busy { OnOk result (Gains (contains nat_eq) (λ n. has_number n (busy_among ledger.now numbers.now)) self.old.busy self.new.busy) }
-        ensures same_idle { OnErr result (self.new.idle.keys ≡ self.old.idle.keys) }
+        ensures same_idle { OnErr result (self.new.idle.items ≡ self.old.idle.items) }
         ensures same_busy { OnErr result (self.new.busy.keys ≡ self.old.busy.keys) }
     {
         let parted = part_draining(alloc, ledger, numbers)?;
         self.idle.reserve(self.busy.len() + numbers.len())?;
         self.busy.reserve(parted.busy.len())?;
-        put_all(&mut self.idle, parted.idle.as_slice());
+        push_all(&mut self.idle, parted.idle.as_slice());
         put_all(&mut self.busy, parted.busy.as_slice());
         Ok(())
     }
 
     // No connection is open on the one of this number any more, where it drains. It takes no memory.
     pub fn end(&mut self, number: Gen)
-        ensures idle { Gains (contains nat_eq) (λ n. (number == n) && contains nat_eq self.old.busy number) self.old.idle self.new.idle }
-        ensures busy { Loses (contains nat_eq) (λ n. number == n) self.old.busy self.new.busy }
+        ensures idle { self.new.idle.items ≡ (if contains nat_eq self.old.busy number then self.old.idle.items ++ number ∷ [] else self.old.idle.items) }
+        ensures busy { Loses (contains nat_eq) (nat_eq number) self.old.busy self.new.busy }
     {
         if self.busy.swap_remove(&number) {
-            let Ok(_) = self.idle.insert(number) else {
-                unreachable!()
-            };
+            self.idle.push_reserved(number);
         }
     }
 
     // No connection is open on any of them any more. It takes no memory.
-    pub fn end_all(&mut self)
-        ensures idle { Gains (contains nat_eq) (contains nat_eq self.old.busy) self.old.idle self.new.idle }
+    pub fn end_all(&mut self, alloc: Global)
+        ensures idle { self.new.idle.items ≡ self.old.idle.items ++ self.old.busy.keys }
         ensures busy { self.new.busy.keys ≡ [] }
     {
-        let Ok(_) = self.idle.append(&mut self.busy) else {
-            unreachable!()
-        };
+        push_all(&mut self.idle, self.busy.as_slice());
+        self.busy = IndexSet::new(alloc);
     }
 
     // Those go on which no connection is open. It takes no memory.
     pub fn go(&mut self)
-        ensures idle { self.new.idle.keys ≡ [] }
+        ensures idle { self.new.idle.items ≡ [] }
         ensures busy { self.new.busy.keys ≡ self.old.busy.keys }
     {
         self.idle.clear();
+    }
+}
+
+// Adds numbers to a list that has room for them.
+pub(crate) fn push_all(list: &mut Vec<Gen>, numbers: &[Gen])
+    requires fits { vec_len list.old + length numbers.now ≤ vec_capacity list.old }
+    ensures items { list.new.items ≡ list.old.items ++ numbers.now }
+    ensures capacity { vec_capacity list.old ≤ vec_capacity list.new }
+{
+    for number in numbers {
+        list.push_reserved(*number);
     }
 }
 
@@ -87,8 +95,7 @@ impl Draining {
 fn put_all(set: &mut IndexSet<Gen>, numbers: &[Gen])
     requires fits { length numbers.now ≤ spare set.old }
     ensures gains { Gains (contains nat_eq) (λ n. has_number n numbers.now) set.old set.new }
-    ensures len { index_set_len set.new ≤ index_set_len set.old + length numbers.now }
-    ensures room { spare set.old ≤ spare set.new + length numbers.now }
+    ensures few { index_set_len set.new ≤ index_set_len set.old + length numbers.now }
 {
     for number in numbers {
         let Ok(_) = set.insert(*number) else {
