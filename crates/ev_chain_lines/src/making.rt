@@ -23,6 +23,6 @@ pub fn make_chains<S: Source>(alloc: Global, source: &mut S) -> Result<Vec<u8>, 
 {
     let mut lines = Lines::new(alloc)?;
     let ReadLines { kept, .. } = read_lines_with(alloc, &ChainLines, &mut lines, source)?;
-    let text = answer_events(alloc, kept.as_slice())?;
+    let text = answer_events(alloc, lines.keys(), kept.as_slice())?;
     Ok(text)
 }

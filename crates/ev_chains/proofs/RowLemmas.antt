@@ -14,13 +14,8 @@ use Rattle.ev_chains.specs.Rows.{keyed_names, clashes, has_clash, chain_same, ch
 use Rattle.ev_chains.specs.Listed.{number_in, is_chain, number_for}
 use Rattle.ev_chains.specs.Listeners.{matches_of}
 use Rattle.ev_chains.specs.State.{numbered, made_after, made_by}
+use Rattle.ev_chains.specs.Kept.{HasRow, Sound}
 use Rattle.ev_chains.proofs.ChoiceLemmas.{key_clash}
-use Rattle.ev_chain_laws.specs.Laws.{is_row}
-
--- the chain has this number among these rows
-abbrev pub HasRow : ℕ → Chain → List Row → Type 0
-HasRow number chain [] = ⊥
-HasRow number chain (row ∷ rows) = ((row.number ≡ number) × (row.chain ≡ chain)) ⊎ HasRow number chain rows
 
 -- the chain is among these
 abbrev pub HasChain : Chain → List Chain → Type 0
@@ -29,32 +24,23 @@ HasChain chain (other ∷ others) = (other ≡ chain) ⊎ HasChain chain others
 
 -- ---- by tests
 
-same_number : (a b : ℕ) → (a == b) ≡ true → a ≡ b
+pub same_number : (a b : ℕ) → (a == b) ≡ true → a ≡ b
 same_number a b h = grind (arith, nat_tests)
 
 own_number : (a b : ℕ) → a ≡ b → (a == b) ≡ true
 own_number a b h = grind (arith, nat_tests)
 
-and_parts : (a b : Bool) → (a && b) ≡ true → (a ≡ true) × (b ≡ true)
+pub and_parts : (a b : Bool) → (a && b) ≡ true → (a ≡ true) × (b ≡ true)
 and_parts true b h = (refl, h)
 and_parts false b h = absurd (false≢true h)
 
-or_true : (a b : Bool) → (a || b) ≡ true → (a ≡ true) ⊎ (b ≡ true)
+pub or_true : (a b : Bool) → (a || b) ≡ true → (a ≡ true) ⊎ (b ≡ true)
 or_true true b h = inl refl
 or_true false b h = inr h
 
-right_true : (a b : Bool) → b ≡ true → (a || b) ≡ true
+pub right_true : (a b : Bool) → b ≡ true → (a || b) ≡ true
 right_true true b h = refl
 right_true false b h = h
-
-pub row_has : (row : Row) (rows : List Row) → list_any (is_row row) rows ≡ true → HasRow row.number row.chain rows
-row_has row [] h = absurd (false≢true h)
-row_has row (other ∷ rows) h = elim (or_true (is_row row other) (list_any (is_row row) rows) h) [
-  | inl here ↦
-      let parts = and_parts (other.number == row.number) (chain_same other.chain row.chain) here in
-      inl (same_number other.number row.number parts.0, (chain_decides other.chain row.chain).0 parts.1)
-  | inr there ↦ inr (row_has row rows there)
-]
 
 pub number_true : (number : ℕ) (chain : Chain) (rows : List Row) → HasRow number chain rows → list_any (λ (row : Row). row.number == number) rows ≡ true
 number_true number chain [] has = elim has [ ]
@@ -116,11 +102,6 @@ cases_for chain rows = by (number_for chain rows) refl
     by (Some number) is = inl (number, is)
 
 -- ---- rows whose numbers and chains are apart
-
-pub record Sound (made : ℕ) (rows : List Row) : Type 0 where
-  pub one_chain : (number : ℕ) (one other : Chain) → HasRow number one rows → HasRow number other rows → one ≡ other
-  pub one_number : (chain : Chain) (one other : ℕ) → HasRow one chain rows → HasRow other chain rows → one ≡ other
-  pub below : (number : ℕ) (chain : Chain) → HasRow number chain rows → number ≤ made
 
 -- how a chain of the next listener got its number: it has that of the serving chain that equals it, or a new one
 abbrev pub GotNumber : ℕ → List Row → Chain → ℕ → Type 0
@@ -221,7 +202,7 @@ module _ (old : List Row) where
       let key : ChainKey = record { port = port; name = Some (str_to_ascii_lowercase name) } in
       (key, ap (λ b. b || list_any (λ own. key_same own key) (map (λ n. record { port = port; name = n }) (map (λ n. Some (str_to_ascii_lowercase n)) names))) ((key_decides key key).1 refl))
 
-  own_clash : (m : ChainMatch) → clashes m m ≡ true
+  pub own_clash : (m : ChainMatch) → clashes m m ≡ true
   own_clash m = let key = some_key m.names m.port in key_clash key.0 m m key.1 key.1
 
   no_twin : (c : Chain) (chains : List Chain) → list_any (clashes c.matches) (matches_of chains) ≡ false → HasChain c chains → ⊥
