@@ -73,11 +73,10 @@ filter_twice p q (x ∷ xs) = by (p x) (filter_twice p q xs)
 
 pub apart_append : (xs ys : List ℕ) → Apart xs → Apart ys → ((n : ℕ) → has_number n xs ≡ true → has_number n ys ≡ false) → Apart (xs ++ ys)
 apart_append [] ys first second none = second
-apart_append (x ∷ xs) ys first second none =
-    (
-      list_any-append (λ k. k == x) xs ys ∙ (λ i. first.0 i || none x (ap (λ b. b || has_number x xs) (own x)) i),
-      apart_append xs ys first.1 second (λ n has. none n (right_true (x == n) (has_number n xs) has)),
-    )
+apart_append (x ∷ xs) ys first second none = (
+  list_any-append (λ k. k == x) xs ys ∙ (λ i. first.0 i || none x (ap (λ b. b || has_number x xs) (own x)) i),
+  apart_append xs ys first.1 second (λ n has. none n (right_true (x == n) (has_number n xs) has)),
+)
 
 pub apart_filter : (p : ℕ → Bool) (xs : List ℕ) → Apart xs → Apart (filter p xs)
 apart_filter p [] apart = tt
@@ -165,14 +164,13 @@ each_once next (row ∷ rows) clear one =
     by : (t : Bool) → list_any (clashes (match_of row)) (map match_of rows) ≡ false → Apart (gone_in next rows)
         → Apart (map number_of (cond (not t) (row ∷ filter (λ r. not (has_equal_chain next r)) rows) (filter (λ r. not (has_equal_chain next r)) rows)))
     by true none rest = rest
-    by false none rest =
-        (
-          not_true (has_number row.number (gone_in next rows)) (λ has.
-            let found = gone_row row.number next rows has in
-            no_twin row.number row.chain rows none
-            (subst (λ x. HasRow row.number x rows) (sym (one row.number row.chain found.0 (inl (refl, refl)) (inr found.1.0))) found.1.0)),
-          rest,
-        )
+    by false none rest = (
+      not_true (has_number row.number (gone_in next rows)) (λ has.
+          let found = gone_row row.number next rows has in
+          no_twin row.number row.chain rows none
+          (subst (λ x. HasRow row.number x rows) (sym (one row.number row.chain found.0 (inl (refl, refl)) (inr found.1.0))) found.1.0)),
+      rest,
+    )
 
 -- ---- the numbers once a listener is accepted
 

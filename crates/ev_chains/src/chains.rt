@@ -50,10 +50,10 @@ impl Model for Chains {
     ghost Value = { ChainState };
 
     ghost view = { λ c. record {
-        made = c.made;
-        serving = c.serving;
-        draining = draining_in c.began.items c.draining.idle.items c.draining.busy.keys;
-        opened = c.ledger;
+      made = c.made;
+      serving = c.serving;
+      draining = draining_in c.began.items c.draining.idle.items c.draining.busy.keys;
+      opened = c.ledger;
     } };
 
     ghost invariant = { λ c. AreKept c.made c.serving c.began.items c.draining.idle.items c.draining.busy.keys c.ledger };

@@ -7,7 +7,9 @@ ghost use Rattle.ev_dns.specs.Resolving.{is_written};
 ghost use Rattle.ev_dns.specs.Lines.{dns_lines, given_addresses, addresses_at, resolution_of, resolution_in};
 
 use crate::names::read_names;
-use ev_script::{FormedHead, FormedLine, Forms, HeadTree, LineTree, LineTrees, has_only, is_op, name_at};
+use ev_script::{
+    FormedHead, FormedLine, Forms, HeadTree, LineTree, LineTrees, has_only, is_op, name_at,
+};
 use ev_types::{Name, Profile, Seq};
 use serde_json::Value;
 use std::alloc::{AllocError, Global};
@@ -30,6 +32,7 @@ impl Forms for DnsLines {
     ghost use Rattle.ev_script.specs.ReadTrees.{IsTreeHead};
 
     type Head = HeadTree;
+
     type Kept = LineTree;
 
     ghost forms = { dns_lines };

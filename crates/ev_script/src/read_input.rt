@@ -84,7 +84,10 @@ pub(crate) fn read_up_to_journal<S: Source, F: Forms>(
     ensures same_count { (S.faults source.new ≡ S.faults source.old) ⊎ (result ≡ Err ScriptFault.Read) }
     ensures count { S.faults source.old ≤ S.faults source.new }
 {
-    let FormedHead { kept: head, settings } = read_head(alloc, forms, lines, source)?;
+    let FormedHead {
+        kept: head,
+        settings,
+    } = read_head(alloc, forms, lines, source)?;
     let mut text = Vec::new(alloc);
     let mut kept = Vec::new(alloc);
     'lines: loop {

@@ -35,6 +35,7 @@ impl Forms for LineTrees {
     ghost use Rattle.ev_script.specs.ReadTrees.{IsTreeHead};
 
     type Head = HeadTree;
+
     type Kept = LineTree;
 
     ghost forms = { plain_lines };
