@@ -1,5 +1,5 @@
-use Rattle.std.proofs.Common.{◌≡◌, ◌∙◌, ◌++◌, ap, ap₂}
-use Rattle.std.specs.Prelude.{codes, decimal, string_bytes, IfOk}
+use Rattle.std.proofs.Common.{◌≡◌, ◌∙◌, ◌++◌}
+use Rattle.std.specs.Prelude.{codes, string_bytes, IfOk}
 use Rattle.std.proofs.lemmas.Result.{IfOk-weaker}
 use Rattle.ev_journal.proofs.TextLemmas.{moved}
 use Rattle.ev_journal.proofs.answers.moved_text.Goals as goal
