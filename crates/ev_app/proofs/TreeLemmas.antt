@@ -3,6 +3,7 @@ use Rattle.std.proofs.Common.{◌≡◌, ℕ, suc, ◌+◌, ◌<◌, true, false
 use Rattle.std.specs.Io.KnownBytes.{IsAtEnd}
 use Rattle.serde_json.specs.Data.{Data}
 use Rattle.serde_json.specs.View.{view}
+use Rattle.serde_json.specs.declared.value.Value.{Value}
 use Rattle.ev_io.specs.Lines.{lines_of}
 use Rattle.ev_io.specs.LinesState.{LinesState, HasTaken, IsWithin}
 use Rattle.ev_io.specs.Outside.{Takes}
@@ -21,13 +22,13 @@ use Rattle.ev_app.proofs.InputLemmas.{taken_input, no_byte}
 
 -- ---- bytes have the same trees in each reading
 
--- lists of one length that are the same, each by each
-same_each : (xs ys : List Data) → length xs ≡ length ys → ((i : ℕ) (other : Data) → i < length xs → slice_index_or xs i other ≡ slice_index_or ys i other) → xs ≡ ys
-same_each [] [] long each = refl
-same_each [] (y ∷ ys) long each = absurd (omega (arith, long))
-same_each (x ∷ xs) [] long each = absurd (omega (arith, long))
-same_each (x ∷ xs) (y ∷ ys) long each =
-    ap₂ (λ (d : Data) ds. d ∷ ds) (each 0 x (omega arith)) (same_each xs ys (omega (arith, long)) (λ i other less. each (suc i) other (omega (arith, less))))
+-- values of one length that are the same trees, each by each
+same_views : (xs ys : List Value) → length xs ≡ length ys → ((i : ℕ) (other : Value) → i < length xs → view (slice_index_or xs i other) ≡ view (slice_index_or ys i other)) → map view xs ≡ map view ys
+same_views [] [] long each = refl
+same_views [] (y ∷ ys) long each = absurd (omega (arith, long))
+same_views (x ∷ xs) [] long each = absurd (omega (arith, long))
+same_views (x ∷ xs) (y ∷ ys) long each =
+    ap₂ (λ (d : Data) ds. d ∷ ds) (each 0 x (omega arith)) (same_views xs ys (omega (arith, long)) (λ i other less. each (suc i) other (omega (arith, less))))
 
 abbrev tree_in : Data → Option Data → Data
 tree_in tree None = tree
@@ -51,8 +52,8 @@ same_headers forms bytes trees others one two =
 pub same_lines : (forms : LineForms) (bytes : List ℕ) (trees others : ScriptTrees) → AreTreesOf forms bytes trees → AreTreesOf forms bytes others → lines_in trees ≡ lines_in others
 same_lines forms bytes trees others one two =
     let long : length trees.lines.items ≡ length others.lines.items = omega (arith, one.0.lines, two.0.lines) in
-    same_each trees.lines.items others.lines.items long
-    (λ i other less. one_tree (slice_index_or (lines_of bytes) (i + 1) []) (slice_index_or trees.lines.items i other) (slice_index_or others.lines.items i other)
+    same_views trees.lines.items others.lines.items long
+    (λ i other less. one_tree (slice_index_or (lines_of bytes) (i + 1) []) (view (slice_index_or trees.lines.items i other)) (view (slice_index_or others.lines.items i other))
     (one.1.lines i other less) (two.1.lines i other (omega (arith, less, long))))
 
 -- ---- readings

@@ -21,8 +21,14 @@ pub fn make_chains<S: Source>(alloc: Global, source: &mut S) -> Result<Vec<u8>, 
     ensures same_count { (S.faults source.new ≡ S.faults source.old) ⊎ (result ≡ Err ScriptFault.Read) }
     ensures count { S.faults source.old ≤ S.faults source.new }
 {
-    let mut lines = Lines::new(alloc)?;
-    let ReadLines { kept, .. } = read_lines_with(alloc, &ChainLines, &mut lines, source)?;
-    let text = answer_events(alloc, lines.keys(), kept.as_slice())?;
-    Ok(text)
+    let Ok(mut lines) = Lines::new(alloc) else {
+        return Err(ScriptFault::OutOfMemory);
+    };
+    match read_lines_with(alloc, &ChainLines, false, &mut lines, source) {
+        Ok(ReadLines { kept, .. }) => match answer_events(alloc, lines.keys(), kept.as_slice()) {
+            Ok(text) => Ok(text),
+            Err(_) => Err(ScriptFault::OutOfMemory),
+        },
+        Err(fault) => Err(fault),
+    }
 }

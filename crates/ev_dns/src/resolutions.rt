@@ -23,7 +23,7 @@ use crate::touching::touched_by;
 use crate::waiting::Waiting;
 use ev_expand::{Due, ExpandError, Expansion, Key, Numbers, expand_with};
 use ev_keys::Keys;
-use ev_script::{LineTree, is_op};
+use ev_script::is_op;
 use ev_types::{Event, Item, Name, Profile, TryCopy};
 use serde_json::{Value, json};
 use std::alloc::{AllocError, Global};
@@ -208,9 +208,9 @@ pub fn expand(
     keys: Keys,
     profile: Profile,
     head: &Value,
-    lines: &[LineTree],
+    lines: &[Value],
 ) -> Result<Vec<u8>, ExpandError>
-    ensures { IsExpanded (dns_rules profile) (view head.now) lines.now result }
+    ensures { IsExpanded (dns_rules profile) (view head.now) (map view lines.now) result }
 {
     expand_with(
         alloc,

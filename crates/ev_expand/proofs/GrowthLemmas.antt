@@ -2,7 +2,7 @@
 use Rattle.std.proofs.Common.{◌≡◌, ℕ, suc, ◌+◌, ◌-◌, ◌<◌, ◌≤◌, Bool, true, false, List, [], ◌∷◌, ◌++◌, length, get_or, take, map, None, Result, Ok, decimal, refl, sym, ap, ◌∙◌, subst, append_assoc, arith, length-append}
 use Rattle.std.specs.declared.alloc.AllocError.{AllocError}
 use Rattle.std.specs.Prelude.{All}
-use Rattle.std.proofs.lemmas.List.{map-append}
+use Rattle.std.proofs.lemmas.List.{map-append, take-map, length-map}
 use Rattle.std.proofs.lemmas.List.Elements.{All-cons, All-append}
 use Rattle.std.proofs.lemmas.Grind.{flat_map-append}
 use Rattle.serde_json.specs.Data.{Data}
@@ -18,7 +18,9 @@ use Rattle.ev_expand.specs.declared.text_so_far.TextSoFar.{TextSoFar}
 use Rattle.ev_expand.specs.Growing.{front_of, Pushes, IsGrown}
 use Rattle.ev_expand.specs.Guarding.{Guarded, guarded_by}
 use Rattle.ev_expand.specs.Private.{first_use}
-use Rattle.ev_expand.proofs.NumberLemmas.{lines_more}
+use Rattle.serde_json.specs.View.{view}
+use Rattle.serde_json.specs.declared.value.Value.{Value}
+use Rattle.ev_expand.proofs.NumberLemmas.{views_more}
 use Rattle.ev_expand.proofs.FrontLemmas.{flat-push}
 
 front_short : (P : Data → Type 0) (xs ys : List Data) → All P (xs ++ ys) → All P xs
@@ -104,21 +106,22 @@ large_first rules head lines old new answer empty pushes is = record {
 }
 
 -- the text is too large with this line
-pub large_at : (rules : Rules) (head : Data) (ls : List Data) (i : ℕ) (entry : Data) (old new : TextSoFar) (gs : List Guarded) (answer : Result Bool AllocError) → i < length ls → entry ≡ get_or ls i entry
-    → IsGrown rules head (take i ls) old gs → Pushes old new answer (gives rules (front_of (take i ls) entry)) → answer ≡ Ok false
-    → GrowsTooLarge rules head ls (i + 2)
+pub large_at : (rules : Rules) (head : Data) (ls : List Value) (i : ℕ) (entry : Value) (old new : TextSoFar) (gs : List Guarded) (answer : Result Bool AllocError) → i < length ls → entry ≡ get_or ls i entry
+    → IsGrown rules head (map view (take i ls)) old gs → Pushes old new answer (gives rules (front_of (map view (take i ls)) (view entry))) → answer ≡ Ok false
+    → GrowsTooLarge rules head (map view ls) (i + 2)
 large_at rules head ls i entry old new gs answer h there grown pushes is =
     let before : i + 2 - 2 ≡ i = omega arith in
     let here : i + 2 - 1 ≡ i + 1 = omega arith in
-    let fronts_at : take (i + 2 - 2) ls ≡ take i ls = ap (λ (n : ℕ). take n ls) before in
-    let with_line : take (i + 2 - 1) ls ≡ take i ls ++ entry ∷ [] = ap (λ (n : ℕ). take n ls) here ∙ lines_more ls i entry there h in
-    let all : written_by rules head (take (i + 2 - 1) ls) ≡ written_by rules head (take i ls) ++ map whole (gives rules (front_of (take i ls) entry)) =
-    ap (written_by rules head) with_line ∙ written-push rules head (take i ls) entry in
+    let fronts_at : take (i + 2 - 2) (map view ls) ≡ map view (take i ls) = ap (λ (n : ℕ). take n (map view ls)) before ∙ take-map view i ls in
+    let with_line : take (i + 2 - 1) (map view ls) ≡ map view (take i ls) ++ view entry ∷ [] =
+    ap (λ (n : ℕ). take n (map view ls)) here ∙ take-map view (i + 1) ls ∙ views_more ls i entry there h in
+    let all : written_by rules head (take (i + 2 - 1) (map view ls)) ≡ written_by rules head (map view (take i ls)) ++ map whole (gives rules (front_of (map view (take i ls)) (view entry))) =
+    ap (written_by rules head) with_line ∙ written-push rules head (map view (take i ls)) (view entry) in
     record {
       first = omega arith;
-      last = omega (arith, h);
+      last = omega (arith, h, length-map ls view);
       before = λ k. subst (λ (xs : List Data). AreWithinLimits (written_by rules head xs)) (sym fronts_at) grown.written.limits;
-      above = λ within. pushes.full (written_by rules head (take i ls)) grown.written is (subst AreWithinLimits all within);
+      above = λ within. pushes.full (written_by rules head (map view (take i ls))) grown.written is (subst AreWithinLimits all within);
     }
 
 -- what was reported where no line was refused

@@ -161,9 +161,6 @@ pub views_more : (es : List Value) (i : ℕ) (entry : Value) → entry ≡ get_o
 views_more es i entry there h =
     ap (map view) (take_more es i entry h) ∙ map-append view (take i es) (get_or es i entry ∷ []) ∙ ap (λ (v : Value). map view (take i es) ++ view v ∷ []) (sym there)
 
-pub lines_more : (ls : List Data) (i : ℕ) (line : Data) → line ≡ get_or ls i line → i < length ls → take (i + 1) ls ≡ take i ls ++ line ∷ []
-lines_more ls i line there h = take_more ls i line h ∙ ap (λ (d : Data). take i ls ++ d ∷ []) (sym there)
-
 pub placed_next : (guard : Guard) (entries after : List Data) (entry : Data) (gs new : List Guarded) (o : Option Guarded) (places more : List (Option ℕ)) (place : Option ℕ)
     → ArePlaced guard entries gs places → after ≡ entries ++ entry ∷ [] → new ≡ taken_up gs o → more ≡ places ++ place ∷ []
     → place ≡ place_at guard new entry → IfSome place (λ (p : ℕ). p < length new) → ArePlaced guard after new more

@@ -17,7 +17,6 @@ use crate::outcome::ExpandError;
 use crate::private::first_use;
 use crate::text_so_far::TextSoFar;
 use ev_keys::Keys;
-use ev_script::LineTree;
 use ev_types::{Event, Item, Profile};
 use serde_json::Value;
 use std::alloc::{AllocError, Global};
@@ -113,10 +112,10 @@ pub fn expand_with<E: Expansion + Drop>(
     profile: Profile,
     expansion: E,
     head: &Value,
-    lines: &[LineTree],
+    lines: &[Value],
 ) -> Result<Vec<u8>, ExpandError>
     requires { E.is_behind profile expansion [] }
-    ensures { IsExpanded (E.rules profile) (view head.now) lines.now result }
+    ensures { IsExpanded (E.rules profile) (view head.now) (map view lines.now) result }
 {
     let mut expansion = expansion;
     if lines.len() >= MOST_LINES {
@@ -132,7 +131,6 @@ pub fn expand_with<E: Expansion + Drop>(
     let mut numbers = Numbers::new(alloc, keys);
     for (index, line) in lines.iter().enumerate() {
         let at = index as u32 + 2;
-        let tree = line.read(alloc)?;
         let has_room = push_line(
             alloc,
             profile,
@@ -140,7 +138,7 @@ pub fn expand_with<E: Expansion + Drop>(
             &mut numbers,
             &mut text,
             at,
-            &tree,
+            line,
         )?;
         if !has_room {
             return Err(ExpandError::Large { line: at });

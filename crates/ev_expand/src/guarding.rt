@@ -247,7 +247,6 @@ fn place_entry<E: Expansion>(
         return Ok(Some(place));
     }
     let place = numbers.len();
-    let own = expansion.own(alloc, profile, entry)?;
-    numbers.push(alloc, key, &own)?;
+    numbers.push(key, expansion.own(alloc, profile, entry)?)?;
     Ok(Some(place))
 }

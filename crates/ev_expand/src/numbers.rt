@@ -7,7 +7,6 @@ ghost use Rattle.ev_expand.specs.Numbers.{found_shown, guarded_as, guarded_so_fa
 
 use crate::keys::Key;
 use ev_keys::Keys;
-use ev_trees::KeptTree;
 use indexmap::IndexMap;
 use serde_json::Value;
 use std::alloc::{AllocError, Global};
@@ -17,7 +16,7 @@ use std::alloc::{AllocError, Global};
 #[derive(Drop)]
 pub struct Numbers {
     /// By key what is kept of its first item.
-    pub firsts: IndexMap<Key, KeptTree, Keys>,
+    pub firsts: IndexMap<Key, Value, Keys>,
 }
 
 impl Numbers {
@@ -38,7 +37,7 @@ impl Numbers {
     }
 
     /// The key at a place, and what is kept of its first item.
-    pub fn get(&self, place: usize) -> Option<(&Key, &KeptTree)>
+    pub fn get(&self, place: usize) -> Option<(&Key, &Value)>
         ensures { option_map found_shown result ≡ slice_get (guarded_so_far self.now) place }
     {
         self.firsts.get_index(place)
@@ -55,11 +54,10 @@ impl Numbers {
     }
 
     /// Appends a key that has no place yet to the others, with what is kept of its first item.
-    pub(crate) fn push(&mut self, alloc: Global, key: Key, own: &Value) -> Result<(), AllocError>
+    pub(crate) fn push(&mut self, key: Key, own: Value) -> Result<(), AllocError>
         requires { list_any (λ g. key_same key g.key) (guarded_so_far self.old) ≡ false }
-        ensures { OnOk result (guarded_so_far self.new ≡ guarded_so_far self.old ++ guarded_as key (view own.now) ∷ []) }
+        ensures { OnOk result (guarded_so_far self.new ≡ guarded_so_far self.old ++ guarded_as key (view own) ∷ []) }
     {
-        let own = KeptTree::of(alloc, own)?;
         let Ok(_) = self.firsts.insert(key, own) else {
             return Err(AllocError);
         };

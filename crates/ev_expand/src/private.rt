@@ -1,10 +1,9 @@
-ghost use Rattle.std.specs.Prelude.{◌≡◌, ◌+◌, ◌^◌, ◌<◌, length, option_map, Option, IfOk};
+ghost use Rattle.std.specs.Prelude.{◌≡◌, ◌+◌, ◌^◌, ◌<◌, length, map, option_map, Option, IfOk};
 ghost use Rattle.std.specs.List.{list_any};
 ghost use Rattle.serde_json.specs.View.{view};
 ghost use Rattle.ev_expand.specs.Private.{is_private, discovery_uses, content_uses, body_uses, item_uses, named_uses, response_uses, event_uses, line_uses, first_use};
 
 use crate::fronts::read_event;
-use ev_script::LineTree;
 use ev_types::{Body, Content, Discovery, Event, Item, Kind, Profile, Response, Text};
 use serde_json::Value;
 use std::alloc::{AllocError, Global};
@@ -14,14 +13,13 @@ pub(crate) fn first_use(
     alloc: Global,
     profile: Profile,
     prefix: &str,
-    lines: &[LineTree],
+    lines: &[Value],
 ) -> Result<Option<u32>, AllocError>
     requires { length lines.now + 2 < 2 ^ 32 }
-    ensures { IfOk result (λ line. line ≡ first_use profile prefix.now lines.now) }
+    ensures { IfOk result (λ line. line ≡ first_use profile prefix.now (map view lines.now)) }
 {
     for (index, line) in lines.iter().enumerate() {
-        let tree = line.read(alloc)?;
-        if line_uses(alloc, profile, prefix, &tree)? {
+        if line_uses(alloc, profile, prefix, line)? {
             return Ok(Some(index as u32 + 2));
         }
     }

@@ -1,6 +1,7 @@
 -- The script that a text says, and the lines of the text that a command makes.
-use Rattle.std.specs.Prelude.{◌≡◌, ℕ, ◌+◌, List, [], ◌∷◌, ◌++◌, flat_map, true, false, Some, option_to_list, ⊤}
+use Rattle.std.specs.Prelude.{◌≡◌, ℕ, ◌+◌, List, [], ◌∷◌, ◌++◌, map, flat_map, true, false, Some, option_to_list, ⊤}
 use Rattle.serde_json.specs.Data.{Data}
+use Rattle.serde_json.specs.View.{view}
 use Rattle.ev_types.specs.Scripts.{ScriptParts}
 use Rattle.ev_types.specs.declared.events.Line.{Line}
 use Rattle.ev_types.specs.declared.events.Profile.{Profile}
@@ -15,7 +16,7 @@ use Rattle.ev_expand.specs.Expanding.{Rules, gives}
 
 -- the trees of the lines after the header
 abbrev pub lines_in : ScriptTrees → List Data
-lines_in trees = trees.lines.items
+lines_in trees = map view trees.lines.items
 
 -- the lines that trees are in a profile, from this place on
 abbrev pub lines_said : Profile → ℕ → List Data → List Line

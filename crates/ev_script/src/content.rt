@@ -2,19 +2,19 @@ ghost use Rattle.std.specs.Prelude.{◌≡◌, ◌&&◌, IfOk};
 ghost use Rattle.serde_json.specs.View.{view};
 ghost use Rattle.ev_script.specs.Members.{tree_of};
 ghost use Rattle.ev_script.specs.Faults.{has_format};
-ghost use Rattle.ev_script.specs.Content.{first_content, first_set, is_above, IsFirstKept, IsContent};
+ghost use Rattle.ev_script.specs.Content.{first_of, first_content, is_above, IsContent};
 
 use crate::fault_kinds::FaultKind;
-use crate::forms::{FormedHead, Forms, Settings};
+use crate::forms::{Forms, Settings};
 use crate::members::read_tree;
 use serde_json::Value;
 use std::alloc::{AllocError, Global};
 
 // What the first line of an input is.
 #[derive(Drop)]
-pub(crate) enum First<T> {
-    /// A header.
-    Header(T),
+pub(crate) enum First {
+    /// A header, which sets this.
+    Header(Settings),
     /// No header, with this fault.
     Fault(FaultKind),
 }
@@ -35,22 +35,28 @@ pub(crate) fn read_first<F: Forms>(
     alloc: Global,
     forms: &F,
     text: &[u8],
-) -> Result<First<FormedHead<F::Head>>, AllocError>
-    ensures sets { IfOk result (λ first. first_set first ≡ first_content F.forms text.now) }
-    ensures kept { IfOk result (IsFirstKept F.keeps_head (tree_of text.now)) }
+) -> Result<First, AllocError>
+    ensures { IfOk result (λ first. first ≡ first_content F.forms text.now) }
 {
-    let Some(tree) = read_tree(alloc, text)? else {
-        return Ok(First::Fault(FaultKind::NotJson));
-    };
-    match forms.read_head(alloc, tree)? {
-        Some(head) => Ok(First::Header(head)),
-        None => Ok(First::Fault(FaultKind::NotHeader)),
+    match read_tree(alloc, text)? {
+        Some(tree) => Ok(first_of(forms.read_head(alloc, &tree)?)),
+        None => Ok(First::Fault(FaultKind::NotJson)),
+    }
+}
+
+// What a first line is, by what it sets as a header.
+fn first_of(settings: Option<Settings>) -> First
+    ensures { result ≡ first_of settings }
+{
+    match settings {
+        Some(settings) => First::Header(settings),
+        None => First::Fault(FaultKind::NotHeader),
     }
 }
 
 // What line `at` is, by its text without its line feed, in a script with these settings: a line, or a
 // fault of kind 4, 6 or 7. In an audit's input an object with a member `format` begins the journal,
-// whatever else it has.
+// whatever else it has. The line's tree is gone before the answer, where it isn't what is kept.
 pub(crate) fn read_content<F: Forms>(
     alloc: Global,
     forms: &F,
@@ -67,7 +73,7 @@ pub(crate) fn read_content<F: Forms>(
     if begins_journal(audit, &tree) {
         return Ok(Content::Journal);
     }
-    let Some(formed) = forms.read(alloc, settings.profile, at, text, &tree)? else {
+    let Some(formed) = forms.read(alloc, settings.profile, at, tree)? else {
         return Ok(Content::Fault(FaultKind::NotLine));
     };
     if is_above(settings.workers, formed.worker) {

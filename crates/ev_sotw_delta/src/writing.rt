@@ -14,10 +14,10 @@ ghost use Rattle.ev_sotw_delta.specs.SameWorld.{RunsAreSameWorld};
 ghost use Rattle.ev_sotw_delta.specs.DeltaText.{FitsInput, IsWritten, WritesOn, IsTooLargeFor, IsRefusal, written_of, delta_script};
 
 use crate::outcome::DeltaError;
+use ev_delta::nests_within;
 use ev_expand::TextSoFar;
 use ev_script::ScriptTrees;
 use ev_sotw_lines::NamesSoFar;
-use ev_trees::nests_within;
 use serde_json::Value;
 use std::alloc::{AllocError, Global};
 
@@ -44,8 +44,7 @@ pub fn to_delta(alloc: Global, trees: &ScriptTrees) -> Result<Vec<u8>, DeltaErro
     let mut names = NamesSoFar::new(alloc);
     push_tree(alloc, &mut text, &trees.head)?;
     for line in &trees.lines {
-        let tree = line.read(alloc)?;
-        push_delta(alloc, &mut text, &mut names, &tree)?;
+        push_delta(alloc, &mut text, &mut names, line)?;
     }
     Ok(text.bytes)
 }

@@ -4,7 +4,7 @@ ghost use Rattle.ev_delta.specs.Discovery.{seen};
 ghost use Rattle.ev_sotw_lines.specs.Lines.{response_in, version_in};
 
 use ev_delta::{Discovery, read_discovery};
-use ev_script::{FormedHead, FormedLine, Forms, HeadTree, LineTree, LineTrees, has_only, is_op};
+use ev_script::{FormedLine, Forms, LineTrees, Settings, has_only, is_op};
 use ev_types::Profile;
 use serde_json::Value;
 use std::alloc::{AllocError, Global};
@@ -16,23 +16,14 @@ pub struct SotwLines;
 
 impl Forms for SotwLines {
     ghost use Rattle.ev_sotw_lines.specs.Lines.{sotw_lines};
-    ghost use Rattle.ev_script.specs.ReadTrees.{IsTreeHead};
 
-    type Head = HeadTree;
-
-    type Kept = LineTree;
+    type Kept = Value;
 
     ghost forms = { sotw_lines };
 
-    ghost keeps_head = { IsTreeHead };
+    ghost keeps = { λ profile at tree kept. view kept ≡ tree };
 
-    ghost keeps = { λ profile at tree kept. kept ≡ tree };
-
-    fn read_head(
-        &self,
-        alloc: Global,
-        tree: Value,
-    ) -> Result<Option<FormedHead<HeadTree>>, AllocError> {
+    fn read_head(&self, alloc: Global, tree: &Value) -> Result<Option<Settings>, AllocError> {
         LineTrees.read_head(alloc, tree)
     }
 
@@ -41,17 +32,16 @@ impl Forms for SotwLines {
         alloc: Global,
         profile: Profile,
         at: u32,
-        text: &[u8],
-        tree: &Value,
-    ) -> Result<Option<FormedLine<LineTree>>, AllocError> {
-        if !is_op("response", tree) {
-            return LineTrees.read(alloc, profile, at, text, tree);
+        tree: Value,
+    ) -> Result<Option<FormedLine<Value>>, AllocError> {
+        if !is_op("response", &tree) {
+            return LineTrees.read(alloc, profile, at, tree);
         }
-        if response_in(alloc, tree)?.is_none() {
+        if response_in(alloc, &tree)?.is_none() {
             return Ok(None);
         }
         Ok(Some(FormedLine {
-            kept: LineTree::new(alloc, text)?,
+            kept: tree,
             worker: None,
         }))
     }

@@ -1,10 +1,11 @@
 -- What is known of secrets and of endpoints, found by look-ups.
-use Rattle.std.specs.Prelude.{◌≡◌, ℕ, Bool, not, ◌||◌, if◌then◌else◌, List, Option, Some, map, filter}
+use Rattle.std.specs.Prelude.{◌≡◌, ℕ, Bool, not, ◌||◌, if◌then◌else◌, List, Option, Some, map, filter, option_map}
 use Rattle.std.specs.List.{list_any, list_all, find, last_or, prefix_len}
 use Rattle.std.specs.Str.{bytes_eq}
 use Rattle.indexmap.specs.IndexSet.{IndexSet, contains}
 use Rattle.indexmap.specs.IndexMap.{get}
 use Rattle.serde_json.specs.Data.{Data}
+use Rattle.serde_json.specs.View.{view}
 use Rattle.ev_expand.specs.declared.keys.Key.{Key}
 use Rattle.ev_tls_secrets.specs.declared.awaited.Awaited.{Awaited}
 use Rattle.ev_tls_secrets.specs.declared.awaited.Awaited.TheVariants.{Secret, Endpoints}
@@ -43,7 +44,7 @@ next_of told key = first_untold told (awaited_by key)
 
 -- the value of a name
 abbrev pub shown_value : Values → List ℕ → Option Data
-shown_value values name = get bytes_eq values.by_name name
+shown_value values name = option_map view (get bytes_eq values.by_name name)
 
 -- the name has this value, and each other name the one before
 abbrev pub PutsValue : List ℕ → Data → Values → Values → Type 0

@@ -10,7 +10,6 @@ ghost use Rattle.ev_tls_secrets.specs.Told.{value_shown};
 use crate::awaited::Awaited;
 use ev_expand::Key;
 use ev_keys::Keys;
-use ev_trees::KeptTree;
 use ev_types::{Discovery, Name, TryCopy};
 use indexmap::{IndexMap, IndexSet};
 use serde_json::Value;
@@ -121,7 +120,7 @@ fn insert(names: &mut IndexSet<Name, Keys>, name: Name) -> Result<(), AllocError
 /// The values of names of endpoints.
 #[derive(Drop)]
 pub(crate) struct Values {
-    pub by_name: IndexMap<Name, KeptTree, Keys>,
+    pub by_name: IndexMap<Name, Value, Keys>,
 }
 
 impl Values {
@@ -135,8 +134,8 @@ impl Values {
     }
 
     /// The last value of a name.
-    pub(crate) fn get(&self, name: &Name) -> Option<&KeptTree>
-        ensures { option_map (λ v. v.now) result ≡ shown_value self.now name.now }
+    pub(crate) fn get(&self, name: &Name) -> Option<&Value>
+        ensures { option_map (λ v. view v.now) result ≡ shown_value self.now name.now }
     {
         self.by_name.get(name)
     }
@@ -153,16 +152,15 @@ impl Values {
         let mut names = IndexSet::with_hasher(alloc, *self.by_name.hasher());
         for (name, value) in values {
             insert(&mut names, name.copy(alloc)?)?;
-            self.put(alloc, name, &value)?;
+            self.put(name, value)?;
         }
         Ok(names)
     }
 
     // Takes a value in place of the one before.
-    fn put(&mut self, alloc: Global, name: Name, value: &Value) -> Result<(), AllocError>
-        ensures { OnOk result (PutsValue name (view value.now) self.old self.new) }
+    fn put(&mut self, name: Name, value: Value) -> Result<(), AllocError>
+        ensures { OnOk result (PutsValue name (view value) self.old self.new) }
     {
-        let value = KeptTree::of(alloc, value)?;
         let Ok(_) = self.by_name.insert(name, value) else {
             return Err(AllocError);
         };

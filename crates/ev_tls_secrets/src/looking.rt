@@ -17,7 +17,6 @@ use crate::known::Values;
 use crate::places::Places;
 use ev_expand::{Due, Key, Numbers};
 use ev_keys::Keys;
-use ev_trees::KeptTree;
 use ev_types::{Discovery, Name, TryCopy};
 use indexmap::IndexSet;
 use serde_json::Value;
@@ -53,7 +52,7 @@ pub(crate) fn look(
     let mut due = Vec::new(alloc);
     let candidates = candidates(alloc, complete, marks)?;
     for place in &candidates {
-        push_due(alloc, &mut due, numbers, values, complete, marks, *place)?;
+        push_due(&mut due, numbers, values, complete, marks, *place)?;
     }
     Ok(due)
 }
@@ -124,7 +123,6 @@ fn put(places: &mut BTreeSet<usize>, place: usize) -> Result<(), AllocError>
 
 // Appends what is at a place to these, where it is due.
 fn push_due(
-    alloc: Global,
     due: &mut Vec<Due>,
     numbers: &Numbers,
     values: &Values,
@@ -141,7 +139,7 @@ fn push_due(
     if !is_due(complete, marks, place, key) {
         return Ok(());
     }
-    let endpoints = endpoints_with(alloc, values, &key.cluster.discovery, own)?;
+    let endpoints = endpoints_with(values, &key.cluster.discovery, own)?;
     due.push(Due { place, endpoints })?;
     Ok(())
 }
@@ -172,26 +170,25 @@ fn gives_to(given: &IndexSet<Name, Keys>, discovery: &Discovery) -> bool
 
 // The endpoints of something guarded.
 fn endpoints_with(
-    alloc: Global,
     values: &Values,
     discovery: &Discovery,
-    own: &KeptTree,
+    own: &Value,
 ) -> Result<Option<Value>, AllocError>
-    ensures { IfOk result (λ found. option_map view found ≡ endpoints_with values.now discovery.now own.now) }
+    ensures { IfOk result (λ found. option_map view found ≡ endpoints_with values.now discovery.now (view own.now)) }
 {
     match discovery {
-        Discovery::Static(_) => Ok(Some(own.read(alloc)?)),
-        Discovery::Eds { service, .. } => read_given(alloc, values.get(service)),
+        Discovery::Static(_) => Ok(Some(own.clone()?)),
+        Discovery::Eds { service, .. } => copy_of(values.get(service)),
         Discovery::Elsewhere => Ok(None),
     }
 }
 
-// A value again, where there is one.
-fn read_given(alloc: Global, value: Option<&KeptTree>) -> Result<Option<Value>, AllocError>
-    ensures { IfOk result (λ read. option_map view read ≡ option_map (λ v. v.now) value.entry) }
+// A copy of a value, where there is one.
+fn copy_of(value: Option<&Value>) -> Result<Option<Value>, AllocError>
+    ensures { IfOk result (λ copy. option_map view copy ≡ option_map (λ v. view v.now) value.entry) }
 {
     match value {
-        Some(value) => Ok(Some(value.read(alloc)?)),
+        Some(value) => Ok(Some(value.clone()?)),
         None => Ok(None),
     }
 }

@@ -1,4 +1,3 @@
-pub mod DepthLemmas
 pub mod FeedLemmas
 pub mod BackLemmas
 pub mod LineLemmas

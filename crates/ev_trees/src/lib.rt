@@ -9,17 +9,12 @@
 //!   without floats: `push_whole` puts -1 in place of each (`1.5`, `1.0`, `1e3`, `-0` and whole numbers that 64 bits
 //!   don't hold are floats). A reader of this project's lines says the same of both.
 //! - A tree is copied only where it has a float, which is found by a look that takes no memory.
-//! - A tree that is kept for later is kept as its text (`KeptTree`), and as it is where it nests deeper than a reader goes.
 //! - That a tree is read back is no law of trees: keys that aren't sorted, texts that aren't UTF-8 and trees deeper than
 //!   127 aren't. So it is a clause of the calls that write one.
 #![tactic(auto)]
 
-mod depth;
-mod kept_tree;
 mod laws;
 mod writing;
 
-pub use depth::nests_within;
-pub use kept_tree::KeptTree;
 pub use laws::{lines_move, lines_of_trees, makes_whole, trees_are_script, within_limits};
 pub use writing::{push_line, push_whole};

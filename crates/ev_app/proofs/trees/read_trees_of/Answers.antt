@@ -2,8 +2,8 @@
 use Rattle.ev_app.proofs.TreeLemmas.{reads_no_tree, reads_trees}
 use Rattle.ev_app.proofs.trees.read_trees_of.Goals as goal
 
-pub returns-in_err-lines-clause-reads : goal.returns-in_err-lines-clause-reads
-returns-in_err-lines-clause-reads g c = reads_no_tree (g.F.Forms.forms) (g.S.Source.left c.args.source.now)
+pub returns-in_default-clause-reads : goal.returns-in_default-clause-reads
+returns-in_default-clause-reads g c = reads_no_tree (g.F.Forms.forms) (g.S.Source.left c.args.source.now)
 
 pub returns-clause-reads : goal.returns-clause-reads
 returns-clause-reads g c =

@@ -1,7 +1,8 @@
-use Rattle.std.proofs.Common.{◌≡◌, ℕ, ◌+◌, ◌<◌, Bool, List, [], ◌∷◌, ◌++◌, length, take, None, Ok, sym, ap, ◌∙◌, subst, arith, length-take}
-use Rattle.std.proofs.lemmas.List.{take_all}
+use Rattle.std.proofs.Common.{◌≡◌, ℕ, ◌+◌, ◌<◌, Bool, List, [], ◌∷◌, ◌++◌, length, map, take, None, Ok, sym, ap, ◌∙◌, subst, arith, length-take}
+use Rattle.std.proofs.lemmas.List.{length-map, take_all}
 use Rattle.serde_json.specs.Data.{Data}
 use Rattle.serde_json.specs.View.{view}
+use Rattle.serde_json.specs.declared.value.Value.{Value}
 use Rattle.ev_types.specs.declared.events.Profile.{Profile}
 use Rattle.ev_expand.specs.Expanding.{Rules, gives}
 use Rattle.ev_expand.specs.Growing.{IsGrown, Pushes, front_of}
@@ -9,11 +10,11 @@ use Rattle.ev_expand.specs.Guarding.{guarded_by}
 use Rattle.ev_expand.specs.Numbers.{guarded_so_far}
 use Rattle.ev_expand.specs.Private.{first_use}
 use Rattle.ev_expand.proofs.GrowthLemmas.{read_one, grown_first, grown_more, large_at, all_grown}
-use Rattle.ev_expand.proofs.NumberLemmas.{lines_more}
+use Rattle.ev_expand.proofs.NumberLemmas.{views_more}
 use Rattle.ev_expand.proofs.expanding.expand_with.Goals as goal
 
-place_is : (ls : List Data) (i : ℕ) → i < length ls → i + 2 ≡ length (take i ls) + 2
-place_is ls i h = omega (arith, h, length-take i ls)
+place_is : (ls : List Value) (i : ℕ) → i < length ls → i + 2 ≡ length (map view (take i ls)) + 2
+place_is ls i h = omega (arith, h, length-map (take i ls) view, length-take i ls)
 
 pub loop-index-init : goal.loop-index-init
 loop-index-init g c = record {
@@ -26,8 +27,8 @@ loop-index-init g c = record {
 pub returns-then-not-has_room : goal.returns-then-not-has_room
 returns-then-not-has_room g c =
     let rules : Rules = g.E.Expansion.rules c.args.profile in
-    let lines : List Data = c.args.lines.now in
-    let before : List Data = take c.loop-index.index c.args.lines.now in
+    let lines : List Data = map view c.args.lines.now in
+    let before : List Data = map view (take c.loop-index.index c.args.lines.now) in
     let unused : first_use rules.guard.profile rules.prefix lines ≡ None =
     ap (λ (profile : Profile). first_use profile rules.prefix lines) (g.E.Expansion.reads c.args.profile)
     ∙ ap (λ (p : List ℕ). first_use c.args.profile p lines) (sym (c.prefix.ensures c.args.profile)) ∙ sym c.in_ok-line.ensures ∙ c.in_default.is in
@@ -41,11 +42,11 @@ returns-then-not-has_room g c =
 pub loop-index-preserved : goal.loop-index-preserved
 loop-index-preserved g c =
     let rules : Rules = g.E.Expansion.rules c.args.profile in
-    let before : List Data = take c.loop-index.index c.args.lines.now in
+    let before : List Data = map view (take c.loop-index.index c.args.lines.now) in
     let line : Data = view c.index-lines-index.result in
     let pushes : Pushes c.loop-index.text c.push_line.new.text c.push_line.result (gives rules (front_of before line)) =
     c.push_line.ensures.text before c.loop-index.invariant.behind c.loop-index.invariant.grown.kept (place_is c.args.lines.now c.loop-index.index c.loop-index-test.true) in
-    let after = lines_more c.args.lines.now c.loop-index.index c.index-lines-index.result c.index-lines-index.is c.loop-index-test.true in
+    let after = views_more c.args.lines.now c.loop-index.index c.index-lines-index.result c.index-lines-index.is c.loop-index-test.true in
     let kept : guarded_so_far c.push_line.new.numbers ≡ guarded_by rules.guard (before ++ line ∷ []) = c.in_ok-has_room.ensures.numbers before c.loop-index.invariant.grown.kept in
     record {
       grown = subst (λ (xs : List Data). IsGrown rules (view c.args.head.now) xs c.push_line.new.text (guarded_so_far c.push_line.new.numbers)) (sym after)
@@ -58,10 +59,10 @@ loop-index-preserved g c =
 pub returns : goal.returns
 returns g c =
     let rules : Rules = g.E.Expansion.rules c.args.profile in
-    let lines : List Data = c.args.lines.now in
+    let lines : List Data = map view c.args.lines.now in
     let unused : first_use rules.guard.profile rules.prefix lines ≡ None =
     ap (λ (profile : Profile). first_use profile rules.prefix lines) (g.E.Expansion.reads c.args.profile)
     ∙ ap (λ (p : List ℕ). first_use c.args.profile p lines) (sym (c.prefix.ensures c.args.profile)) ∙ sym c.in_ok-line.ensures ∙ c.in_default.is in
-    let all : take c.loop-index.index c.args.lines.now ≡ lines = (take_all c.loop-index.index c.args.lines.now (omega arith)) in
+    let all : map view (take c.loop-index.index c.args.lines.now) ≡ lines = ap (map view) (take_all c.loop-index.index c.args.lines.now (omega arith)) in
     all_grown rules (view c.args.head.now) lines c.loop-index.text (guarded_so_far c.loop-index.numbers) unused
     (subst (λ (xs : List Data). IsGrown rules (view c.args.head.now) xs c.loop-index.text (guarded_so_far c.loop-index.numbers)) all c.loop-index.invariant.grown)

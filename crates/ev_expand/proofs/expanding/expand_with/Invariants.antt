@@ -1,4 +1,4 @@
-use Rattle.std.proofs.Common.{take}
+use Rattle.std.proofs.Common.{map, take}
 use Rattle.serde_json.specs.View.{view}
 use Rattle.ev_expand.specs.Growing.{IsGrown}
 use Rattle.ev_expand.specs.Numbers.{guarded_so_far}
@@ -6,6 +6,6 @@ use Rattle.ev_expand.proofs.expanding.expand_with.Given as goal
 
 abbrev pub invariant-loop-index : goal.invariant-loop-index
 invariant-loop-index g l = record {
-  grown : IsGrown (g.E.Expansion.rules l.profile) (view l.head) (take l.index l.lines) l.text (guarded_so_far l.numbers);
-  behind : g.E.Expansion.is_behind l.profile l.expansion (take l.index l.lines);
+  grown : IsGrown (g.E.Expansion.rules l.profile) (view l.head) (map view (take l.index l.lines)) l.text (guarded_so_far l.numbers);
+  behind : g.E.Expansion.is_behind l.profile l.expansion (map view (take l.index l.lines));
 }

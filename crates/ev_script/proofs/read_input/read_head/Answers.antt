@@ -16,34 +16,34 @@ script_fault-requires g c =
 
 pub returns-in-Ok-Header-clause-reads : goal.returns-in-Ok-Header-clause-reads
 returns-in-Ok-Header-clause-reads g c =
-    head_read g.F.Forms.forms g.F.Forms.keeps_head (g.S.Source.left c.args.source.now) (g.S.Source.left c.read_line.new.source) c.args.lines.now c.read_line.new.self c.in-Ok-Header.settings c.args.text.now.items c.read_line.new.out.items c.requires.fresh
+    head_read g.F.Forms.forms (g.S.Source.left c.args.source.now) (g.S.Source.left c.read_line.new.source) c.args.lines.now c.read_line.new.self c.in-Ok-Header.settings c.args.text.now.items c.read_line.new.out.items c.requires.fresh
     (subst (λ (end : LineEnd). Reads (g.S.Source.left c.args.source.now) (g.S.Source.left c.read_line.new.source) c.args.lines.now c.read_line.new.self c.args.text.now.items c.read_line.new.out.items (Ok end)) c.in-Ok-Line.field-0-is (c.in-Ok-Line.ensures.reads (fresh_untold c.args.lines.now c.requires.fresh)))
     (sym c.in-Ok-Header.field-0-is ∙ c.in-Ok-Header.ensures ∙ ap (first_content g.F.Forms.forms) c.as_slice.ensures.value)
 
 pub returns-in-Ok-Fault-clause-reads : goal.returns-in-Ok-Fault-clause-reads
 returns-in-Ok-Fault-clause-reads g c =
-    subst (λ (fault : ScriptFault). HeadExits g.F.Forms.forms g.F.Forms.keeps_head (g.S.Source.left c.args.source.now) (g.S.Source.left c.read_line.new.source) c.read_line.new.self (Err fault)) (sym c.fault_at.ensures)
-    (head_fault g.F.Forms.forms g.F.Forms.keeps_head (g.S.Source.left c.args.source.now) (g.S.Source.left c.read_line.new.source) c.args.lines.now c.read_line.new.self c.in-Ok-Fault.kind c.args.text.now.items c.read_line.new.out.items c.requires.fresh
+    subst (λ (fault : ScriptFault). HeadExits g.F.Forms.forms (g.S.Source.left c.args.source.now) (g.S.Source.left c.read_line.new.source) c.read_line.new.self c.read_line.new.out.items (Err fault)) (sym c.fault_at.ensures)
+    (head_fault g.F.Forms.forms (g.S.Source.left c.args.source.now) (g.S.Source.left c.read_line.new.source) c.args.lines.now c.read_line.new.self c.in-Ok-Fault.kind c.args.text.now.items c.read_line.new.out.items c.requires.fresh
     (subst (λ (end : LineEnd). Reads (g.S.Source.left c.args.source.now) (g.S.Source.left c.read_line.new.source) c.args.lines.now c.read_line.new.self c.args.text.now.items c.read_line.new.out.items (Ok end)) c.in-Ok-Line.field-0-is (c.in-Ok-Line.ensures.reads (fresh_untold c.args.lines.now c.requires.fresh)))
     (sym c.in-Ok-Fault.field-0-is ∙ c.in-Ok-Fault.ensures ∙ ap (first_content g.F.Forms.forms) c.as_slice.ensures.value))
 
 pub returns-in-Err-read_first-clause-reads : goal.returns-in-Err-read_first-clause-reads
 returns-in-Err-read_first-clause-reads g c =
-    head_memory g.F.Forms.forms g.F.Forms.keeps_head (g.S.Source.left c.args.source.now) (g.S.Source.left c.read_line.new.source) c.args.lines.now c.read_line.new.self c.read_line.result c.args.text.now.items c.read_line.new.out.items c.requires.fresh
+    head_memory g.F.Forms.forms (g.S.Source.left c.args.source.now) (g.S.Source.left c.read_line.new.source) c.args.lines.now c.read_line.new.self c.read_line.result c.args.text.now.items c.read_line.new.out.items c.requires.fresh
     (c.read_line.ensures.reads (fresh_untold c.args.lines.now c.requires.fresh))
 
 pub returns-in-Ok-End-clause-reads : goal.returns-in-Ok-End-clause-reads
 returns-in-Ok-End-clause-reads g c =
-    subst (λ (fault : ScriptFault). HeadExits g.F.Forms.forms g.F.Forms.keeps_head (g.S.Source.left c.args.source.now) (g.S.Source.left c.read_line.new.source) c.read_line.new.self (Err fault)) (sym c.fault_at-in-Ok-End.ensures)
-    (head_missing g.F.Forms.forms g.F.Forms.keeps_head (g.S.Source.left c.args.source.now) (g.S.Source.left c.read_line.new.source) c.args.lines.now c.read_line.new.self c.args.text.now.items c.read_line.new.out.items c.requires.fresh
+    subst (λ (fault : ScriptFault). HeadExits g.F.Forms.forms (g.S.Source.left c.args.source.now) (g.S.Source.left c.read_line.new.source) c.read_line.new.self c.read_line.new.out.items (Err fault)) (sym c.fault_at-in-Ok-End.ensures)
+    (head_missing g.F.Forms.forms (g.S.Source.left c.args.source.now) (g.S.Source.left c.read_line.new.source) c.args.lines.now c.read_line.new.self c.args.text.now.items c.read_line.new.out.items c.requires.fresh
     (subst (λ (end : LineEnd). Reads (g.S.Source.left c.args.source.now) (g.S.Source.left c.read_line.new.source) c.args.lines.now c.read_line.new.self c.args.text.now.items c.read_line.new.out.items (Ok end)) c.in-Ok-End.field-0-is (c.in-Ok-End.ensures.reads (fresh_untold c.args.lines.now c.requires.fresh))))
 
 pub returns-in-Err-clause-reads : goal.returns-in-Err-clause-reads
 returns-in-Err-clause-reads g c =
-    subst (λ (fault : ScriptFault). HeadExits g.F.Forms.forms g.F.Forms.keeps_head (g.S.Source.left c.args.source.now) (g.S.Source.left c.read_line.new.source) c.read_line.new.self (Err fault)) (sym (c.script_fault.ensures ∙ ap (λ (n : ℕ). script_fault n c.in-Err.fault) c.number.ensures))
-    (head_limit g.F.Forms.forms g.F.Forms.keeps_head (g.S.Source.left c.args.source.now) (g.S.Source.left c.read_line.new.source) c.args.lines.now c.read_line.new.self c.in-Err.fault c.args.text.now.items c.read_line.new.out.items c.requires.fresh
+    subst (λ (fault : ScriptFault). HeadExits g.F.Forms.forms (g.S.Source.left c.args.source.now) (g.S.Source.left c.read_line.new.source) c.read_line.new.self c.read_line.new.out.items (Err fault)) (sym (c.script_fault.ensures ∙ ap (λ (n : ℕ). script_fault n c.in-Err.fault) c.number.ensures))
+    (head_limit g.F.Forms.forms (g.S.Source.left c.args.source.now) (g.S.Source.left c.read_line.new.source) c.args.lines.now c.read_line.new.self c.in-Err.fault c.args.text.now.items c.read_line.new.out.items c.requires.fresh
     (c.in-Err.ensures.reads (fresh_untold c.args.lines.now c.requires.fresh)))
 
 pub returns-in-Err-clause-goes_on : goal.returns-in-Err-clause-goes_on
 returns-in-Err-clause-goes_on g c =
-    head_open g.F.Forms.forms g.F.Forms.keeps_head (g.S.Source.left c.args.source.now) (g.S.Source.left c.read_line.new.source) c.read_line.new.self (Err c.script_fault.result) (returns-in-Err-clause-reads g c)
+    head_open g.F.Forms.forms (g.S.Source.left c.args.source.now) (g.S.Source.left c.read_line.new.source) c.read_line.new.self c.read_line.new.out.items (Err c.script_fault.result) (returns-in-Err-clause-reads g c)

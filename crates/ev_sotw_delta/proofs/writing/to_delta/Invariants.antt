@@ -1,4 +1,4 @@
-use Rattle.std.proofs.Common.{take}
+use Rattle.std.proofs.Common.{map, take}
 use Rattle.serde_json.specs.View.{view}
 use Rattle.ev_sotw_lines.specs.Follows.{FollowsLines}
 use Rattle.ev_sotw_delta.specs.DeltaText.{IsWritten}
@@ -7,6 +7,6 @@ use Rattle.ev_sotw_delta.proofs.writing.to_delta.Given as goal
 
 abbrev pub invariant-loop-line : goal.invariant-loop-line
 invariant-loop-line l = record {
-  follows : FollowsLines (take l.line-index l.line-items) l.names;
-  written : IsWritten (written_lines (view l.trees.head) (take l.line-index l.line-items)) l.text;
+  follows : FollowsLines (map view (take l.line-index l.line-items)) l.names;
+  written : IsWritten (written_lines (view l.trees.head) (map view (take l.line-index l.line-items))) l.text;
 }
