@@ -1,5 +1,5 @@
 -- What is kept of the chains stays so by each event.
-use Rattle.std.proofs.Common.{◌≡◌, ℕ, ◌≤◌, ◌==◌, Bool, true, false, not, ◌&&◌, ◌||◌, cond, nat_eq, List, [], ◌∷◌, ◌++◌, filter, find, length, map, Option, Some, None, is_some, option_map, refl, sym, ap, ◌∙◌, subst, arith, inl, inr}
+use Rattle.std.proofs.Common.{◌≡◌, ℕ, suc, ◌==◌, Bool, true, false, not, ◌&&◌, ◌||◌, cond, nat_eq, List, [], ◌∷◌, ◌++◌, filter, find, length, map, Option, Some, None, is_some, option_map, refl, sym, ap, ◌∙◌, subst, arith, inl, inr}
 use Rattle.std.specs.Prelude.{◌⊎◌}
 use Rattle.std.specs.List.{list_any, IsDistinct}
 use Rattle.std.specs.Option.{unwrap_or}
@@ -38,28 +38,31 @@ none_left p q (x ∷ xs) none = let parts = or_parts (p x) (list_any p xs) none 
 
 -- a connection of the first worker's, on no cluster, is open on its listener alone
 own_worker : (m : OpenMember) → is_foreign m ≡ false → (m.worker == 0) ≡ true
-own_worker m own = by (m.worker == 0) (or_parts (not (m.worker == 0)) (is_some m.cluster) own).0
+own_worker m none = by (m.worker == 0) (or_parts (not (m.worker == 0)) (is_some m.cluster) none).0
   where
     by : (b : Bool) → not b ≡ false → b ≡ true
     by true h = refl
     by false h = absurd (true≢false h)
 
 own_listener : (n : ℕ) (m : OpenMember) → is_foreign m ≡ false → is_open_on n m ≡ (m.listener == n)
-own_listener n m own = by m.cluster (or_parts (not (m.worker == 0)) (is_some m.cluster) own).1
+own_listener n m none = by m.cluster (or_parts (not (m.worker == 0)) (is_some m.cluster) none).1
   where
     by : (cluster : Option ℕ) → is_some cluster ≡ false → ((m.listener == n) || is_forwarded_to n cluster) ≡ (m.listener == n)
     by None h = or_false (m.listener == n)
     by (Some c) h = absurd (true≢false h)
 
+some_open : (many : ℕ) → not (suc many == 0) ≡ true
+some_open many = grind (arith, nat_tests)
+
 pub open_used : (n : ℕ) (opened : List OpenMember) → list_any is_foreign opened ≡ false → has_open opened n ≡ is_used n opened
-open_used n [] own = refl
-open_used n (m ∷ opened) own =
-    let parts = or_parts (is_foreign m) (list_any is_foreign opened) own in
+open_used n [] none = refl
+open_used n (m ∷ opened) none =
+    let parts = or_parts (is_foreign m) (list_any is_foreign opened) none in
     by (is_open_on n m) (open_used n opened parts.1) ∙ ap (λ b. b || is_used n opened) (own_listener n m parts.0)
   where
     by : (t : Bool) → has_open opened n ≡ is_used n opened
         → not (length (cond t (m ∷ filter (is_open_on n) opened) (filter (is_open_on n) opened)) == 0) ≡ (t || is_used n opened)
-    by true rest = refl
+    by true rest = some_open (length (filter (is_open_on n) opened))
     by false rest = rest
 
 -- one that closes
@@ -93,9 +96,9 @@ used_closed n conn opened apart =
 
 -- a drain timeout closes all on the chains that drain
 pub used_drained : (n : ℕ) (numbers : List ℕ) (opened : List OpenMember) → list_any is_foreign opened ≡ false → has_number n numbers ≡ true → is_used n (left_open numbers 0 opened) ≡ false
-used_drained n numbers [] own drains = refl
-used_drained n numbers (m ∷ opened) own drains =
-    let parts = or_parts (is_foreign m) (list_any is_foreign opened) own in
+used_drained n numbers [] none drains = refl
+used_drained n numbers (m ∷ opened) none drains =
+    let parts = or_parts (is_foreign m) (list_any is_foreign opened) none in
     by (is_closing numbers 0 m) refl (used_drained n numbers opened parts.1 drains) (own_worker m parts.0)
   where
     by : (t : Bool) → is_closing numbers 0 m ≡ t → is_used n (left_open numbers 0 opened) ≡ false → (m.worker == 0) ≡ true
@@ -162,8 +165,8 @@ module _ (began idle busy : List ℕ) (opened : List OpenMember) (placed : ArePl
 
     more_idle : (busy_then : List ℕ) → list_any is_foreign opened_then ≡ false → ((n : ℕ) → is_in busy_then n ≡ true → (has_number n began_then ≡ true) × (is_used n opened_then ≡ true))
         → ArePlaced began_then (idle ++ more) busy_then opened_then
-    more_idle busy_then own busies = record {
-      own = own;
+    more_idle busy_then none busies = record {
+      own = none;
       idle_apart = apart_append idle more placed.idle_apart apart (λ n was. not_true (has_number n more) (λ is. true≢false (sym was ∙ (new n is).1.1)));
       idle_began = λ n has. (each n (parts n has)).0;
       idle_unused = λ n has. (each n (parts n has)).1;
@@ -207,7 +210,7 @@ module _ (began idle busy : List ℕ) (opened : List OpenMember) (placed : ArePl
     -- the chain that it was on doesn't drain, or has another
     pub placed_close : (busy_then : List ℕ) → ((n : ℕ) → is_in busy_then n ≡ true → is_in busy n ≡ true)
         → ((n : ℕ) → is_at n (on_in 0 conn opened) ≡ true → is_in busy_then n ≡ true → has_open left n ≡ true) → ArePlaced began idle busy_then left
-    placed_close busy_then within open = record {
+    placed_close busy_then within held = record {
       own = own_left;
       idle_apart = placed.idle_apart;
       idle_began = placed.idle_began;
@@ -217,7 +220,7 @@ module _ (began idle busy : List ℕ) (opened : List OpenMember) (placed : ArePl
     }
       where
         by : (n : ℕ) (t : Bool) → is_at n (on_in 0 conn opened) ≡ t → is_in busy_then n ≡ true → is_used n left ≡ true
-        by n true at is = sym (open_used n left own_left) ∙ open n at is
+        by n true at is = sym (open_used n left own_left) ∙ held n at is
         by n false at is = still n at (within n is)
 
     -- it was the last on its chain
@@ -231,7 +234,7 @@ module _ (began idle busy : List ℕ) (opened : List OpenMember) (placed : ArePl
       ended : (t : Bool) → is_in busy number ≡ t → ArePlaced began (cond t (idle ++ number ∷ []) idle) busy_then left
       ended true is =
           more_idle began (number ∷ []) left (refl, tt) (λ n has. has) unused
-          (λ n has. by n (or_false (number == n) ∙ has)) busy_then own_left
+          (λ n has. by n (sym (or_false (number == n)) ∙ has)) busy_then own_left
           (λ n has. (placed.busy_began n (within n has).1, still n (ap (is_at n) on ∙ (within n has).0) (within n has).1))
         where
           by : (n : ℕ) → (number == n) ≡ true → (has_number n began ≡ true) × ((is_used n left ≡ false) × (has_number n idle ≡ false))
@@ -331,8 +334,7 @@ module _ (began idle busy : List ℕ) (opened : List OpenMember) (placed : ArePl
 
     then_idle : (n : ℕ) → has_number n (idle_among opened gone) ≡ true → (has_number n (began ++ gone) ≡ true) × ((is_used n opened ≡ false) × (has_number n idle ≡ false))
     then_idle n has =
-        let parts = and_parts (not (has_open opened n)) (has_number n gone) (sym (has_filter (λ k. not (has_open opened k)) n gone) ∙ has) in
-        (
+        let parts = and_parts (not (has_open opened n)) (has_number n gone) (sym (has_filter (λ k. not (has_open opened k)) n gone) ∙ has) in (
           goes n parts.1,
           (
             sym (open_used n opened placed.own) ∙ not_true (has_open opened n) (λ h. false≢true (ap not (sym h) ∙ parts.0)),

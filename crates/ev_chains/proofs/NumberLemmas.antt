@@ -1,7 +1,8 @@
 -- Numbers of chains: lists of them, and those of the next listener's chains.
-use Rattle.std.proofs.Common.{◌≡◌, ℕ, ◌<◌, ◌≤◌, ◌==◌, Bool, true, false, not, ◌&&◌, ◌||◌, cond, nat_eq, nat_le, List, [], ◌∷◌, ◌++◌, filter, find, map, Option, Some, None, is_some, option_or, refl, sym, ap, ◌∙◌, subst, arith, inl, inr}
+use Rattle.std.proofs.Common.{◌≡◌, ℕ, ◌<◌, ◌≤◌, ◌==◌, Bool, true, false, not, ◌&&◌, ◌||◌, cond, nat_eq, nat_le, List, [], ◌∷◌, ◌++◌, filter, find, map, Option, Some, None, is_some, refl, sym, ap, ◌∙◌, subst, arith, inl, inr}
 use Rattle.std.specs.Prelude.{◌⊎◌}
 use Rattle.std.specs.List.{list_any, AllByRecursion, IsDistinct}
+use Rattle.std.specs.Option.{option_or}
 use Rattle.std.specs.Str.{str_to_ascii_lowercase}
 use Rattle.std.proofs.lemmas.Bool.{true≢false, false≢true, or_parts}
 use Rattle.std.proofs.lemmas.Bool.Decides.{nat_tests}
@@ -73,11 +74,10 @@ filter_twice p q (x ∷ xs) = by (p x) (filter_twice p q xs)
 
 pub apart_append : (xs ys : List ℕ) → Apart xs → Apart ys → ((n : ℕ) → has_number n xs ≡ true → has_number n ys ≡ false) → Apart (xs ++ ys)
 apart_append [] ys first second none = second
-apart_append (x ∷ xs) ys first second none =
-    (
-      list_any-append (λ k. k == x) xs ys ∙ (λ i. first.0 i || none x (ap (λ b. b || has_number x xs) (own x)) i),
-      apart_append xs ys first.1 second (λ n has. none n (right_true (x == n) (has_number n xs) has)),
-    )
+apart_append (x ∷ xs) ys first second none = (
+  list_any-append (λ k. k == x) xs ys ∙ (λ i. first.0 i || none x (ap (λ b. b || has_number x xs) (own x)) i),
+  apart_append xs ys first.1 second (λ n has. none n (right_true (x == n) (has_number n xs) has)),
+)
 
 pub apart_filter : (p : ℕ → Bool) (xs : List ℕ) → Apart xs → Apart (filter p xs)
 apart_filter p [] apart = tt
@@ -116,12 +116,12 @@ found_row p (row ∷ rows) number is = by (p row) is (found_row p rows number)
 named_row : (port : Option ℕ) (names : List (Option (List ℕ))) (rows : List Row) (number : ℕ) → number_in (first_named port names rows) ≡ Some number
     → (chain : Chain) × HasRow number chain rows
 named_row port [] rows number is = absurd (cc is)
-named_row port (name ∷ names) rows number is = by (find (row_has record { port = port; name = name }) rows) refl is
+named_row port (name ∷ names) rows number is = by (find (row_has record { port = port; name = name }) rows) refl is (named_row port names rows number)
   where
     by : (found : Option Row) → find (row_has record { port = port; name = name }) rows ≡ found → number_in (option_or found (first_named port names rows)) ≡ Some number
-        → (chain : Chain) × HasRow number chain rows
-    by (Some row) at h = found_row (row_has record { port = port; name = name }) rows number (ap number_in at ∙ h)
-    by None at h = named_row port names rows number h
+        → (number_in (first_named port names rows) ≡ Some number → (chain : Chain) × HasRow number chain rows) → (chain : Chain) × HasRow number chain rows
+    by (Some row) at h rest = found_row (row_has record { port = port; name = name }) rows number (ap number_in at ∙ h)
+    by None at h rest = rest h
 
 pub chosen_row : (server : List ℕ) (port : ℕ) (rows : List Row) (number : ℕ) → number_in (chosen server port rows) ≡ Some number → (chain : Chain) × HasRow number chain rows
 chosen_row server port rows number is = named_row (asked_port port rows) (asked_names (str_to_ascii_lowercase server)) rows number is
@@ -165,14 +165,13 @@ each_once next (row ∷ rows) clear one =
     by : (t : Bool) → list_any (clashes (match_of row)) (map match_of rows) ≡ false → Apart (gone_in next rows)
         → Apart (map number_of (cond (not t) (row ∷ filter (λ r. not (has_equal_chain next r)) rows) (filter (λ r. not (has_equal_chain next r)) rows)))
     by true none rest = rest
-    by false none rest =
-        (
-          not_true (has_number row.number (gone_in next rows)) (λ has.
-            let found = gone_row row.number next rows has in
-            no_twin row.number row.chain rows none
-            (subst (λ x. HasRow row.number x rows) (sym (one row.number row.chain found.0 (inl (refl, refl)) (inr found.1.0))) found.1.0)),
-          rest,
-        )
+    by false none rest = (
+      not_true (has_number row.number (gone_in next rows)) (λ has.
+          let found = gone_row row.number next rows has in
+          no_twin row.number row.chain rows none
+          (subst (λ x. HasRow row.number x rows) (sym (one row.number row.chain found.0 (inl (refl, refl)) (inr found.1.0))) found.1.0)),
+      rest,
+    )
 
 -- ---- the numbers once a listener is accepted
 

@@ -50,10 +50,10 @@ impl Model for Chains {
     ghost Value = { ChainState };
 
     ghost view = { λ c. record {
-        made = c.made;
-        serving = c.serving;
-        draining = draining_in c.began.items c.draining.idle.items c.draining.busy.keys;
-        opened = c.ledger;
+      made = c.made;
+      serving = c.serving;
+      draining = draining_in c.began.items c.draining.idle.items c.draining.busy.keys;
+      opened = c.ledger;
     } };
 
     ghost invariant = { λ c. AreKept c.made c.serving c.began.items c.draining.idle.items c.draining.busy.keys c.ledger };
@@ -154,7 +154,7 @@ impl Chains {
         ensures state { OnOk result (self.new ≡ drain self.old) }
         ensures err { OnErr result (self.new ≡ self.old) }
     {
-        let closed = closing_conns(alloc, &self.ledger, self.draining.busy.as_slice())?;
+        let closed = closing_conns(alloc, &self.ledger, self.draining.busy_numbers())?;
         close_all(&mut self.ledger, closed.as_slice());
         self.draining.end_all(alloc);
         Ok(closed)

@@ -1,5 +1,5 @@
 ghost use Rattle.std.specs.Prelude.{◌≡◌, ◌+◌, ◌≤◌, ◌++◌, ◌∷◌, [], if◌then◌else◌, length, nat_eq, vec_len, vec_capacity, OnOk, OnErr};
-ghost use Rattle.indexmap.specs.IndexSet.{contains, spare, index_set_len};
+ghost use Rattle.indexmap.specs.IndexSet.{contains, spare, index_set_len, IsUnique};
 ghost use Rattle.ev_model.specs.Picture.{has_number};
 ghost use Rattle.ev_chains.specs.Sets.{Gains, Loses};
 ghost use Rattle.ev_chains.specs.State.{idle_among, busy_among};
@@ -30,6 +30,14 @@ impl Draining {
             idle: Vec::new(alloc),
             busy: IndexSet::new(alloc),
         }
+    }
+
+    // Those on which a connection is open.
+    pub fn busy_numbers(&self) -> &[Gen]
+        ensures keys { result.now ≡ self.now.busy.keys }
+        ensures unique { IsUnique nat_eq self.now.busy }
+    {
+        self.busy.as_slice()
     }
 
     // These drain too. Out of memory, the same drain as before.

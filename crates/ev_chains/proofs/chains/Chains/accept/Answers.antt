@@ -9,9 +9,9 @@ invariant_of-self-in-Some c =
     let self = c.self.inside in
     let kept = c.self.invariant in
     let number = c.in-Some.number in
-    let row = chosen_row c.args.server.now c.args.port self.serving number (sym c.in_ok-choose.ensures ∙ c.in-Some.is) in
-    subst (AreKept self.made self.serving self.began.items self.draining.idle.keys self.draining.busy.keys) (sym c.in_ok-open.ensures.opened)
+    let row = chosen_row c.args.server.now c.args.port self.serving number (sym c.in_ok-number.ensures ∙ c.in-Some.is) in
+    subst (AreKept self.made self.serving self.began.items self.draining.idle.items self.draining.busy.keys) (sym c.in_ok-open-in-Some.ensures.opened)
     (record {
       numbered = kept.numbered;
-      placed = placed_accept self.began.items self.draining.idle.keys self.draining.busy.keys self.ledger kept.placed c.args.conn number (kept.numbered.other number row.0 row.1);
+      placed = placed_accept self.began.items self.draining.idle.items self.draining.busy.keys self.ledger kept.placed c.args.conn number (kept.numbered.other number row.0 row.1);
     })
