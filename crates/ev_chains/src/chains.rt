@@ -139,9 +139,9 @@ impl Chains {
     {
         let on = self.ledger.on(0, conn);
         let was_open = self.ledger.close(0, conn);
-        if let Some((number, _)) = on {
-            if !has_open(&self.ledger, number) {
-                self.draining.end(number);
+        if let Some(place) = on {
+            if !has_open(&self.ledger, place.0) {
+                self.draining.end(place.0);
             }
         }
         was_open

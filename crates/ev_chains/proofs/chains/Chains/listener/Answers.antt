@@ -1,4 +1,4 @@
-use Rattle.std.proofs.Common.{◌≡◌, ◌∙◌, ◌++◌, ap, sym, subst, List, ℕ}
+use Rattle.std.proofs.Common.{◌≡◌, ◌∙◌, ◌++◌, true, false, ap, sym, subst, List, ℕ}
 use Rattle.serde_json.specs.View.{view}
 use Rattle.ev_model.specs.Picture.{has_number}
 use Rattle.ev_model.specs.Publishing.{ascending}
@@ -28,8 +28,8 @@ returns-clause-answer c =
     (c.in_ok-ascending-2.ensures ∙ ap ascending (c.in_ok-parted.ensures.kept ∙ ap (kept_in c.in_ok-rows.field-0.rows) c.rows.ensures))
     c.in_ok-numbers_above.ensures
 
-pub invariant_of-self : goal.invariant_of-self
-invariant_of-self c =
+pub invariant_of-self-2 : goal.invariant_of-self-2
+invariant_of-self-2 c =
     let tree = view c.args.body.now in
     let self = c.self.inside in
     let kept = c.self.invariant in
@@ -42,7 +42,7 @@ invariant_of-self c =
     let gone = c.as_slice-gone.ensures.value ∙ c.in_ok-parted.ensures.gone ∙ ap (gone_in next) c.rows.ensures in
     let began = c.push_all.ensures.items ∙ ap (λ (l : List ℕ). l ++ now) c.reserve.ensures.items in
     let apart = subst Apart (sym gone) (gone_apart self.made self.serving self.began.items kept.numbered next) in
-    let new = λ n has. ap (has_number n) gone ∙ gone_new self.made self.serving self.began.items kept.numbered next n has in
+    let new : (n : ℕ) → has_number n self.began.items ≡ true → has_number n now ≡ false = λ n has. ap (has_number n) gone ∙ gone_new self.made self.serving self.began.items kept.numbered next n has in
     subst (λ (all : List ℕ). AreKept c.in_ok-rows.field-0.made next all c.start.new.self.idle.items c.start.new.self.busy.keys self.ledger) (sym began)
     (subst (λ (idle : List ℕ). AreKept c.in_ok-rows.field-0.made next (self.began.items ++ now) idle c.start.new.self.busy.keys self.ledger) (sym c.in_ok-start.ensures.idle)
     (record {
@@ -65,7 +65,7 @@ returns-clause-state c =
     let gone = c.as_slice-gone.ensures.value ∙ c.in_ok-parted.ensures.gone ∙ ap (gone_in next) c.rows.ensures in
     let began = c.push_all.ensures.items ∙ ap (λ (l : List ℕ). l ++ now) c.reserve.ensures.items in
     let apart = subst Apart (sym gone) (gone_apart self.made self.serving self.began.items kept.numbered next) in
-    let new = λ n has. ap (has_number n) gone ∙ gone_new self.made self.serving self.began.items kept.numbered next n has in
+    let new : (n : ℕ) → has_number n self.began.items ≡ true → has_number n now ≡ false = λ n has. ap (has_number n) gone ∙ gone_new self.made self.serving self.began.items kept.numbered next n has in
     let state : ChainState = record { made = self.made; serving = self.serving; draining = draining_in self.began.items self.draining.idle.items self.draining.busy.keys; opened = self.ledger } in
     let draining =
     (λ i. draining_in (began i) (c.in_ok-start.ensures.idle i) c.start.new.self.busy.keys)
@@ -73,3 +73,26 @@ returns-clause-state c =
     ∙ ap (λ (gs : List ℕ). state.draining ++ gs) gone in
     accepted_is chains state next c.in_ok-rows.field-0.made (draining_in c.push_all.new.list.items c.start.new.self.idle.items c.start.new.self.busy.keys) rows made draining
     ∙ ap (accepted chains) c.self.view_is
+
+-- out of memory, the lists are as before
+pub invariant_of-self : goal.invariant_of-self
+invariant_of-self c =
+    let self = c.self.inside in
+    subst (λ (all : List ℕ). AreKept self.made self.serving all self.draining.idle.items self.draining.busy.keys self.ledger) (sym c.reserve.ensures.items) c.self.invariant
+
+pub returns-in_err-reserve-clause-err : goal.returns-in_err-reserve-clause-err
+returns-in_err-reserve-clause-err c =
+    let self = c.self.inside in
+    (λ i. record { made = self.made; serving = self.serving; draining = draining_in (c.reserve.ensures.items i) self.draining.idle.items self.draining.busy.keys; opened = self.ledger })
+    ∙ c.self.view_is
+
+pub returns-in_err-start-clause-err : goal.returns-in_err-start-clause-err
+returns-in_err-start-clause-err c =
+    let self = c.self.inside in
+    (λ i. record {
+      made = self.made;
+      serving = self.serving;
+      draining = draining_in (c.reserve.ensures.items i) (c.in_err-start.ensures.same_idle i) (c.in_err-start.ensures.same_busy i);
+      opened = self.ledger;
+    })
+    ∙ c.self.view_is
