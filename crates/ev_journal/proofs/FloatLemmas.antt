@@ -1,14 +1,16 @@
 -- No tree of a journal has a float, so its text is that of its digits.
-use Rattle.std.proofs.Common.{◌≡◌, Bool, false, ◌||◌, None, Some, refl, ◌∙◌, ap}
-use Rattle.serde_json.specs.Data.{Data}
+use Rattle.std.proofs.Common.{◌≡◌, ℕ, Bool, false, ◌||◌, List, map, None, Some, refl, ◌∙◌, ap}
+use Rattle.serde_json.specs.Data.{Data, array}
+use Rattle.serde_json.specs.View.{items_of}
 use Rattle.serde_json.specs.Written.{has_float}
 use Rattle.ev_types.specs.declared.events.Answer.{Answer}
 use Rattle.ev_types.specs.declared.events.Answer.TheVariants.{Ignored, Done, Moved, Replied, Version, Unchanged, Reaped, InUse, NoListener, NoChain, Undecided, Elsewhere, NoRoute, Redirect, NoCluster, NoEndpoint, Local, Served, NotOpen, Settled}
-use Rattle.ev_types.specs.declared.events.Entry.{Entry}
 use Rattle.ev_types.specs.declared.journals.Row.{Row}
 use Rattle.ev_wire.specs.Requests.{request_tree}
 use Rattle.ev_wire.proofs.RequestLemmas.{items_have_float-map, request_tree-whole}
-use Rattle.ev_journal.specs.Rendering.{number_tree, verdict_tree, answer_tree, row_tree, entry_row, entry_tree}
+use Rattle.ev_types.specs.declared.contents.Request.{Request}
+use Rattle.ev_types.specs.declared.events.Verdict.{Verdict}
+use Rattle.ev_journal.specs.Rendering.{number_tree, numbers_tree, requests_tree, verdict_tree, answer_tree, row_tree}
 
 neither : (a b : Bool) → a ≡ false → b ≡ false → (a || b) ≡ false
 neither a b h k = ap (λ c. c || b) h ∙ k
@@ -40,10 +42,12 @@ answer_tree-whole (Settled closed version) = neither _ _ (items_have_float-map n
 pub row_tree-whole : (row : Row) → has_float (row_tree row) ≡ false
 row_tree-whole row = neither _ _ (answer_tree-whole row.answer) refl
 
--- the same of what is equal to an entry's tree
-pub entry_whole : (entry : Entry) (d : Data) → d ≡ entry_tree entry → has_float d ≡ false
-entry_whole entry d e = ap has_float e ∙ row_tree-whole (entry_row entry)
+-- the same of what is equal to the tree of a list
+pub requests_whole : (requests : List Request) (d : Data) → d ≡ requests_tree requests → has_float d ≡ false
+requests_whole requests d e = ap has_float e ∙ items_have_float-map request_tree request_tree-whole requests
 
--- the same of what is equal to a row's tree
-pub row_whole : (row : Row) (d : Data) → d ≡ row_tree row → has_float d ≡ false
-row_whole row d e = ap has_float e ∙ row_tree-whole row
+pub verdicts_whole : (verdicts : List Verdict) (d : Data) → d ≡ array (items_of (map verdict_tree verdicts)) → has_float d ≡ false
+verdicts_whole verdicts d e = ap has_float e ∙ items_have_float-map verdict_tree (λ _. refl) verdicts
+
+pub numbers_whole : (numbers : List ℕ) (d : Data) → d ≡ numbers_tree numbers → has_float d ≡ false
+numbers_whole numbers d e = ap has_float e ∙ items_have_float-map number_tree (λ _. refl) numbers

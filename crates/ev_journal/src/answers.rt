@@ -1,5 +1,7 @@
-ghost use Rattle.std.specs.Prelude.{◌≡◌, ◌<◌, ◌^◌, map, All, Some, IfOk, IfSome, OnOk};
-ghost use Rattle.serde_json.specs.Data.{array};
+ghost use Rattle.std.specs.Prelude.{◌≡◌, ◌<◌, ◌^◌, map, All, Some, IfOk, IfSome, OnOk, string_bytes};
+ghost use Rattle.json.specs.Print.{escape};
+ghost use Rattle.serde_json.specs.Data.{array, string};
+ghost use Rattle.serde_json.specs.Written.{compact_text};
 ghost use Rattle.serde_json.specs.View.{view, items_of};
 ghost use Rattle.ev_journal.specs.Rendering.{numbers_tree, requests_tree, unserved_tree, elsewhere_tree, local_tree, served_tree, answer_tree, verdict_tree};
 ghost use Rattle.ev_types.specs.Texts.{IsName};
@@ -11,146 +13,199 @@ use ev_wire::request_value;
 use serde_json::{Value, json};
 use std::alloc::{AllocError, Global};
 
-/// An answer's tree.
-pub(crate) fn answer_value(alloc: Global, answer: &Answer) -> Result<Value, AllocError>
-    ensures tree { IfOk result (λ v. view v ≡ answer_tree answer.now) }
+/// The text of an answer. What is in it is written at once, but for lists and an address, which are written by their trees.
+#[tactic(auto, unfolding(json::specs::Print::escape_byte))]
+pub(crate) fn answer_text(alloc: Global, answer: &Answer) -> Result<String, AllocError>
+    ensures text { IfOk result (λ text. string_bytes text ≡ compact_text (answer_tree answer.now)) }
     ensures bounded { OnOk result (IsAnswer answer.now) }
 {
     match answer {
-        Answer::Ignored => json!(in alloc; "ignored"),
-        Answer::Done => json!(in alloc; "done"),
-        Answer::Moved { requests } => moved_value(alloc, requests.as_slice()),
+        Answer::Ignored => String::from_str(alloc, "\"ignored\""),
+        Answer::Done => String::from_str(alloc, "\"done\""),
+        Answer::Moved { requests } => moved_text(alloc, requests.as_slice()),
         Answer::Replied { requests, verdicts } => {
-            replied_value(alloc, requests.as_slice(), verdicts.as_slice())
+            replied_text(alloc, requests.as_slice(), verdicts.as_slice())
         }
-        Answer::Version(version) => json!(in alloc; {"version": *version}),
-        Answer::Unchanged => json!(in alloc; "unchanged"),
-        Answer::Reaped(numbers) => reaped_value(alloc, numbers.as_slice()),
-        Answer::InUse => json!(in alloc; "inUse"),
-        Answer::NoListener => json!(in alloc; "noListener"),
-        Answer::NoChain => json!(in alloc; "noChain"),
-        Answer::Undecided { listener } => unserved_value(alloc, "undecided", *listener),
-        Answer::Elsewhere { listener, cluster } => elsewhere_value(alloc, *listener, *cluster),
-        Answer::NoRoute { listener } => unserved_value(alloc, "noRoute", *listener),
-        Answer::Redirect { listener } => unserved_value(alloc, "redirect", *listener),
-        Answer::NoCluster { listener } => unserved_value(alloc, "noCluster", *listener),
-        Answer::NoEndpoint { listener } => unserved_value(alloc, "noEndpoint", *listener),
-        Answer::Local { listener, status } => local_value(alloc, *listener, *status),
+        Answer::Version(version) => version_text(alloc, *version),
+        Answer::Unchanged => String::from_str(alloc, "\"unchanged\""),
+        Answer::Reaped(numbers) => reaped_text(alloc, numbers.as_slice()),
+        Answer::InUse => String::from_str(alloc, "\"inUse\""),
+        Answer::NoListener => String::from_str(alloc, "\"noListener\""),
+        Answer::NoChain => String::from_str(alloc, "\"noChain\""),
+        Answer::Undecided { listener } => unserved_text(alloc, "undecided", *listener),
+        Answer::Elsewhere { listener, cluster } => elsewhere_text(alloc, *listener, *cluster),
+        Answer::NoRoute { listener } => unserved_text(alloc, "noRoute", *listener),
+        Answer::Redirect { listener } => unserved_text(alloc, "redirect", *listener),
+        Answer::NoCluster { listener } => unserved_text(alloc, "noCluster", *listener),
+        Answer::NoEndpoint { listener } => unserved_text(alloc, "noEndpoint", *listener),
+        Answer::Local { listener, status } => local_text(alloc, *listener, *status),
         Answer::Served {
             listener,
             cluster,
             host,
-        } => served_value(alloc, *listener, *cluster, host),
-        Answer::NotOpen => json!(in alloc; "notOpen"),
-        Answer::Settled { closed, version } => settled_value(alloc, closed.as_slice(), *version),
+        } => served_text(alloc, *listener, *cluster, host),
+        Answer::NotOpen => String::from_str(alloc, "\"notOpen\""),
+        Answer::Settled { closed, version } => settled_text(alloc, closed.as_slice(), *version),
     }
 }
 
-// The tree of an answer with requests.
-fn moved_value(alloc: Global, requests: &[Request]) -> Result<Value, AllocError>
-    ensures tree { IfOk result (λ v. view v ≡ answer_tree (Answer.Moved requests.now)) }
+// The text of an answer with requests.
+fn moved_text(alloc: Global, requests: &[Request]) -> Result<String, AllocError>
+    ensures text { IfOk result (λ text. string_bytes text ≡ compact_text (answer_tree (Answer.Moved requests.now))) }
     ensures bounded { OnOk result (IsAnswer (Answer.Moved requests.now)) }
 {
     look_at_requests(requests);
-    let requests = request_values(alloc, requests)?;
-    json!(in alloc; {"requests": requests})
+    let requests = requests_text(alloc, requests)?;
+    format!(in alloc; "{{\"requests\":{requests}}}")
 }
 
-// The tree of an answer to a response.
-fn replied_value(
+// The text of an answer to a response.
+fn replied_text(
     alloc: Global,
     requests: &[Request],
     verdicts: &[Verdict],
-) -> Result<Value, AllocError>
-    ensures tree { IfOk result (λ v. view v ≡ answer_tree (Answer.Replied requests.now verdicts.now)) }
+) -> Result<String, AllocError>
+    ensures text { IfOk result (λ text. string_bytes text
+        ≡ compact_text (answer_tree (Answer.Replied requests.now verdicts.now))) }
     ensures bounded { OnOk result (IsAnswer (Answer.Replied requests.now verdicts.now)) }
 {
     look_at_requests(requests);
     look_at_verdicts(verdicts);
-    let requests = request_values(alloc, requests)?;
-    let verdicts = verdict_values(alloc, verdicts)?;
-    json!(in alloc; {"requests": requests, "verdicts": verdicts})
+    let requests = requests_text(alloc, requests)?;
+    let verdicts = verdicts_text(alloc, verdicts)?;
+    format!(in alloc; "{{\"requests\":{requests},\"verdicts\":{verdicts}}}")
 }
 
-// The tree of an answer to a reaping.
-fn reaped_value(alloc: Global, numbers: &[Gen]) -> Result<Value, AllocError>
-    ensures tree { IfOk result (λ v. view v ≡ answer_tree (Answer.Reaped numbers.now)) }
+// The text of an answer to a publication.
+fn version_text(alloc: Global, version: u64) -> Result<String, AllocError>
+    ensures text { IfOk result (λ text. string_bytes text ≡ compact_text (answer_tree (Answer.Version version))) }
+{
+    format!(in alloc; "{{\"version\":{version}}}")
+}
+
+// The text of an answer to a reaping.
+fn reaped_text(alloc: Global, numbers: &[Gen]) -> Result<String, AllocError>
+    ensures text { IfOk result (λ text. string_bytes text ≡ compact_text (answer_tree (Answer.Reaped numbers.now))) }
     ensures bounded { OnOk result (All IsGeneration numbers.now) }
 {
     look_at_generations(numbers);
-    let numbers = generation_values(alloc, numbers)?;
-    json!(in alloc; {"reaped": numbers})
+    let numbers = generations_text(alloc, numbers)?;
+    format!(in alloc; "{{\"reaped\":{numbers}}}")
 }
 
-// What becomes of a connection that a listener takes and goes to no host that is known.
-fn unserved_value(alloc: Global, word: &str, listener: Gen) -> Result<Value, AllocError>
-    ensures tree { IfOk result (λ v. view v ≡ unserved_tree word.now listener) }
+// What becomes of a connection that a listener takes and goes to no host that is known, in a word without an escape.
+fn unserved_text(alloc: Global, word: &str, listener: Gen) -> Result<String, AllocError>
+    requires plain { escape word.now ≡ word.now }
+    ensures text { IfOk result (λ text. string_bytes text ≡ compact_text (unserved_tree word.now listener)) }
     ensures bounded { OnOk result (IsGeneration listener) }
 {
-    json!(in alloc; {"listener": listener.number(), "result": word})
+    let listener = listener.number();
+    format!(in alloc; "{{\"listener\":{listener},\"result\":\"{word}\"}}")
 }
 
-// The tree of a connection that goes where no script tells.
-fn elsewhere_value(alloc: Global, listener: Gen, cluster: Option<Gen>) -> Result<Value, AllocError>
-    ensures tree { IfOk result (λ v. view v ≡ elsewhere_tree listener cluster) }
+// The text of a connection that goes where no script tells.
+#[tactic(auto, unfolding(json::specs::Print::escape_byte))]
+fn elsewhere_text(
+    alloc: Global,
+    listener: Gen,
+    cluster: Option<Gen>,
+) -> Result<String, AllocError>
+    ensures text { IfOk result (λ text. string_bytes text ≡ compact_text (elsewhere_tree listener cluster)) }
     ensures bounded_listener { OnOk result (IsGeneration listener) }
     ensures bounded_cluster { OnOk result (IfSome cluster IsGeneration) }
 {
     match cluster {
-        Some(cluster) => going_value(alloc, listener, cluster),
-        None => unserved_value(alloc, "elsewhere", listener),
+        Some(cluster) => going_text(alloc, listener, cluster),
+        None => unserved_text(alloc, "elsewhere", listener),
     }
 }
 
-// The tree of a connection that goes by a cluster where no script tells.
-fn going_value(alloc: Global, listener: Gen, cluster: Gen) -> Result<Value, AllocError>
-    ensures tree { IfOk result (λ v. view v ≡ elsewhere_tree listener (Some cluster)) }
+// The text of a connection that goes by a cluster where no script tells.
+fn going_text(alloc: Global, listener: Gen, cluster: Gen) -> Result<String, AllocError>
+    ensures text { IfOk result (λ text. string_bytes text ≡ compact_text (elsewhere_tree listener (Some cluster))) }
     ensures bounded_listener { OnOk result (IsGeneration listener) }
     ensures bounded_cluster { OnOk result (IsGeneration cluster) }
 {
-    json!(in alloc; {
-        "cluster": cluster.number(),
-        "listener": listener.number(),
-        "result": "elsewhere",
-    })
+    let cluster = cluster.number();
+    let listener = listener.number();
+    format!(in alloc; "{{\"cluster\":{cluster},\"listener\":{listener},\"result\":\"elsewhere\"}}")
 }
 
-// The tree of a connection that is answered at once.
-fn local_value(alloc: Global, listener: Gen, status: u16) -> Result<Value, AllocError>
-    ensures tree { IfOk result (λ v. view v ≡ local_tree listener status) }
+// The text of a connection that is answered at once.
+fn local_text(alloc: Global, listener: Gen, status: u16) -> Result<String, AllocError>
+    ensures text { IfOk result (λ text. string_bytes text ≡ compact_text (local_tree listener status)) }
     ensures bounded { OnOk result (IsGeneration listener) }
 {
-    json!(in alloc; {"listener": listener.number(), "result": "local", "status": status})
+    let listener = listener.number();
+    format!(in alloc; "{{\"listener\":{listener},\"result\":\"local\",\"status\":{status}}}")
 }
 
-// The tree of a connection that goes to a host.
-fn served_value(
+// The text of a connection that goes to a host.
+fn served_text(
     alloc: Global,
     listener: Gen,
     cluster: Gen,
     host: &Host,
-) -> Result<Value, AllocError>
-    ensures tree { IfOk result (λ v. view v ≡ served_tree listener cluster host.now) }
+) -> Result<String, AllocError>
+    ensures text { IfOk result (λ text. string_bytes text ≡ compact_text (served_tree listener cluster host.now)) }
     ensures bounded_listener { OnOk result (IsGeneration listener) }
     ensures bounded_cluster { OnOk result (IsGeneration cluster) }
     ensures bounded_host { OnOk result (IsHost host.now) }
 {
-    json!(in alloc; {
-        "address": host.address.as_str(),
-        "cluster": cluster.number(),
-        "listener": listener.number(),
-        "port": host.port,
-        "result": "served",
-    })
+    let address = quoted(alloc, host.address.as_str())?;
+    let cluster = cluster.number();
+    let listener = listener.number();
+    let port = host.port;
+    format!(in alloc; "{{\"address\":{address},\"cluster\":{cluster},\"listener\":{listener},\"port\":{port},\"result\":\"served\"}}")
 }
 
-// The tree of an answer to a settle.
-fn settled_value(alloc: Global, closed: &[u64], version: u64) -> Result<Value, AllocError>
-    ensures tree { IfOk result (λ v. view v ≡ answer_tree (Answer.Settled closed.now version)) }
+// A text as JSON has it.
+fn quoted(alloc: Global, text: &str) -> Result<String, AllocError>
+    ensures { IfOk result (λ written. string_bytes written ≡ compact_text (string text.now)) }
+{
+    json!(in alloc; text)?.to_string(alloc)
+}
+
+// The text of an answer to a settle.
+fn settled_text(alloc: Global, closed: &[u64], version: u64) -> Result<String, AllocError>
+    ensures text { IfOk result (λ text. string_bytes text ≡ compact_text (answer_tree (Answer.Settled closed.now version))) }
     ensures bounded { OnOk result (All (λ n. n < 2 ^ 64) closed.now) }
 {
-    let closed = number_values(alloc, closed)?;
-    json!(in alloc; {"closed": closed, "version": version})
+    let closed = numbers_text(alloc, closed)?;
+    format!(in alloc; "{{\"closed\":{closed},\"version\":{version}}}")
+}
+
+// The text of requests.
+#[tactic(auto, using(crate::proofs::FloatLemmas::requests_whole))]
+fn requests_text(alloc: Global, requests: &[Request]) -> Result<String, AllocError>
+    ensures { IfOk result (λ text. string_bytes text ≡ compact_text (requests_tree requests.now)) }
+{
+    request_values(alloc, requests)?.to_string(alloc)
+}
+
+// The text of verdicts.
+#[tactic(auto, using(crate::proofs::FloatLemmas::verdicts_whole))]
+fn verdicts_text(alloc: Global, verdicts: &[Verdict]) -> Result<String, AllocError>
+    ensures { IfOk result (λ text. string_bytes text ≡ compact_text (array (items_of (map verdict_tree verdicts.now)))) }
+{
+    verdict_values(alloc, verdicts)?.to_string(alloc)
+}
+
+// The text of generations' numbers.
+#[tactic(auto, using(crate::proofs::FloatLemmas::numbers_whole))]
+fn generations_text(alloc: Global, numbers: &[Gen]) -> Result<String, AllocError>
+    ensures { IfOk result (λ text. string_bytes text ≡ compact_text (numbers_tree numbers.now)) }
+{
+    generation_values(alloc, numbers)?.to_string(alloc)
+}
+
+// The text of connections' numbers.
+#[tactic(auto, using(crate::proofs::FloatLemmas::numbers_whole))]
+fn numbers_text(alloc: Global, numbers: &[u64]) -> Result<String, AllocError>
+    ensures text { IfOk result (λ text. string_bytes text ≡ compact_text (numbers_tree numbers.now)) }
+    ensures bounded { OnOk result (All (λ n. n < 2 ^ 64) numbers.now) }
+{
+    number_values(alloc, numbers)?.to_string(alloc)
 }
 
 // The trees of requests.

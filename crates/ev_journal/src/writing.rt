@@ -1,11 +1,12 @@
-ghost use Rattle.std.specs.Prelude.{◌≡◌, ◌<◌, ◌^◌, false, All, IfOk, OnOk};
+ghost use Rattle.std.specs.Prelude.{◌≡◌, ◌<◌, ◌^◌, false, All, IfOk, OnOk, string_bytes};
+ghost use Rattle.serde_json.specs.Data.{Data};
 ghost use Rattle.serde_json.specs.View.{view};
 ghost use Rattle.serde_json.specs.Written.{has_float, compact_text};
 ghost use Rattle.std.specs.Str.{IsUtf8};
 ghost use Rattle.ev_journal.specs.Rendering.{rendering_of, line_text, row_object, entry_row, entry_tree, first_tree, end_tree};
 ghost use Rattle.ev_journal.specs.Rows.{IsActor, KeepsBounds, row_text};
 
-use crate::answers::answer_value;
+use crate::answers::answer_text;
 use crate::words::{actor_word, format_number, op_word};
 use ev_types::{Actor, Entry, Format, Op, Row};
 use serde_json::{Value, json};
@@ -40,32 +41,33 @@ pub fn write_first_line(alloc: Global, format: Format, workers: u32) -> Result<V
 /// Writes the line of an entry, with the line feed that closes it: who did what, at which line and step of the
 /// script, and the answer, by the table of answers in docs/FORMATS.md. What the types of an entry keep is said with it:
 /// the parts of its row are within bounds, and its line is UTF-8.
-#[tactic(auto, using(crate::proofs::FloatLemmas::entry_whole), unfolding(crate::specs::Rows::row_text))]
+#[tactic(auto, unfolding(crate::specs::Rows::row_text, crate::specs::Rendering::line_text))]
 pub fn write_line(alloc: Global, entry: &Entry) -> Result<Vec<u8>, AllocError>
     ensures line { IfOk result (λ line. line.items ≡ line_text (entry_tree entry.now)) }
     ensures bounded { OnOk result (KeepsBounds (entry_row entry.now)) }
 {
-    let answer = answer_value(alloc, &entry.answer)?;
-    let value = row_value(
+    let answer = answer_text(alloc, &entry.answer)?;
+    let mut line = text_of(
         alloc,
         entry.actor,
         entry.at,
         entry.step,
         entry.event.op(),
-        answer,
+        answer.as_str(),
     )?;
-    line_of(alloc, &value)
+    line.push('\n')?;
+    Ok(line.into_bytes())
 }
 
 /// Writes the text of a row: its line, without the line feed that closes it.
-#[tactic(auto, using(crate::proofs::FloatLemmas::row_whole), unfolding(crate::specs::Rows::row_text))]
+#[tactic(auto, unfolding(crate::specs::Rows::row_text))]
 pub fn write_row(alloc: Global, row: &Row) -> Result<Vec<u8>, AllocError>
     ensures text { IfOk result (λ text. text.items ≡ row_text row.now) }
     ensures utf8 { IfOk result (λ text. IsUtf8 text.items) }
 {
-    let answer = answer_value(alloc, &row.answer)?;
-    let value = row_value(alloc, row.actor, row.at, row.step, row.op, answer)?;
-    value.to_vec(alloc)
+    let answer = answer_text(alloc, &row.answer)?;
+    let text = text_of(alloc, row.actor, row.at, row.step, row.op, answer.as_str())?;
+    Ok(text.into_bytes())
 }
 
 /// Writes the last line of a journal of this many entries, with the line feed that closes it.
@@ -115,20 +117,22 @@ fn end_value(alloc: Global, entries: usize) -> Result<Value, AllocError>
     json!(in alloc; {"end": entries})
 }
 
-// The tree of a row with these parts.
-fn row_value(
+// The text of a row with these parts, whose answer has this text.
+fn text_of(
     alloc: Global,
     actor: Actor,
     at: u32,
     step: u32,
     op: Op,
-    answer: Value,
-) -> Result<Value, AllocError>
-    ensures row { IfOk result (λ v. view v ≡ row_object actor at step op (view answer)) }
+    answer: &str,
+) -> Result<String, AllocError>
+    ensures text { IfOk result (λ text. (tree : Data) → answer.now ≡ compact_text tree
+        → string_bytes text ≡ compact_text (row_object actor at step op tree)) }
     ensures bounded_actor { OnOk result (IsActor actor) }
     ensures bounded_at { OnOk result (at < 2 ^ 32) }
     ensures bounded_step { OnOk result (step < 2 ^ 32) }
 {
     let actor = actor_word(alloc, actor)?;
-    json!(in alloc; {"actor": actor, "answer": answer, "at": at, "op": op_word(op), "step": step})
+    let op = op_word(op);
+    format!(in alloc; "{{\"actor\":\"{actor}\",\"answer\":{answer},\"at\":{at},\"op\":\"{op}\",\"step\":{step}}}")
 }

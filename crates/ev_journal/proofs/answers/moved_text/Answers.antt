@@ -1,0 +1,10 @@
+use Rattle.std.proofs.Common.{◌≡◌, ◌∙◌, ◌++◌, ap, ap₂}
+use Rattle.std.specs.Prelude.{codes, decimal, string_bytes, IfOk}
+use Rattle.std.proofs.lemmas.Result.{IfOk-weaker}
+use Rattle.ev_journal.proofs.TextLemmas.{moved}
+use Rattle.ev_journal.proofs.answers.moved_text.Goals as goal
+
+pub returns-clause-text : goal.returns-clause-text
+returns-clause-text c =
+    let written : IfOk c.format.result (λ text. string_bytes text ≡ codes "{\"requests\":" ++ (string_bytes c.in_ok-requests.requests ++ codes "}")) = c.format.ensures.ok in
+    IfOk-weaker c.format.result _ _ (λ text e. e ∙ moved (string_bytes c.in_ok-requests.requests) c.args.requests.now c.in_ok-requests.ensures) written
