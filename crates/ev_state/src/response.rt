@@ -61,9 +61,7 @@ impl State {
     {
         let mentions = Mentions::of(alloc, response)?;
         let verdicts = self.judge(alloc, &mentions)?;
-        let made = self.managers.made;
-        let mut moved = self.enter(alloc, kind, verdicts.as_slice(), &mentions, steps)?;
-        let asked = self.tidy(alloc, made, &mut moved, steps)?;
+        let (asked, moved) = self.take(alloc, kind, verdicts.as_slice(), &mentions, steps)?;
         let answer = self.reply(alloc, kind, response, verdicts, asked)?;
         Ok((answer, moved))
     }
@@ -79,6 +77,33 @@ impl State {
         let before = Before::new(&self.managers, &self.subscription);
         let verdicts = verdicts_by_mentions(alloc, &before, mentions)?;
         Ok(verdicts)
+    }
+
+    // What a response does to everything that is known, by the verdicts on its resources. Answers what it changes of what is asked for,
+    // and what it moves.
+    fn take<L: Ledger>(
+        &mut self,
+        alloc: Global,
+        kind: Kind,
+        verdicts: &[Verdict],
+        mentions: &Mentions<'_>,
+        steps: &mut Steps<L>,
+    ) -> Result<(Asked, Moved), AllocError>
+        ghost here: { World }
+        requires at { ManagesAt self.old here }
+        requires typed { mentions.now.kind ≡ Some kind }
+        requires room { 0 < length mentions.now.items → here.made + length mentions.now.items < 2 ^ 32 }
+        requires one_each { length verdicts.now ≡ length mentions.now.items }
+        requires judged { verdicts.now ≡ verdicts_of (lives_of here) here.versions mentions.now }
+        ensures kept { OnOk result (AreManagersKept self.new.managers) }
+        ensures forgotten { OnOk result (AreForgotten self.new.managers) }
+        ensures over { IfOk result (λ told. IsOver self.new told.0 told.1 here
+            (responded kind mentions.now verdicts.now here)) }
+    {
+        let made = self.managers.made;
+        let mut moved = self.enter(alloc, kind, verdicts, mentions, steps)?;
+        let asked = self.tidy(alloc, made, &mut moved, steps)?;
+        Ok((asked, moved))
     }
 
     // The answer to a response: its reply and what its changes ask for, and the verdicts.

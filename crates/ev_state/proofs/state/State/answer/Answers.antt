@@ -18,18 +18,21 @@ use Rattle.ev_state.specs.Moves.{IsOver}
 use Rattle.ev_state.specs.States.{IsStep}
 use Rattle.ev_state.proofs.state.State.answer.Goals as goal
 
-pub enter-requires : goal.enter-requires
-enter-requires g c =
+pub take-requires : goal.take-requires
+take-requires g c κs within =
     let at = c.requires.1.0 in
     let typed = ap (λ (r : ResponseParts). r.kind) c.in_ok-mentions.ensures ∙ c.requires.1.1.0 in (
-      at,
+      within,
       (
-        typed,
+        at,
         (
-          subst (λ (r : ResponseParts). g.here.made + length r.items < 4294967296) (sym c.in_ok-mentions.ensures) ?,
+          typed,
           (
-            ap length c.as_slice.ensures.elements ∙ c.in_ok-verdicts.ensures.one_each,
-            c.as_slice.ensures.elements ∙ c.in_ok-verdicts.ensures.judged c.args.kind g.here at typed,
+            subst (λ (r : ResponseParts). 0 < length r.items → g.here.made + length r.items < 4294967296) (sym c.in_ok-mentions.ensures) c.requires.1.1.1,
+            (
+              ap length c.as_slice.ensures.elements ∙ c.in_ok-verdicts.ensures.one_each,
+              c.as_slice.ensures.elements ∙ c.in_ok-verdicts.ensures.judged c.args.kind g.here at typed,
+            ),
           ),
         ),
       ),
