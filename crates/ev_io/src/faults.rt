@@ -45,3 +45,14 @@ pub enum ScriptFault {
     /// There was no memory.
     OutOfMemory,
 }
+
+impl From<AllocError> for ScriptFault {
+    ghost use Rattle.std.specs.Prelude.{◌≡◌};
+    ghost use Rattle.ev_io.specs.declared.faults.ScriptFault.TheVariants.{OutOfMemory};
+
+    ghost from_gives = { λ _ fault. fault ≡ OutOfMemory };
+
+    fn from(_error: AllocError) -> ScriptFault {
+        ScriptFault::OutOfMemory
+    }
+}

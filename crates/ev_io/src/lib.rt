@@ -26,6 +26,8 @@
 //!   where its line isn't whole. At the end of the input a last line without its line feed is a line like the others.
 //! - `LineFault`'s `TooLong`, `TooMany` and `TooLarge` are the kinds 1, 2 and 3 of a script's faults; `ScriptFault`
 //!   is here as a plain type, for the readers of scripts above.
+//! - `Lines` feeds each line that it gives to a hasher, once and whole, and makes keys of that for the tables of names above
+//!   (ev_keys). No view has the hasher: nothing depends on which keys they are.
 //! - The line feed is looked for by a plain loop over the bytes, each byte once: what was searched before a read
 //!   isn't searched again. Given lines are moved out of the buffer only before a read.
 #![tactic(auto)]

@@ -11,7 +11,9 @@ use super::faults::{LineEnd, LineFault};
 use super::found::{Found, find_next};
 use super::limits::{MAX_INPUT_BYTES, MAX_PIECE_BYTES};
 use super::outside::{Failed, Source};
+use ev_keys::Keys;
 use std::alloc::{AllocError, Global};
+use std::hash::{DefaultHasher, Hasher};
 use std::marker::Model;
 
 /// Reads a source's bytes line by line. It keeps the line that it is at, and not the input.
@@ -28,6 +30,8 @@ pub struct Lines {
     given: u32,
     ended: bool,
     told: Option<LineFault>,
+    // fed each line that was given
+    hasher: DefaultHasher,
 }
 
 impl Model for Lines {
@@ -66,6 +70,7 @@ impl Lines {
             given: 0,
             ended: false,
             told: None,
+            hasher: DefaultHasher::new(),
         })
     }
 
@@ -74,6 +79,12 @@ impl Lines {
         ensures { result ≡ self.now.given }
     {
         self.given
+    }
+
+    /// The keys that are made of the lines given so far: tables of names that stand in these lines hash by them. Which keys
+    /// they are isn't promised.
+    pub fn keys(&self) -> Keys {
+        Keys::after(self.hasher)
     }
 
     /// Puts the next line into `out`, without its line feed, which the last line may lack. An empty
@@ -152,6 +163,7 @@ impl Lines {
     {
         let end = self.start + length;
         replace(out, &self.buffer[self.start..end])?;
+        self.hasher.write(&self.buffer[self.start..end]);
         self.start = self.buffer.len().min(end + 1);
         self.searched = 0;
         self.given += 1;
