@@ -11,6 +11,7 @@ use crate::changes::{Changed, ascending, numbers_above, part_rows, plain_numbers
 use crate::closing::{close_all, closing_conns, part_draining};
 use crate::listed::Listed;
 use crate::next::{Next, read_next};
+use ev_keys::Keys;
 use ev_ledger::Ledger;
 use ev_tree::ReadError;
 use ev_types::Gen;
@@ -51,13 +52,13 @@ impl Model for Chains {
 }
 
 impl Chains {
-    /// No chain, and no connection. It takes no memory.
-    pub fn new(alloc: Global) -> Chains
+    /// No chain, and no connection; chains will be found by tables of these keys. It takes no memory.
+    pub fn new(alloc: Global, keys: Keys) -> Chains
         ensures { result ≡ opening }
     {
         Chains {
             made: 0,
-            serving: Listed::new(alloc),
+            serving: Listed::new(alloc, keys),
             draining: Vec::new(alloc),
             ledger: Ledger::new(alloc),
         }

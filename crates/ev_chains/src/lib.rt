@@ -22,6 +22,7 @@
 //!   numbers.
 //! - A drain timeout looks at the connections that it closes and at no other. It and a reaping go over the chains that drain: those
 //!   that were not reaped since they began to, which are few where chains are reaped as they fall idle.
+//! - The table of keys hashes by keys that are made of the input, which chooses the names.
 #![tactic(auto)]
 
 mod chains;
