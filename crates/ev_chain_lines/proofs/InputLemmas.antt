@@ -52,14 +52,6 @@ behind_first profile (first ∷ texts) kept long are =
     next_is : (i : ℕ) → i + 1 ≡ suc i
     next_is i = omega arith
 
--- an input that no journal may follow is whole where its lines were read
-whole : (input : Input) (read : ReadLines ChainEvent) → input.audit ≡ false → IsReadOf chain_lines IsEvent input read → IsWhole chain_lines input (length read.kept.items + 1)
-whole input read no_audit of = by_end read.journal of.ends
-  where
-    by_end : (journal : Option (Vec ℕ Global)) → EndsBefore chain_lines input (length read.kept.items + 1) journal → IsWhole chain_lines input (length read.kept.items + 1)
-    by_end None ends = ends
-    by_end (Some text) ends = let no : false ≡ true = sym no_audit ∙ ends.begins.audit in cc
-
 -- the bytes taken
 taken_input : (before after : Option (List ℕ)) (state : LinesState) (bytes : List ℕ) → Takes before after bytes → HasTaken state bytes → IsWithin state → (IsTrue state.ended → IsAtEnd after) → TakesChains before after (input_of false state bytes)
 taken_input before after state bytes takes taken within ended = record {
@@ -70,21 +62,21 @@ taken_input before after state bytes takes taken within ended = record {
 }
 
 -- what the reader of lines ensures
-abbrev pub Reads : Option (List ℕ) → Option (List ℕ) → LinesState → Result (ReadLines ChainEvent) ScriptFault → Type 0
-Reads before after state result = (bytes : List ℕ) × Takes before after bytes × HasTaken state bytes × IsAnswer chain_lines IsEvent (input_of false state bytes) result
+abbrev pub Reads : Option (List ℕ) → Option (List ℕ) → LinesState → Result (ReadLines ⊤ ChainEvent) ScriptFault → Type 0
+Reads before after state result = (bytes : List ℕ) × Takes before after bytes × HasTaken state bytes × IsAnswer chain_lines (λ tree head. ⊤) IsEvent (input_of false state bytes) result
 
-pub makes_text : (before after : Option (List ℕ)) (state : LinesState) (read : ReadLines ChainEvent) (text : Vec ℕ Global) → IsWithin state → (IsTrue state.ended → IsAtEnd after)
+pub makes_text : (before after : Option (List ℕ)) (state : LinesState) (read : ReadLines ⊤ ChainEvent) (text : Vec ℕ Global) → IsWithin state → (IsTrue state.ended → IsAtEnd after)
     → Reads before after state (Ok read) → text.items ≡ chains_text (map seen read.kept.items) → MakesChains before after (Ok text)
 makes_text before after state read text within ended r answers =
     let input = input_of false state r.0 in
-    let ends = whole input read refl r.3 in
+    let ends = r.3.1 in
     record {
       input = input;
       takes = taken_input before after state r.0 r.1 r.2 within ended;
       is = record {
         ended = ends.ended;
         sound = ends.sound;
-        text_of = record { events = map seen read.kept.items; reads = behind_first read.settings.profile (lines_of r.0) read.kept.items ends.lines r.3.kept; answers = answers };
+        text_of = record { events = map seen read.kept.items; reads = behind_first read.settings.profile (lines_of r.0) read.kept.items ends.lines r.3.0.kept; answers = answers };
       };
     }
 
@@ -99,7 +91,7 @@ makes_fault before after state fault within ended r =
     record { input = input_of false state r.0; takes = taken_input before after state r.0 r.1 r.2 within ended; is = told (input_of false state r.0) fault r.3 }
 
 -- there was no memory for the text
-pub makes_none : (before after : Option (List ℕ)) (state : LinesState) (read : ReadLines ChainEvent) → IsWithin state → (IsTrue state.ended → IsAtEnd after)
+pub makes_none : (before after : Option (List ℕ)) (state : LinesState) (read : ReadLines ⊤ ChainEvent) → IsWithin state → (IsTrue state.ended → IsAtEnd after)
     → Reads before after state (Ok read) → MakesChains before after (Err OutOfMemory)
 makes_none before after state read within ended r =
     record { input = input_of false state r.0; takes = taken_input before after state r.0 r.1 r.2 within ended; is = tt }

@@ -7,7 +7,9 @@ ghost use Rattle.ev_chain_lines.specs.Lines.{header_of, event_of, event_by, list
 
 use crate::limits::{MAX_NUMBER, MAX_PORT_NUMBER};
 use ev_chains::ChainEvent;
-use ev_script::{FormedLine, Forms, Settings, flag_at, has_only, number_at, text_or, word_at};
+use ev_script::{
+    FormedHead, FormedLine, Forms, Settings, flag_at, has_only, number_at, text_or, word_at,
+};
 use ev_types::{MAX_NAME_LENGTH, Profile, Text};
 use serde_json::Value;
 use std::alloc::{AllocError, Global};
@@ -17,18 +19,28 @@ use std::alloc::{AllocError, Global};
 pub struct ChainLines;
 
 impl Forms for ChainLines {
-    ghost use Rattle.std.specs.Prelude.{Some};
+    ghost use Rattle.std.specs.Prelude.{Some, ⊤};
     ghost use Rattle.ev_chains.specs.Events.{seen};
     ghost use Rattle.ev_chain_lines.specs.Lines.{chain_lines, event_of};
 
+    type Head = ();
     type Kept = ChainEvent;
 
     ghost forms = { chain_lines };
 
+    ghost keeps_head = { λ tree head. ⊤ };
+
     ghost keeps = { λ profile at tree event. event_of tree ≡ Some (seen event) };
 
-    fn read_head(&self, _alloc: Global, tree: &Value) -> Result<Option<Settings>, AllocError> {
-        Ok(header(tree))
+    fn read_head(
+        &self,
+        _alloc: Global,
+        tree: Value,
+    ) -> Result<Option<FormedHead<()>>, AllocError> {
+        match header(&tree) {
+            Some(settings) => Ok(Some(FormedHead { kept: (), settings })),
+            None => Ok(None),
+        }
     }
 
     fn read(

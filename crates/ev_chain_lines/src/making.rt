@@ -24,7 +24,7 @@ pub fn make_chains<S: Source>(alloc: Global, source: &mut S) -> Result<Vec<u8>, 
     let Ok(mut lines) = Lines::new(alloc) else {
         return Err(ScriptFault::OutOfMemory);
     };
-    match read_lines_with(alloc, &ChainLines, false, &mut lines, source) {
+    match read_lines_with(alloc, &ChainLines, &mut lines, source) {
         Ok(ReadLines { kept, .. }) => match answer_events(alloc, kept.as_slice()) {
             Ok(text) => Ok(text),
             Err(_) => Err(ScriptFault::OutOfMemory),

@@ -6,6 +6,7 @@ ghost use Rattle.ev_dns.specs.Answers.{names_once};
 ghost use Rattle.ev_dns.specs.Known.{AnswersOne, GivesOne, Takes, has_answer, has_row, known_addresses};
 
 use crate::lines::Resolution;
+use ev_keys::Keys;
 use ev_types::{HostRow, Name, Seq};
 use indexmap::{IndexMap, IndexSet};
 use std::alloc::{AllocError, Global};
@@ -13,17 +14,17 @@ use std::alloc::{AllocError, Global};
 /// The host names that were answered, each with the addresses of its last success.
 #[derive(Drop)]
 pub(crate) struct Answers {
-    pub by_name: IndexMap<Name, IndexSet<Name>>,
+    pub by_name: IndexMap<Name, IndexSet<Name, Keys>, Keys>,
 }
 
 impl Answers {
     /// No name was answered. It takes no memory.
-    pub(crate) fn new(alloc: Global) -> Answers
+    pub(crate) fn new(alloc: Global, keys: Keys) -> Answers
         ensures answered { (name : List ℕ) → has_answer result name ≡ false }
         ensures addresses { (name : List ℕ) → known_addresses result name ≡ [] }
     {
         Answers {
-            by_name: IndexMap::new(alloc),
+            by_name: IndexMap::with_hasher(alloc, keys),
         }
     }
 
@@ -33,13 +34,16 @@ impl Answers {
     {
         let Resolution { name, addresses } = resolution;
         match addresses {
-            Some(addresses) => self.put(name, each_once(alloc, addresses)?),
+            Some(addresses) => {
+                let keys = *self.by_name.hasher();
+                self.put(name, each_once(alloc, keys, addresses)?)
+            }
             None => self.note(alloc, name),
         }
     }
 
     // Puts the addresses of a name in place of those before.
-    fn put(&mut self, name: Name, addresses: IndexSet<Name>) -> Result<(), AllocError>
+    fn put(&mut self, name: Name, addresses: IndexSet<Name, Keys>) -> Result<(), AllocError>
         ensures answered { OnOk result (AnswersOne self.old self.new name) }
         ensures addresses { OnOk result (GivesOne self.old self.new name addresses.keys) }
     {
@@ -58,7 +62,8 @@ impl Answers {
         if self.by_name.contains_key(&name) {
             return Ok(());
         }
-        self.put(name, IndexSet::new(alloc))
+        let keys = *self.by_name.hasher();
+        self.put(name, IndexSet::with_hasher(alloc, keys))
     }
 
     /// The place of the first of these hosts, from one of them on, whose name wasn't answered, or their number.
@@ -84,16 +89,20 @@ impl Answers {
 }
 
 // Each of these names once, in the order of first appearance.
-fn each_once(alloc: Global, names: Seq<Name>) -> Result<IndexSet<Name>, AllocError>
+fn each_once(
+    alloc: Global,
+    keys: Keys,
+    names: Seq<Name>,
+) -> Result<IndexSet<Name, Keys>, AllocError>
     ensures { IfOk result (λ set. set.keys ≡ names_once names) }
 {
-    let mut set = IndexSet::new(alloc);
+    let mut set = IndexSet::with_hasher(alloc, keys);
     put_once(&mut set, names)?;
     Ok(set)
 }
 
 // Appends these names to those of a set, each once.
-fn put_once(set: &mut IndexSet<Name>, names: Seq<Name>) -> Result<(), AllocError>
+fn put_once(set: &mut IndexSet<Name, Keys>, names: Seq<Name>) -> Result<(), AllocError>
     ensures { OnOk result (set.new.keys ≡ insert_all bytes_eq set.old.keys names) }
 {
     for name in names.into_vec() {

@@ -6,6 +6,7 @@ ghost use Rattle.ev_dns.specs.Waiting.{AreComplete, EntersComplete};
 
 use crate::places::Places;
 use ev_expand::Numbers;
+use ev_keys::Keys;
 use std::alloc::{AllocError, Global};
 use std::collections::BTreeSet;
 
@@ -20,12 +21,12 @@ pub(crate) struct Complete {
 
 impl Complete {
     /// There is none. It takes no memory.
-    pub(crate) fn new(alloc: Global) -> Complete
+    pub(crate) fn new(alloc: Global, keys: Keys) -> Complete
         ensures { (answers : Answers) → AreComplete answers [] result }
     {
         Complete {
             places: BTreeSet::new(alloc),
-            served: Places::new(alloc),
+            served: Places::new(alloc, keys),
         }
     }
 

@@ -7,7 +7,7 @@ ghost use Rattle.ev_dns.specs.Resolving.{is_written};
 ghost use Rattle.ev_dns.specs.Lines.{dns_lines, given_addresses, addresses_at, resolution_of, resolution_in};
 
 use crate::names::read_names;
-use ev_script::{FormedLine, Forms, LineTrees, Settings, has_only, is_op, name_at};
+use ev_script::{FormedHead, FormedLine, Forms, HeadTree, LineTrees, has_only, is_op, name_at};
 use ev_types::{Name, Profile, Seq};
 use serde_json::Value;
 use std::alloc::{AllocError, Global};
@@ -27,14 +27,22 @@ pub struct DnsLines;
 
 impl Forms for DnsLines {
     ghost use Rattle.ev_dns.specs.Lines.{dns_lines};
+    ghost use Rattle.ev_script.specs.ReadTrees.{IsTreeHead};
 
+    type Head = HeadTree;
     type Kept = Value;
 
     ghost forms = { dns_lines };
 
+    ghost keeps_head = { IsTreeHead };
+
     ghost keeps = { λ profile at tree kept. view kept ≡ tree };
 
-    fn read_head(&self, alloc: Global, tree: &Value) -> Result<Option<Settings>, AllocError> {
+    fn read_head(
+        &self,
+        alloc: Global,
+        tree: Value,
+    ) -> Result<Option<FormedHead<HeadTree>>, AllocError> {
         LineTrees.read_head(alloc, tree)
     }
 

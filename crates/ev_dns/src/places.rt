@@ -4,6 +4,7 @@ ghost use Rattle.ev_dns.specs.Known.{Enters, EntersAll, Leaves, places_under};
 
 use crate::templates::rows_of;
 use ev_expand::Key;
+use ev_keys::Keys;
 use ev_types::{Name, Seq, TryCopy};
 use indexmap::IndexMap;
 use std::alloc::{AllocError, Global};
@@ -11,16 +12,16 @@ use std::alloc::{AllocError, Global};
 /// Places, under names.
 #[derive(Drop)]
 pub(crate) struct Places {
-    pub by_name: IndexMap<Name, Seq<usize>>,
+    pub by_name: IndexMap<Name, Seq<usize>, Keys>,
 }
 
 impl Places {
     /// No place. It takes no memory.
-    pub(crate) fn new(alloc: Global) -> Places
+    pub(crate) fn new(alloc: Global, keys: Keys) -> Places
         ensures { (name : List ℕ) → places_under result name ≡ [] }
     {
         Places {
-            by_name: IndexMap::new(alloc),
+            by_name: IndexMap::with_hasher(alloc, keys),
         }
     }
 

@@ -22,6 +22,7 @@ use crate::templates::template_key;
 use crate::touching::touched_by;
 use crate::waiting::Waiting;
 use ev_expand::{Due, ExpandError, Expansion, Key, Numbers, expand_with};
+use ev_keys::Keys;
 use ev_script::is_op;
 use ev_types::{Event, Item, Name, Profile, TryCopy};
 use serde_json::{Value, json};
@@ -43,14 +44,14 @@ pub(crate) struct Resolutions {
 
 impl Resolutions {
     // Nothing is known. It takes no memory.
-    pub(crate) fn new(alloc: Global) -> Resolutions
+    pub(crate) fn new(alloc: Global, keys: Keys) -> Resolutions
         ensures { (profile : Profile) → IsBehind profile result [] }
     {
         Resolutions {
             connected: false,
-            answers: Answers::new(alloc),
-            waiting: Waiting::new(alloc),
-            complete: Complete::new(alloc),
+            answers: Answers::new(alloc, keys),
+            waiting: Waiting::new(alloc, keys),
+            complete: Complete::new(alloc, keys),
         }
     }
 
@@ -196,7 +197,7 @@ fn open_after(connected: bool, event: &Option<Event>) -> bool
 }
 
 /// The text of a script whose clusters have names to be resolved, by its header and its lines, which are read by this profile:
-/// resolutions of host names are lines of their own.
+/// resolutions of host names are lines of their own. Its tables hash by these keys.
 ///
 /// # Errors
 /// `Private` exactly for the first line that uses a name that begins with `dns/` for endpoints. `Large` where there is
@@ -204,11 +205,19 @@ fn open_after(connected: bool, event: &Option<Event>) -> bool
 /// and for 2^32 lines and more.
 pub fn expand(
     alloc: Global,
+    keys: Keys,
     profile: Profile,
     head: &Value,
     lines: &[Value],
 ) -> Result<Vec<u8>, ExpandError>
     ensures { IsExpanded (dns_rules profile) (view head.now) (map view lines.now) result }
 {
-    expand_with(alloc, profile, Resolutions::new(alloc), head, lines)
+    expand_with(
+        alloc,
+        keys,
+        profile,
+        Resolutions::new(alloc, keys),
+        head,
+        lines,
+    )
 }

@@ -9,6 +9,7 @@ use crate::answers::Answers;
 use crate::places::Places;
 use crate::templates::rows_of;
 use ev_expand::Numbers;
+use ev_keys::Keys;
 use ev_types::Name;
 use std::alloc::{AllocError, Global};
 
@@ -23,12 +24,12 @@ pub(crate) struct Waiting {
 
 impl Waiting {
     /// There is no place. It takes no memory.
-    pub(crate) fn new(alloc: Global) -> Waiting
+    pub(crate) fn new(alloc: Global, keys: Keys) -> Waiting
         ensures { (answers : the_answers) → AreWaiting answers [] result }
     {
         Waiting {
             passed: Vec::new(alloc),
-            under: Places::new(alloc),
+            under: Places::new(alloc, keys),
         }
     }
 

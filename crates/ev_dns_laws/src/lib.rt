@@ -42,5 +42,11 @@ pub fn resolve(alloc: Global, trees: &ScriptTrees) -> Result<Vec<u8>, ExpandErro
         ≡ Some (expanded_script (dns_rules trees.now.header.profile) trees.now)) }
     ensures kept { OnOk result (IsScript (expanded_script (dns_rules trees.now.header.profile) trees.now)) }
 {
-    expand(alloc, trees.header.profile, &trees.head, &trees.lines)
+    expand(
+        alloc,
+        trees.keys,
+        trees.header.profile,
+        &trees.head,
+        &trees.lines,
+    )
 }

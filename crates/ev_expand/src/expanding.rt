@@ -16,6 +16,7 @@ use crate::numbers::Numbers;
 use crate::outcome::ExpandError;
 use crate::private::first_use;
 use crate::text_so_far::TextSoFar;
+use ev_keys::Keys;
 use ev_types::{Event, Item, Profile};
 use serde_json::Value;
 use std::alloc::{AllocError, Global};
@@ -99,13 +100,15 @@ pub trait Expansion {
 /// The lines of an input after the first are fewer.
 pub const MOST_LINES: usize = 4_294_967_290;
 
-/// The text that a command makes of the header and the lines of a script, which are read by this profile.
+/// The text that a command makes of the header and the lines of a script, which are read by this profile. Its tables hash by these
+/// keys.
 ///
 /// # Errors
 /// `Private` exactly for the first line that uses a private name. `Large` where there is none, exactly for the line with whose
 /// output the text goes above a limit of inputs. `OutOfMemory` where memory runs out, and for 2^32 lines and more.
 pub fn expand_with<E: Expansion + Drop>(
     alloc: Global,
+    keys: Keys,
     profile: Profile,
     expansion: E,
     head: &Value,
@@ -125,7 +128,7 @@ pub fn expand_with<E: Expansion + Drop>(
     if !text.push(alloc, head)? {
         return Err(ExpandError::Large { line: 1 });
     }
-    let mut numbers = Numbers::new(alloc);
+    let mut numbers = Numbers::new(alloc, keys);
     for (index, line) in lines.iter().enumerate() {
         let at = index as u32 + 2;
         let has_room = push_line(

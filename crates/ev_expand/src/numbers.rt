@@ -6,6 +6,7 @@ ghost use Rattle.ev_expand.specs.Guarding.{Guarded, place_in};
 ghost use Rattle.ev_expand.specs.Numbers.{found_shown, guarded_as, guarded_so_far};
 
 use crate::keys::Key;
+use ev_keys::Keys;
 use indexmap::IndexMap;
 use serde_json::Value;
 use std::alloc::{AllocError, Global};
@@ -15,16 +16,16 @@ use std::alloc::{AllocError, Global};
 #[derive(Drop)]
 pub struct Numbers {
     /// By key what is kept of its first item.
-    pub firsts: IndexMap<Key, Value>,
+    pub firsts: IndexMap<Key, Value, Keys>,
 }
 
 impl Numbers {
-    /// Nothing is guarded. It takes no memory.
-    pub fn new(alloc: Global) -> Numbers
+    /// Nothing is guarded. It takes no memory, and hashes by these keys.
+    pub fn new(alloc: Global, keys: Keys) -> Numbers
         ensures { guarded_so_far result ≡ [] }
     {
         Numbers {
-            firsts: IndexMap::new(alloc),
+            firsts: IndexMap::with_hasher(alloc, keys),
         }
     }
 

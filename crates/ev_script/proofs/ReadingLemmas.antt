@@ -1,5 +1,5 @@
 -- An input that is being read: what each call for a line makes of it.
-use Rattle.std.proofs.Common.{◌≡◌, ℕ, ◌+◌, ◌<◌, ◌≤◌, Bool, true, false, List, [], ◌∷◌, ◌++◌, length, get_or, IsTrue, Option, None, Some, Vec, Result, Ok, Err, refl, sym, ap, subst, ◌∙◌, ◌⊎◌, inl, inr, arith, append_assoc, length-append}
+use Rattle.std.proofs.Common.{◌≡◌, ℕ, ◌+◌, ◌<◌, ◌≤◌, Bool, true, false, List, [], ◌∷◌, ◌++◌, length, take, get_or, IsTrue, Option, None, Some, Vec, Result, Ok, Err, refl, sym, ap, subst, ◌∙◌, ◌⊎◌, inl, inr, arith, append_assoc, length-append}
 use Rattle.std.specs.Io.KnownBytes.{prepend_known, IsAtEnd}
 use Rattle.std.specs.declared.alloc.Global.{Global}
 use Rattle.serde_json.specs.Data.{Data}
@@ -13,19 +13,20 @@ use Rattle.ev_io.specs.declared.faults.ScriptFault.TheVariants.{Bad, Read, OutOf
 use Rattle.ev_io.specs.Lines.{lines_of}
 use Rattle.ev_io.specs.Outside.{Rose, Takes, ReadFails}
 use Rattle.ev_io.specs.LinesState.{LinesState, IsFresh, HasTaken}
-use Rattle.ev_io.specs.ReadLine.{GivesLine, IsUnfinished, LeavesOpen, ReadsLine}
+use Rattle.ev_io.specs.ReadLine.{GivesLine, IsUnfinished, ReachesEnd, LeavesOpen, ReadsLine}
 use Rattle.ev_script.specs.declared.content.Content.{Content}
 use Rattle.ev_script.specs.declared.content.Content.TheVariants as is
 use Rattle.ev_script.specs.declared.content.First.TheVariants as first
 use Rattle.ev_script.specs.declared.fault_kinds.FaultKind.{FaultKind}
 use Rattle.ev_script.specs.declared.fault_kinds.FaultKind.TheVariants.{NoByte, NotJournal}
-use Rattle.ev_script.specs.declared.read_input.ReadLines.{ReadLines}
+use Rattle.ev_script.specs.declared.read_input.UpToJournal.{UpToJournal}
+use Rattle.ev_script.specs.declared.forms.FormedHead.{FormedHead}
 use Rattle.ev_script.specs.declared.forms.Settings.{Settings}
 use Rattle.ev_script.specs.Members.{tree_of}
 use Rattle.ev_script.specs.Faults.{LineForms, fault_number, IsFaultOf}
-use Rattle.ev_script.specs.Content.{first_content, IsContent, IsLineOf, IsKeptOf}
+use Rattle.ev_script.specs.Content.{first_content, IsHeadKept, IsContent, IsLineOf, IsKeptOf}
 use Rattle.ev_script.specs.ReadLines.{AreRead, AreLinesKept}
-use Rattle.ev_script.specs.ReadInput.{input_of, script_fault, IsTold, IsWhole, IsUpToJournal, IsAnswer, IsHeadAnswer}
+use Rattle.ev_script.specs.ReadInput.{input_of, script_fault, IsTold, IsUpToJournal, HasNoJournal, IsReadOf, IsAnswerUpTo, IsHeadAnswer}
 use Rattle.ev_script.proofs.ContentFaults.{IsGiven, first_told, content_told, journal_reached}
 use Rattle.ev_script.proofs.StepLemmas.{same_at, are_read_same, are_kept_same, are_read_more, are_kept_more, given_line, few_lines}
 use Rattle.ev_script.proofs.EndLemmas.{fault_told, nothing_told, whole_read, journal_missing}
@@ -35,24 +36,24 @@ abbrev pub Reads : Option (List ℕ) → Option (List ℕ) → LinesState → Li
 Reads now after old new out text answer = (more : List ℕ) × Takes now after more × ((bytes : List ℕ) → HasTaken old bytes → ReadsLine old new bytes more out text answer)
 
 -- the header and some lines were read
-pub record IsReading {A : Type 0} (forms : LineForms) (keeps : Profile → ℕ → Data → A → Type 0) (audit : Bool) (before now : Option (List ℕ)) (state : LinesState) (settings : Settings) (heading : List ℕ) (kept : List A) : Type 0 where
+pub record IsReading {H A : Type 0} (forms : LineForms) (keeps_head : Data → H → Type 0) (keeps : Profile → ℕ → Data → A → Type 0) (audit : Bool) (before now : Option (List ℕ)) (state : LinesState) (settings : Settings) (heading : H) (kept : List A) : Type 0 where
   pub bytes : List ℕ
   pub takes : Takes before now bytes
   pub taken : HasTaken state bytes
   pub untold : state.told ≡ None
   pub given : state.given ≡ length kept + 1
-  pub head : get_or (lines_of bytes) 0 [] ≡ heading
+  pub head : IsHeadKept keeps_head (tree_of (get_or (lines_of bytes) 0 [])) heading
   pub read : AreRead forms audit (lines_of bytes) settings state.given
   pub holds : AreLinesKept (keeps settings.profile) (lines_of bytes) kept
 
 -- what is ensured at the end
-abbrev pub Exits : {A : Type 0} → LineForms → (Profile → ℕ → Data → A → Type 0) → Bool → Option (List ℕ) → Option (List ℕ) → LinesState → Result (ReadLines A) ScriptFault → Type 0
-Exits forms keeps audit before after new result = (bytes : List ℕ) × Takes before after bytes × HasTaken new bytes × IsAnswer forms keeps (input_of audit new bytes) result
+abbrev pub Exits : {H A : Type 0} → LineForms → (Data → H → Type 0) → (Profile → ℕ → Data → A → Type 0) → Bool → Option (List ℕ) → Option (List ℕ) → LinesState → Result (UpToJournal H A) ScriptFault → Type 0
+Exits forms keeps_head keeps audit before after new result = (bytes : List ℕ) × Takes before after bytes × HasTaken new bytes × IsAnswerUpTo forms keeps_head keeps (input_of audit new bytes) result
 
 -- where a failed read is reported, the source isn't known to be at its end
-pub told_open : {A : Type 0} (forms : LineForms) (keeps : Profile → ℕ → Data → A → Type 0) (audit : Bool) (before after : Option (List ℕ)) (new : LinesState) (result : Result (ReadLines A) ScriptFault) → Exits forms keeps audit before after new result → result ≡ Err Read → ¬ (IsTrue new.ended)
-told_open {A = A} forms keeps audit before after new result exits failed =
-    let told : IsTold forms (input_of audit new exits.0) Read = subst (λ (r : Result (ReadLines A) ScriptFault). IsAnswer forms keeps (input_of audit new exits.0) r) failed exits.3 in
+pub told_open : {H A : Type 0} (forms : LineForms) (keeps_head : Data → H → Type 0) (keeps : Profile → ℕ → Data → A → Type 0) (audit : Bool) (before after : Option (List ℕ)) (new : LinesState) (result : Result (UpToJournal H A) ScriptFault) → Exits forms keeps_head keeps audit before after new result → result ≡ Err Read → ¬ (IsTrue new.ended)
+told_open {H = H} {A = A} forms keeps_head keeps audit before after new result exits failed =
+    let told : IsTold forms (input_of audit new exits.0) Read = subst (λ (r : Result (UpToJournal H A) ScriptFault). IsAnswerUpTo forms keeps_head keeps (input_of audit new exits.0) r) failed exits.3 in
     told.1
 
 prepend_known-append : (xs ys : List ℕ) (known : Option (List ℕ)) → prepend_known xs (prepend_known ys known) ≡ prepend_known (xs ++ ys) known
@@ -63,18 +64,23 @@ prepend_known-append xs ys (Some zs) = ap Some (sym (append_assoc xs ys zs))
 takes_both : (before now after : Option (List ℕ)) (taken more : List ℕ) → Takes before now taken → Takes now after more → Takes before after (taken ++ more)
 takes_both before now after taken more e f = e ∙ ap (prepend_known taken) f ∙ prepend_known-append taken more after
 
+-- what is kept of the first line, of more bytes
+head_same : {H : Type 0} (keeps_head : Data → H → Type 0) (heading : H) (n : ℕ) (texts others : List (List ℕ)) → take n others ≡ take n texts → 0 < n → IsHeadKept keeps_head (tree_of (get_or texts 0 [])) heading → IsHeadKept keeps_head (tree_of (get_or others 0 [])) heading
+head_same keeps_head heading n texts others same some head =
+    subst (λ (text : List ℕ). IsHeadKept keeps_head (tree_of text) heading) (sym (same_at n texts others 0 same some)) head
+
 -- ---- the lines after the header
 
-given_now : {A : Type 0} (forms : LineForms) (keeps : Profile → ℕ → Data → A → Type 0) (audit : Bool) (before now : Option (List ℕ)) (old new : LinesState) (settings : Settings) (heading : List ℕ) (kept : List A) (more out text : List ℕ) → (r : IsReading forms keeps audit before now old settings heading kept) → ReadsLine old new r.bytes more out text (Ok Line) → IsGiven forms (input_of audit new (r.bytes ++ more)) settings old.given text
-given_now forms keeps audit before now old new settings heading kept more out text r reads = given_line forms audit settings old new r.bytes more out text reads r.read
+given_now : {H A : Type 0} (forms : LineForms) (keeps_head : Data → H → Type 0) (keeps : Profile → ℕ → Data → A → Type 0) (audit : Bool) (before now : Option (List ℕ)) (old new : LinesState) (settings : Settings) (heading : H) (kept : List A) (more out text : List ℕ) → (r : IsReading forms keeps_head keeps audit before now old settings heading kept) → ReadsLine old new r.bytes more out text (Ok Line) → IsGiven forms (input_of audit new (r.bytes ++ more)) settings old.given text
+given_now forms keeps_head keeps audit before now old new settings heading kept more out text r reads = given_line forms audit settings old new r.bytes more out text reads r.read
 
 -- one line more
-pub reading_more : {A : Type 0} (forms : LineForms) (keeps : Profile → ℕ → Data → A → Type 0) (audit : Bool) (before now after : Option (List ℕ)) (old new : LinesState) (settings : Settings) (heading : List ℕ) (kept : List A) (line : A) (out text : List ℕ) → IsReading forms keeps audit before now old settings heading kept → Reads now after old new out text (Ok Line) → IsContent forms keeps audit settings new.given (tree_of text) (is.Line line) → IsReading forms keeps audit before after new settings heading (kept ++ line ∷ [])
-reading_more forms keeps audit before now after old new settings heading kept line out text r call content =
+pub reading_more : {H A : Type 0} (forms : LineForms) (keeps_head : Data → H → Type 0) (keeps : Profile → ℕ → Data → A → Type 0) (audit : Bool) (before now after : Option (List ℕ)) (old new : LinesState) (settings : Settings) (heading : H) (kept : List A) (line : A) (out text : List ℕ) → IsReading forms keeps_head keeps audit before now old settings heading kept → Reads now after old new out text (Ok Line) → IsContent forms keeps audit settings new.given (tree_of text) (is.Line line) → IsReading forms keeps_head keeps audit before after new settings heading (kept ++ line ∷ [])
+reading_more forms keeps_head keeps audit before now after old new settings heading kept line out text r call content =
     let more : List ℕ = call.0 in
     let reads : ReadsLine old new r.bytes more out text (Ok Line) = call.2 r.bytes r.taken in
     let means : GivesLine old new (r.bytes ++ more) text = reads.means in
-    let g : IsGiven forms (input_of audit new (r.bytes ++ more)) settings old.given text = given_now forms keeps audit before now old new settings heading kept more out text r reads in
+    let g : IsGiven forms (input_of audit new (r.bytes ++ more)) settings old.given text = given_now forms keeps_head keeps audit before now old new settings heading kept more out text r reads in
     let some : 0 < old.given = omega (arith, r.given) in
     let number : new.given ≡ old.given + 1 = means.number in
     let line_here : IsLineOf forms audit settings (old.given + 1) (tree_of (get_or (lines_of (r.bytes ++ more)) old.given [])) =
@@ -90,7 +96,7 @@ reading_more forms keeps audit before now after old new settings heading kept li
       taken = reads.taken;
       untold = means.untold;
       given = omega (arith, length-append kept (line ∷ []));
-      head = same_at old.given (lines_of r.bytes) (lines_of (r.bytes ++ more)) 0 reads.kept some ∙ r.head;
+      head = head_same keeps_head heading old.given (lines_of r.bytes) (lines_of (r.bytes ++ more)) reads.kept some r.head;
       read = subst (AreRead forms audit (lines_of (r.bytes ++ more)) settings) (sym number)
           (are_read_more forms audit (lines_of (r.bytes ++ more)) settings old.given (are_read_same forms audit (lines_of r.bytes) (lines_of (r.bytes ++ more)) settings old.given reads.kept r.read) some line_here);
       holds = are_kept_more (keeps settings.profile) (lines_of (r.bytes ++ more)) kept line (are_kept_same (keeps settings.profile) (lines_of r.bytes) (lines_of (r.bytes ++ more)) old.given kept reads.kept (omega arith) r.holds) kept_here;
@@ -108,13 +114,13 @@ one_more now after old new bytes out text taken call =
     let means : GivesLine old new (bytes ++ call.0) text = reads.means in
     means.number
 
-pub exit_fault : {A : Type 0} (forms : LineForms) (keeps : Profile → ℕ → Data → A → Type 0) (audit : Bool) (before now after : Option (List ℕ)) (old new : LinesState) (settings : Settings) (heading : List ℕ) (kept : List A) (fault : LineFault) (out text : List ℕ) → IsReading forms keeps audit before now old settings heading kept → Reads now after old new out text (Err fault) → Exits forms keeps audit before after new (Err (script_fault new.given fault))
-exit_fault forms keeps audit before now after old new settings heading kept fault out text r call =
+pub exit_fault : {H A : Type 0} (forms : LineForms) (keeps_head : Data → H → Type 0) (keeps : Profile → ℕ → Data → A → Type 0) (audit : Bool) (before now after : Option (List ℕ)) (old new : LinesState) (settings : Settings) (heading : H) (kept : List A) (fault : LineFault) (out text : List ℕ) → IsReading forms keeps_head keeps audit before now old settings heading kept → Reads now after old new out text (Err fault) → Exits forms keeps_head keeps audit before after new (Err (script_fault new.given fault))
+exit_fault forms keeps_head keeps audit before now after old new settings heading kept fault out text r call =
     let reads : ReadsLine old new r.bytes call.0 out text (Err fault) = call.2 r.bytes r.taken in
     (r.bytes ++ call.0, takes_both before now after r.bytes call.0 r.takes call.1, reads.taken, fault_told forms audit settings old new r.bytes call.0 out text fault reads r.read)
 
-pub exit_content : {A : Type 0} (forms : LineForms) (keeps : Profile → ℕ → Data → A → Type 0) (audit : Bool) (before now after : Option (List ℕ)) (old new : LinesState) (settings : Settings) (heading : List ℕ) (kept : List A) (kind : FaultKind) (out text : List ℕ) → IsReading forms keeps audit before now old settings heading kept → Reads now after old new out text (Ok Line) → IsContent forms keeps audit settings new.given (tree_of text) (is.Fault kind) → Exits forms keeps audit before after new (Err (Bad new.given (fault_number kind)))
-exit_content forms keeps audit before now after old new settings heading kept kind out text r call content =
+pub exit_content : {H A : Type 0} (forms : LineForms) (keeps_head : Data → H → Type 0) (keeps : Profile → ℕ → Data → A → Type 0) (audit : Bool) (before now after : Option (List ℕ)) (old new : LinesState) (settings : Settings) (heading : H) (kept : List A) (kind : FaultKind) (out text : List ℕ) → IsReading forms keeps_head keeps audit before now old settings heading kept → Reads now after old new out text (Ok Line) → IsContent forms keeps audit settings new.given (tree_of text) (is.Fault kind) → Exits forms keeps_head keeps audit before after new (Err (Bad new.given (fault_number kind)))
+exit_content forms keeps_head keeps audit before now after old new settings heading kept kind out text r call content =
     let reads : ReadsLine old new r.bytes call.0 out text (Ok Line) = call.2 r.bytes r.taken in
     let means : GivesLine old new (r.bytes ++ call.0) text = reads.means in
     let input = input_of audit new (r.bytes ++ call.0) in (
@@ -122,51 +128,51 @@ exit_content forms keeps audit before now after old new settings heading kept ki
       takes_both before now after r.bytes call.0 r.takes call.1,
       reads.taken,
       subst (λ (n : ℕ). IsFaultOf forms input n (fault_number kind)) (sym means.number)
-          (content_told forms keeps input settings old.given text kind (given_now forms keeps audit before now old new settings heading kept call.0 out text r reads) (omega (arith, r.given))
+          (content_told forms keeps input settings old.given text kind (given_now forms keeps_head keeps audit before now old new settings heading kept call.0 out text r reads) (omega (arith, r.given))
           (subst (λ (n : ℕ). IsContent forms keeps audit settings n (tree_of text) (is.Fault kind)) means.number content)),
     )
 
-pub exit_journal : {A : Type 0} (forms : LineForms) (keeps : Profile → ℕ → Data → A → Type 0) (audit : Bool) (before now after : Option (List ℕ)) (old new : LinesState) (settings : Settings) (heading : Vec ℕ Global) (kept : Vec A Global) (out : List ℕ) (text : Vec ℕ Global) → IsReading forms keeps audit before now old settings heading.items kept.items → Reads now after old new out text.items (Ok Line) → IsContent forms keeps audit settings new.given (tree_of text.items) is.Journal → Exits forms keeps audit before after new (Ok record { settings = settings; heading = heading; kept = kept; journal = Some text })
-exit_journal forms keeps audit before now after old new settings heading kept out text r call content =
+-- what was read, as it stands in all bytes
+read_now : {H A : Type 0} (forms : LineForms) (keeps_head : Data → H → Type 0) (keeps : Profile → ℕ → Data → A → Type 0) (audit : Bool) (before now : Option (List ℕ)) (old new : LinesState) (settings : Settings) (heading : H) (kept : Vec A Global) (more out text : List ℕ) (answer : LineEnd) → (r : IsReading forms keeps_head keeps audit before now old settings heading kept.items) → ReadsLine old new r.bytes more out text (Ok answer) → IsReadOf forms keeps_head keeps (input_of audit new (r.bytes ++ more)) (record { settings = settings; head = heading; kept = kept })
+read_now forms keeps_head keeps audit before now old new settings heading kept more out text answer r reads = record {
+  head = head_same keeps_head heading old.given (lines_of r.bytes) (lines_of (r.bytes ++ more)) reads.kept (omega (arith, r.given)) r.head;
+  lines = subst (AreRead forms audit (lines_of (r.bytes ++ more)) settings) r.given (are_read_same forms audit (lines_of r.bytes) (lines_of (r.bytes ++ more)) settings old.given reads.kept r.read);
+  kept = are_kept_same (keeps settings.profile) (lines_of r.bytes) (lines_of (r.bytes ++ more)) old.given kept.items reads.kept (omega (arith, r.given)) r.holds;
+}
+
+pub exit_journal : {H A : Type 0} (forms : LineForms) (keeps_head : Data → H → Type 0) (keeps : Profile → ℕ → Data → A → Type 0) (audit : Bool) (before now after : Option (List ℕ)) (old new : LinesState) (settings : Settings) (heading : H) (kept : Vec A Global) (out : List ℕ) (text : Vec ℕ Global) → IsReading forms keeps_head keeps audit before now old settings heading kept.items → Reads now after old new out text.items (Ok Line) → IsContent forms keeps audit settings new.given (tree_of text.items) is.Journal → Exits forms keeps_head keeps audit before after new (Ok record { read = record { settings = settings; head = heading; kept = kept }; journal = Some text })
+exit_journal forms keeps_head keeps audit before now after old new settings heading kept out text r call content =
     let reads : ReadsLine old new r.bytes call.0 out text.items (Ok Line) = call.2 r.bytes r.taken in
-    let input = input_of audit new (r.bytes ++ call.0) in
-    let here : AreRead forms audit (lines_of (r.bytes ++ call.0)) settings old.given = are_read_same forms audit (lines_of r.bytes) (lines_of (r.bytes ++ call.0)) settings old.given reads.kept r.read in (
+    let input = input_of audit new (r.bytes ++ call.0) in (
       r.bytes ++ call.0,
       takes_both before now after r.bytes call.0 r.takes call.1,
       reads.taken,
-      record {
-        heading = same_at old.given (lines_of r.bytes) (lines_of (r.bytes ++ call.0)) 0 reads.kept (omega (arith, r.given)) ∙ r.head;
-        lines = subst (AreRead forms audit (lines_of (r.bytes ++ call.0)) settings) r.given here;
-        kept = are_kept_same (keeps settings.profile) (lines_of r.bytes) (lines_of (r.bytes ++ call.0)) old.given kept.items reads.kept (omega (arith, r.given)) r.holds;
-        ends = subst (λ (n : ℕ). IsUpToJournal forms input n text.items) r.given
-            (journal_reached forms input settings old.given text.items (given_now forms keeps audit before now old new settings heading.items kept.items call.0 out text.items r reads) (omega (arith, r.given)) content);
-      },
+      read_now forms keeps_head keeps audit before now old new settings heading kept call.0 out text.items Line r reads,
+      subst (λ (n : ℕ). IsUpToJournal forms input n text.items) r.given
+          (journal_reached forms input settings old.given text.items (given_now forms keeps_head keeps audit before now old new settings heading kept.items call.0 out text.items r reads) (omega (arith, r.given)) content),
     )
 
-pub exit_whole : {A : Type 0} (forms : LineForms) (keeps : Profile → ℕ → Data → A → Type 0) (audit : Bool) (before now after : Option (List ℕ)) (old new : LinesState) (settings : Settings) (heading : Vec ℕ Global) (kept : Vec A Global) (out text : List ℕ) → audit ≡ false → IsReading forms keeps audit before now old settings heading.items kept.items → Reads now after old new out text (Ok End) → Exits forms keeps audit before after new (Ok record { settings = settings; heading = heading; kept = kept; journal = None })
-exit_whole forms keeps true before now after old new settings heading kept out text plain r call = absurd cc
-exit_whole forms keeps false before now after old new settings heading kept out text plain r call =
-    let reads : ReadsLine old new r.bytes call.0 out text (Ok End) = call.2 r.bytes r.taken in
-    let here : AreRead forms false (lines_of (r.bytes ++ call.0)) settings old.given = are_read_same forms false (lines_of r.bytes) (lines_of (r.bytes ++ call.0)) settings old.given reads.kept r.read in (
+-- where the input ends, it is whole, or a journal is missing
+no_journal : (forms : LineForms) (audit : Bool) (settings : Settings) (old new : LinesState) (bytes more out text : List ℕ) → ReadsLine old new bytes more out text (Ok End) → AreRead forms audit (lines_of bytes) settings old.given → 0 < old.given → HasNoJournal audit forms (input_of audit new (bytes ++ more)) old.given
+no_journal forms false settings old new bytes more out text reads read some = whole_read forms settings old new bytes more out text reads read some
+no_journal forms true settings old new bytes more out text reads read some =
+    let end : ReachesEnd old new (bytes ++ more) = reads.means.0 in
+    subst (λ (n : ℕ). IsFaultOf forms (input_of true new (bytes ++ more)) (n + 1) (fault_number NotJournal)) end.number
+    (journal_missing forms settings old new bytes more out text reads read some)
+
+pub exit_end : {H A : Type 0} (forms : LineForms) (keeps_head : Data → H → Type 0) (keeps : Profile → ℕ → Data → A → Type 0) (audit : Bool) (before now after : Option (List ℕ)) (old new : LinesState) (settings : Settings) (heading : H) (kept : Vec A Global) (out text : List ℕ) → IsReading forms keeps_head keeps audit before now old settings heading kept.items → Reads now after old new out text (Ok End) → Exits forms keeps_head keeps audit before after new (Ok record { read = record { settings = settings; head = heading; kept = kept }; journal = None })
+exit_end forms keeps_head keeps audit before now after old new settings heading kept out text r call =
+    let reads : ReadsLine old new r.bytes call.0 out text (Ok End) = call.2 r.bytes r.taken in (
       r.bytes ++ call.0,
       takes_both before now after r.bytes call.0 r.takes call.1,
       reads.taken,
-      record {
-        heading = same_at old.given (lines_of r.bytes) (lines_of (r.bytes ++ call.0)) 0 reads.kept (omega (arith, r.given)) ∙ r.head;
-        lines = subst (AreRead forms false (lines_of (r.bytes ++ call.0)) settings) r.given here;
-        kept = are_kept_same (keeps settings.profile) (lines_of r.bytes) (lines_of (r.bytes ++ call.0)) old.given kept.items reads.kept (omega (arith, r.given)) r.holds;
-        ends = subst (IsWhole forms (input_of false new (r.bytes ++ call.0))) r.given (whole_read forms settings old new r.bytes call.0 out text reads r.read (omega (arith, r.given)));
-      },
+      read_now forms keeps_head keeps audit before now old new settings heading kept call.0 out text End r reads,
+      subst (HasNoJournal audit forms (input_of audit new (r.bytes ++ call.0))) r.given
+          (no_journal forms audit settings old new r.bytes call.0 out text reads r.read (omega (arith, r.given))),
     )
 
-pub exit_missing : {A : Type 0} (forms : LineForms) (keeps : Profile → ℕ → Data → A → Type 0) (audit : Bool) (before now after : Option (List ℕ)) (old new : LinesState) (settings : Settings) (heading : List ℕ) (kept : List A) (out text : List ℕ) → audit ≡ true → IsReading forms keeps audit before now old settings heading kept → Reads now after old new out text (Ok End) → Exits forms keeps audit before after new (Err (Bad (new.given + 1) (fault_number NotJournal)))
-exit_missing forms keeps false before now after old new settings heading kept out text asked r call = absurd cc
-exit_missing forms keeps true before now after old new settings heading kept out text asked r call =
-    let reads : ReadsLine old new r.bytes call.0 out text (Ok End) = call.2 r.bytes r.taken in
-    (r.bytes ++ call.0, takes_both before now after r.bytes call.0 r.takes call.1, reads.taken, journal_missing forms settings old new r.bytes call.0 out text reads r.read (omega (arith, r.given)))
-
-pub exit_memory : {A : Type 0} (forms : LineForms) (keeps : Profile → ℕ → Data → A → Type 0) (audit : Bool) (before now after : Option (List ℕ)) (old new : LinesState) (settings : Settings) (heading : List ℕ) (kept : List A) (answer : Result LineEnd LineFault) (out text : List ℕ) → IsReading forms keeps audit before now old settings heading kept → Reads now after old new out text answer → Exits forms keeps audit before after new (Err OutOfMemory)
-exit_memory forms keeps audit before now after old new settings heading kept answer out text r call =
+pub exit_memory : {H A : Type 0} (forms : LineForms) (keeps_head : Data → H → Type 0) (keeps : Profile → ℕ → Data → A → Type 0) (audit : Bool) (before now after : Option (List ℕ)) (old new : LinesState) (settings : Settings) (heading : H) (kept : List A) (answer : Result LineEnd LineFault) (out text : List ℕ) → IsReading forms keeps_head keeps audit before now old settings heading kept → Reads now after old new out text answer → Exits forms keeps_head keeps audit before after new (Err OutOfMemory)
+exit_memory forms keeps_head keeps audit before now after old new settings heading kept answer out text r call =
     let reads : ReadsLine old new r.bytes call.0 out text answer = call.2 r.bytes r.taken in
     (r.bytes ++ call.0, takes_both before now after r.bytes call.0 r.takes call.1, reads.taken, tt)
 
@@ -190,8 +196,8 @@ nothing_set = record { workers = 1; profile = Own }
 none_read : (forms : LineForms) (audit : Bool) (texts : List (List ℕ)) (n : ℕ) → n ≡ 0 → AreRead forms audit texts nothing_set n
 none_read forms audit texts n none = record { head = λ h. absurd (omega arith); others = λ i some within. absurd (omega arith) }
 
-abbrev pub HeadExits : LineForms → Option (List ℕ) → Option (List ℕ) → LinesState → List ℕ → Result Settings ScriptFault → Type 0
-HeadExits forms before after new text result = (bytes : List ℕ) × Takes before after bytes × HasTaken new bytes × IsHeadAnswer forms new bytes text result
+abbrev pub HeadExits : {H : Type 0} → LineForms → (Data → H → Type 0) → Option (List ℕ) → Option (List ℕ) → LinesState → Result (FormedHead H) ScriptFault → Type 0
+HeadExits forms keeps_head before after new result = (bytes : List ℕ) × Takes before after bytes × HasTaken new bytes × IsHeadAnswer forms keeps_head new bytes result
 
 fresh_given : (state : LinesState) → IsFresh state → state.given ≡ 0
 fresh_given state e = ap (λ (s : LinesState). s.given) e
@@ -199,17 +205,17 @@ fresh_given state e = ap (λ (s : LinesState). s.given) e
 pub fresh_untold : (state : LinesState) → IsFresh state → state.told ≡ None
 fresh_untold state e = ap (λ (s : LinesState). s.told) e
 
-pub head_read : (forms : LineForms) (before after : Option (List ℕ)) (old new : LinesState) (settings : Settings) (out text : List ℕ) → IsFresh old → Reads before after old new out text (Ok Line) → first.Header settings ≡ first_content forms text → HeadExits forms before after new text (Ok settings)
-head_read forms before after old new settings out text fresh call told =
+pub head_read : {H : Type 0} (forms : LineForms) (keeps_head : Data → H → Type 0) (before after : Option (List ℕ)) (old new : LinesState) (head : FormedHead H) (out text : List ℕ) → IsFresh old → Reads before after old new out text (Ok Line) → first.Header head.settings ≡ first_content forms text → IsHeadKept keeps_head (tree_of text) head.kept → HeadExits forms keeps_head before after new (Ok head)
+head_read forms keeps_head before after old new head out text fresh call told kept =
     let reads : ReadsLine old new [] call.0 out text (Ok Line) = call.2 [] (fresh_taken old fresh) in
     let means : GivesLine old new call.0 text = reads.means in
     let zero : old.given ≡ 0 = fresh_given old fresh in
     let g : IsGiven forms (input_of false new call.0) nothing_set old.given text = given_line forms false nothing_set old new [] call.0 out text reads (none_read forms false [] old.given zero) in
     let here : get_or (lines_of call.0) 0 [] ≡ text = ap (λ (i : ℕ). get_or (lines_of call.0) i []) (sym zero) ∙ g.here in
-    (call.0, call.1, reads.taken, (means.untold, means.number ∙ ap (λ (n : ℕ). n + 1) zero, ap (first_content forms) here ∙ sym told, here))
+    (call.0, call.1, reads.taken, (means.untold, means.number ∙ ap (λ (n : ℕ). n + 1) zero, ap (first_content forms) here ∙ sym told, subst (λ (t : List ℕ). IsHeadKept keeps_head (tree_of t) head.kept) (sym here) kept))
 
-pub head_fault : (forms : LineForms) (before after : Option (List ℕ)) (old new : LinesState) (kind : FaultKind) (out text : List ℕ) → IsFresh old → Reads before after old new out text (Ok Line) → first.Fault kind ≡ first_content forms text → HeadExits forms before after new text (Err (Bad 1 (fault_number kind)))
-head_fault forms before after old new kind out text fresh call told =
+pub head_fault : {H : Type 0} (forms : LineForms) (keeps_head : Data → H → Type 0) (before after : Option (List ℕ)) (old new : LinesState) (kind : FaultKind) (out text : List ℕ) → IsFresh old → Reads before after old new out text (Ok Line) → first.Fault kind ≡ first_content forms text → HeadExits forms keeps_head before after new (Err (Bad 1 (fault_number kind)))
+head_fault forms keeps_head before after old new kind out text fresh call told =
     let reads : ReadsLine old new [] call.0 out text (Ok Line) = call.2 [] (fresh_taken old fresh) in
     let zero : old.given ≡ 0 = fresh_given old fresh in (
       call.0,
@@ -220,25 +226,25 @@ head_fault forms before after old new kind out text fresh call told =
           (sym told),
     )
 
-pub head_missing : (forms : LineForms) (before after : Option (List ℕ)) (old new : LinesState) (out text : List ℕ) → IsFresh old → Reads before after old new out text (Ok End) → HeadExits forms before after new text (Err (Bad 1 (fault_number NoByte)))
-head_missing forms before after old new out text fresh call =
+pub head_missing : {H : Type 0} (forms : LineForms) (keeps_head : Data → H → Type 0) (before after : Option (List ℕ)) (old new : LinesState) (out text : List ℕ) → IsFresh old → Reads before after old new out text (Ok End) → HeadExits forms keeps_head before after new (Err (Bad 1 (fault_number NoByte)))
+head_missing forms keeps_head before after old new out text fresh call =
     let reads : ReadsLine old new [] call.0 out text (Ok End) = call.2 [] (fresh_taken old fresh) in
     (call.0, call.1, reads.taken, λ audit. nothing_told forms audit old new [] call.0 out text reads (fresh_given old fresh))
 
-pub head_limit : (forms : LineForms) (before after : Option (List ℕ)) (old new : LinesState) (fault : LineFault) (out text : List ℕ) → IsFresh old → Reads before after old new out text (Err fault) → HeadExits forms before after new text (Err (script_fault new.given fault))
-head_limit forms before after old new fault out text fresh call =
+pub head_limit : {H : Type 0} (forms : LineForms) (keeps_head : Data → H → Type 0) (before after : Option (List ℕ)) (old new : LinesState) (fault : LineFault) (out text : List ℕ) → IsFresh old → Reads before after old new out text (Err fault) → HeadExits forms keeps_head before after new (Err (script_fault new.given fault))
+head_limit forms keeps_head before after old new fault out text fresh call =
     let reads : ReadsLine old new [] call.0 out text (Err fault) = call.2 [] (fresh_taken old fresh) in
     (call.0, call.1, reads.taken, λ audit. fault_told forms audit nothing_set old new [] call.0 out text fault reads (none_read forms audit [] old.given (fresh_given old fresh)))
 
-pub head_memory : (forms : LineForms) (before after : Option (List ℕ)) (old new : LinesState) (answer : Result LineEnd LineFault) (out text : List ℕ) → IsFresh old → Reads before after old new out text answer → HeadExits forms before after new text (Err OutOfMemory)
-head_memory forms before after old new answer out text fresh call =
+pub head_memory : {H : Type 0} (forms : LineForms) (keeps_head : Data → H → Type 0) (before after : Option (List ℕ)) (old new : LinesState) (answer : Result LineEnd LineFault) (out text : List ℕ) → IsFresh old → Reads before after old new out text answer → HeadExits forms keeps_head before after new (Err OutOfMemory)
+head_memory forms keeps_head before after old new answer out text fresh call =
     let reads : ReadsLine old new [] call.0 out text answer = call.2 [] (fresh_taken old fresh) in
     (call.0, call.1, reads.taken, λ audit. tt)
 
 -- the same of a header
-pub head_open : (forms : LineForms) (before after : Option (List ℕ)) (new : LinesState) (text : List ℕ) (result : Result Settings ScriptFault) → HeadExits forms before after new text result → result ≡ Err Read → ¬ (IsTrue new.ended)
-head_open forms before after new text result exits failed =
-    let told : IsTold forms (input_of false new exits.0) Read = (subst (λ (r : Result Settings ScriptFault). IsHeadAnswer forms new exits.0 text r) failed exits.3) false in
+pub head_open : {H : Type 0} (forms : LineForms) (keeps_head : Data → H → Type 0) (before after : Option (List ℕ)) (new : LinesState) (result : Result (FormedHead H) ScriptFault) → HeadExits forms keeps_head before after new result → result ≡ Err Read → ¬ (IsTrue new.ended)
+head_open {H = H} forms keeps_head before after new result exits failed =
+    let told : IsTold forms (input_of false new exits.0) Read = (subst (λ (r : Result (FormedHead H) ScriptFault). IsHeadAnswer forms keeps_head new exits.0 r) failed exits.3) false in
     told.1
 
 -- what a line is, by equal places and texts

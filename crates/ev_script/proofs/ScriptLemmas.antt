@@ -22,8 +22,8 @@ use Rattle.ev_script.specs.Faults.{LineForms, Input, index_at, has_format, worke
 use Rattle.ev_script.specs.Script.{lines_from, script_made, script_with, script_from, begins_journal, before_journal, script_texts, script_of}
 use Rattle.ev_script.specs.Content.{is_above, IsLineOf, IsKeptOf}
 use Rattle.ev_script.specs.ReadLines.{AreRead, AreLinesKept}
-use Rattle.ev_script.specs.ReadInput.{IsWhole, IsUpToJournal, EndsBefore, IsReadOf}
-use Rattle.ev_script.specs.ReadScript.{HeadsScripts, KeepsLines, IsHeaderOf, IsScriptAnswer, AreNumbered, AreOfForms}
+use Rattle.ev_script.specs.ReadInput.{IsWhole, IsUpToJournal, IsReadOf}
+use Rattle.ev_script.specs.ReadScript.{HeadsScripts, KeepsLines, IsHeadOf, IsHeaderOf, IsScriptAnswer, AreNumbered}
 use Rattle.ev_script.proofs.PlaceLemmas.{ends_within}
 use Rattle.ev_script.proofs.ContentLemmas.{first_is}
 use Rattle.ev_script.proofs.SoundLemmas.{some_same}
@@ -52,12 +52,6 @@ are_numbered forms keeps audit texts settings kept plain read are = record {
   places = λ k other h. (line_at forms keeps audit texts settings kept plain read are k other h).0;
   allowed = λ k other h. (line_at forms keeps audit texts settings kept plain read are k other h).1;
 }
-
--- each line is of the forms, by its own number
-pub are_of_forms : (forms : LineForms) (keeps : Profile → ℕ → Data → Line → Type 0) (audit : Bool) (texts : List (List ℕ)) (settings : Settings) (kept : List Line) → KeepsLines forms keeps → AreRead forms audit texts settings (length kept + 1) → AreLinesKept (keeps settings.profile) texts kept → AreOfForms (keeps settings.profile) kept
-are_of_forms forms keeps audit texts settings kept plain read are = λ i other h.
-    let k : IsKeptOf (keeps settings.profile) (i + 2) (tree_of (get_or texts (i + 1) [])) (get_or kept i other) = are i other h in
-    (k.tree, subst (λ (n : ℕ). keeps settings.profile n k.tree (get_or kept i other)) (sym (line_at forms keeps audit texts settings kept plain read are i other h).0) k.holds)
 
 -- ---- what a script keeps
 
@@ -174,66 +168,60 @@ header_read forms audit texts settings n plain read some = by_tree (tree_of (get
     by_tree None e = cc
     by_tree (Some tree) e = by_header (header_of tree) (sym (plain tree) ∙ e)
 
--- so it sets what the header does
-pub same_settings : {A : Type 0} (forms : LineForms) (keeps : Profile → ℕ → Data → A → Type 0) (input : Input) (read : ReadLines A) (header : Header) → HeadsScripts forms → IsReadOf forms keeps input read → IsHeaderOf read.heading.items header → read.settings ≡ settings_of header
-same_settings forms keeps input read header plain of heads =
-    let found = header_read forms input.audit (lines_of input.bytes) read.settings (length read.kept.items + 1) plain of.lines (omega arith) in
-    let same : found.0 ≡ header = some_same found.0 header (option_and_then header_of (tree_of read.heading.items)) (sym (ap (λ (text : List ℕ). option_and_then header_of (tree_of text)) of.heading) ∙ found.1) heads in
-    sym found.2 ∙ ap settings_of same
-
--- the lines are those of a script with this header
-pub numbered_read : (forms : LineForms) (keeps : Profile → ℕ → Data → Line → Type 0) (input : Input) (read : ReadLines Line) (header : Header) → HeadsScripts forms → KeepsLines forms keeps → IsReadOf forms keeps input read → IsHeaderOf read.heading.items header → AreNumbered header.workers read.kept.items
-numbered_read forms keeps input read header heads plain of is =
-    subst (λ (settings : Settings). AreNumbered settings.workers read.kept.items) (same_settings forms keeps input read header heads of is)
-    (are_numbered forms keeps input.audit (lines_of input.bytes) read.settings read.kept.items plain of.lines of.kept)
-
 -- what a script keeps of a line is the line
 pub keeps_plain : KeepsLines plain_lines IsLine
 keeps_plain profile at tree line e = (e, ap (option_map (λ (l : Line). worker_of l.actor)) e)
 
--- ---- the answers
+-- ---- what was read of a script
+
+abbrev pub IsScriptRead : Input → ReadLines Header Line → Type 0
+IsScriptRead input read = IsReadOf plain_lines IsHeadOf IsLine input read
+
+-- the first line is its header
+header_is : (input : Input) (read : ReadLines Header Line) → IsScriptRead input read → IsHeaderOf (get_or (lines_of input.bytes) 0 []) read.head
+header_is input read of = ap (option_and_then header_of) of.head.is ∙ of.head.holds.0
+
+-- so it sets what the header does
+same_settings : (input : Input) (read : ReadLines Header Line) → IsScriptRead input read → read.settings ≡ settings_of read.head
+same_settings input read of =
+    let found = header_read plain_lines input.audit (lines_of input.bytes) read.settings (length read.kept.items + 1) (λ tree. refl) of.lines (omega arith) in
+    let same : found.0 ≡ read.head = some_same found.0 read.head (option_and_then header_of (tree_of (get_or (lines_of input.bytes) 0 []))) found.1 (header_is input read of) in
+    sym found.2 ∙ ap settings_of same
+
+-- the lines are those of a script with this header
+pub numbered_read : (input : Input) (read : ReadLines Header Line) → IsScriptRead input read → AreNumbered read.head.workers read.kept.items
+numbered_read input read of =
+    subst (λ (settings : Settings). AreNumbered settings.workers read.kept.items) (same_settings input read of)
+    (are_numbered plain_lines IsLine input.audit (lines_of input.bytes) read.settings read.kept.items keeps_plain of.lines of.kept)
 
 -- the lines that were read, by what the header sets
-lines_read : (forms : LineForms) (keeps : Profile → ℕ → Data → Line → Type 0) (input : Input) (read : ReadLines Line) (header : Header) → HeadsScripts forms → IsReadOf forms keeps input read → IsHeaderOf read.heading.items header → AreRead forms input.audit (lines_of input.bytes) (settings_of header) (length read.kept.items + 1)
-lines_read forms keeps input read header heads of is =
-    subst (λ (settings : Settings). AreRead forms input.audit (lines_of input.bytes) settings (length read.kept.items + 1)) (same_settings forms keeps input read header heads of is) of.lines
+lines_read : (input : Input) (read : ReadLines Header Line) → IsScriptRead input read → AreRead plain_lines input.audit (lines_of input.bytes) (settings_of read.head) (length read.kept.items + 1)
+lines_read input read of =
+    subst (λ (settings : Settings). AreRead plain_lines input.audit (lines_of input.bytes) settings (length read.kept.items + 1)) (same_settings input read of) of.lines
 
 -- what was kept of them
-lines_kept : (forms : LineForms) (keeps : Profile → ℕ → Data → Line → Type 0) (input : Input) (read : ReadLines Line) (header : Header) → HeadsScripts forms → IsReadOf forms keeps input read → IsHeaderOf read.heading.items header → AreLinesKept (keeps header.profile) (lines_of input.bytes) read.kept.items
-lines_kept forms keeps input read header heads of is =
-    subst (λ (settings : Settings). AreLinesKept (keeps settings.profile) (lines_of input.bytes) read.kept.items) (same_settings forms keeps input read header heads of is) of.kept
+lines_kept : (input : Input) (read : ReadLines Header Line) → IsScriptRead input read → AreLinesKept (IsLine read.head.profile) (lines_of input.bytes) read.kept.items
+lines_kept input read of =
+    subst (λ (settings : Settings). AreLinesKept (IsLine settings.profile) (lines_of input.bytes) read.kept.items) (same_settings input read of) of.kept
+
+-- ---- the answers
 
 -- the script of a whole input
-pub answer_whole : (forms : LineForms) (keeps : Profile → ℕ → Data → Line → Type 0) (input : Input) (read : ReadLines Line) (header : Header) (script : ScriptParts) → input.audit ≡ false → HeadsScripts forms → KeepsLines forms keeps → IsReadOf forms keeps input read → IsHeaderOf read.heading.items header → script ≡ script_made header read.kept.items → IsScriptAnswer forms input (Ok script)
-answer_whole forms keeps input read header script no_audit heads plain of is made =
-    let ends : IsWhole forms input (length read.kept.items + 1) = by_end read.journal of.ends in
-    let first : IsHeaderOf (get_or (lines_of input.bytes) 0 []) header = subst (λ (text : List ℕ). IsHeaderOf text header) (sym of.heading) is in
-    subst (λ (s : ScriptParts). IsScriptAnswer forms input (Ok s)) (sym made)
-    (ends, whole_script forms keeps input.audit (lines_of input.bytes) header read.kept.items plain first (lines_read forms keeps input read header heads of is) (lines_kept forms keeps input read header heads of is) ends.lines)
-  where
-    by_end : (journal : Option (Vec ℕ Global)) → EndsBefore forms input (length read.kept.items + 1) journal → IsWhole forms input (length read.kept.items + 1)
-    by_end None ends = ends
-    by_end (Some text) ends = let no : false ≡ true = sym no_audit ∙ ends.begins.audit in cc
+pub answer_whole : (input : Input) (read : ReadLines Header Line) (script : ScriptParts) → IsScriptRead input read → IsWhole plain_lines input (length read.kept.items + 1) → script ≡ script_made read.head read.kept.items → IsScriptAnswer plain_lines input (Ok script)
+answer_whole input read script of ends made =
+    subst (λ (s : ScriptParts). IsScriptAnswer plain_lines input (Ok s)) (sym made)
+    (ends, whole_script plain_lines IsLine input.audit (lines_of input.bytes) read.head read.kept.items keeps_plain (header_is input read of) (lines_read input read of) (lines_kept input read of) ends.lines)
 
 -- the script before a journal
-pub answer_audited : (keeps : Profile → ℕ → Data → Line → Type 0) (input : Input) (read : ReadLines Line) (header : Header) (script : ScriptParts) (text : Vec ℕ Global) → KeepsLines plain_lines keeps → IsReadOf plain_lines keeps input read → IsHeaderOf read.heading.items header → read.journal ≡ Some text → script ≡ script_made header read.kept.items → IsUpToJournal plain_lines input script.count text.items × (script_of true input.bytes ≡ Some script)
-answer_audited keeps input read header script text plain of is some made =
-    let ends : IsUpToJournal plain_lines input (length read.kept.items + 1) text.items = subst (EndsBefore plain_lines input (length read.kept.items + 1)) some of.ends in
+pub answer_audited : (input : Input) (read : ReadLines Header Line) (script : ScriptParts) (text : List ℕ) → IsScriptRead input read → IsUpToJournal plain_lines input (length read.kept.items + 1) text → script ≡ script_made read.head read.kept.items → IsUpToJournal plain_lines input script.count text × (script_of true input.bytes ≡ Some script)
+answer_audited input read script text of ends made =
     let asked : input.audit ≡ true = ends.begins.audit in
     let within : index_at input ends.place < length (lines_of input.bytes) = ends_within input ends.place ends.begins.ends in
     let behind : index_at input ends.place ≡ length read.kept.items + 1 = ends.behind in
     let tree : tree_of (get_or (lines_of input.bytes) (length read.kept.items + 1) []) ≡ Some ends.begins.format.0 = ap (λ (i : ℕ). tree_of (get_or (lines_of input.bytes) i [])) (sym behind) ∙ ends.begins.format.1 in
-    let first : IsHeaderOf (get_or (lines_of input.bytes) 0 []) header = subst (λ (line : List ℕ). IsHeaderOf line header) (sym of.heading) is in
-    let lines : AreRead plain_lines true (lines_of input.bytes) (settings_of header) (length read.kept.items + 1) =
-    subst (λ (a : Bool). AreRead plain_lines a (lines_of input.bytes) (settings_of header) (length read.kept.items + 1)) asked
-    (lines_read plain_lines keeps input read header (λ tree. refl) of is) in
-    subst (λ (s : ScriptParts). IsUpToJournal plain_lines input s.count text.items × (script_of true input.bytes ≡ Some s)) (sym made) (
+    let lines : AreRead plain_lines true (lines_of input.bytes) (settings_of read.head) (length read.kept.items + 1) =
+    subst (λ (a : Bool). AreRead plain_lines a (lines_of input.bytes) (settings_of read.head) (length read.kept.items + 1)) asked (lines_read input read of) in
+    subst (λ (s : ScriptParts). IsUpToJournal plain_lines input s.count text × (script_of true input.bytes ≡ Some s)) (sym made) (
       ends,
-      script_before plain_lines keeps (lines_of input.bytes) header read.kept.items plain first lines (lines_kept plain_lines keeps input read header (λ tree. refl) of is) (omega arith) (ap begins_journal tree ∙ ends.begins.format.2),
+      script_before plain_lines IsLine (lines_of input.bytes) read.head read.kept.items keeps_plain (header_is input read of) lines (lines_kept input read of) (omega arith) (ap begins_journal tree ∙ ends.begins.format.2),
     )
-
--- its lines are of the forms
-pub answer_forms : (forms : LineForms) (keeps : Profile → ℕ → Data → Line → Type 0) (input : Input) (read : ReadLines Line) (header : Header) (script : ScriptParts) → HeadsScripts forms → KeepsLines forms keeps → IsReadOf forms keeps input read → IsHeaderOf read.heading.items header → script ≡ script_made header read.kept.items → AreOfForms (keeps script.profile) script.lines
-answer_forms forms keeps input read header script heads plain of is made =
-    subst (λ (s : ScriptParts). AreOfForms (keeps s.profile) s.lines) (sym made)
-    (are_of_forms forms keeps input.audit (lines_of input.bytes) (settings_of header) read.kept.items plain (lines_read forms keeps input read header heads of is) (lines_kept forms keeps input read header heads of is))

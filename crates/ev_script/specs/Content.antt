@@ -1,28 +1,45 @@
 -- What the content of one line is, by its text.
-use Rattle.std.specs.Prelude.{◌≡◌, ℕ, ◌&&◌, List, Bool, true, false, nat_le, Option, None, Some}
+use Rattle.std.specs.Prelude.{◌≡◌, ℕ, ◌&&◌, List, Bool, true, false, nat_le, Option, None, Some, ⊤}
 use Rattle.serde_json.specs.Data.{Data}
 use Rattle.ev_types.specs.declared.events.Profile.{Profile}
 use Rattle.ev_script.specs.declared.content.Content.{Content}
 use Rattle.ev_script.specs.declared.content.Content.TheVariants as is
 use Rattle.ev_script.specs.declared.content.First.{First}
 use Rattle.ev_script.specs.declared.content.First.TheVariants as first
+use Rattle.ev_script.specs.declared.forms.FormedHead.{FormedHead}
 use Rattle.ev_script.specs.declared.forms.Settings.{Settings}
 use Rattle.ev_script.specs.declared.fault_kinds.FaultKind.TheVariants.{NotJson, NotHeader, NotLine, NoSuchWorker}
 use Rattle.ev_script.specs.Members.{tree_of}
 use Rattle.ev_script.specs.Faults.{LineForms, has_format}
 
 -- what the first line is, by what it sets as a header
-abbrev pub first_of : Option Settings → First
+abbrev pub first_of : Option Settings → First Settings
 first_of None = first.Fault NotHeader
 first_of (Some settings) = first.Header settings
 
-abbrev pub first_tree : LineForms → Option Data → First
+abbrev pub first_tree : LineForms → Option Data → First Settings
 first_tree forms None = first.Fault NotJson
 first_tree forms (Some tree) = first_of (forms.heads tree)
 
--- what the first line is by these forms: a header, or a fault
-abbrev pub first_content : LineForms → List ℕ → First
+-- what the first line is by these forms: a header, which sets this, or a fault
+abbrev pub first_content : LineForms → List ℕ → First Settings
 first_content forms text = first_tree forms (tree_of text)
+
+-- what a header sets
+abbrev pub first_set : {A : Type 0} → First (FormedHead A) → First Settings
+first_set (first.Header head) = first.Header head.settings
+first_set (first.Fault kind) = first.Fault kind
+
+-- this is kept of the first line
+pub record IsHeadKept {A : Type 0} (keeps : Data → A → Type 0) (found : Option Data) (kept : A) : Type 0 where
+  pub tree : Data
+  pub is : found ≡ Some tree
+  pub holds : keeps tree kept
+
+-- what a header keeps
+abbrev pub IsFirstKept : {A : Type 0} → (Data → A → Type 0) → Option Data → First (FormedHead A) → Type 0
+IsFirstKept keeps found (first.Header head) = IsHeadKept keeps found head.kept
+IsFirstKept keeps found (first.Fault kind) = ⊤
 
 -- a worker that isn't below the count
 abbrev pub is_above : ℕ → Option ℕ → Bool

@@ -9,7 +9,7 @@ use Rattle.ev_types.specs.declared.events.Profile.{Profile}
 use Rattle.ev_script.specs.declared.header.Header.{Header}
 use Rattle.ev_script.specs.declared.script.AuditedScript.{AuditedScript}
 use Rattle.ev_script.specs.Members.{tree_of}
-use Rattle.ev_script.specs.Header.{header_of}
+use Rattle.ev_script.specs.Header.{header_of, IsHeader}
 use Rattle.ev_script.specs.Lines.{line_of}
 use Rattle.ev_script.specs.Faults.{LineForms, Input, worker_of, plain_lines}
 use Rattle.ev_script.specs.Script.{script_of}
@@ -25,6 +25,10 @@ abbrev pub KeepsLines : LineForms → (Profile → ℕ → Data → Line → Typ
 KeepsLines forms keeps = (profile : Profile) (at : ℕ) (tree : Data) (line : Line)
     → keeps profile at tree line
     → (line_of profile at tree ≡ Some line) × (forms.lines profile at tree ≡ Some (worker_of line.actor))
+
+-- the tree is that of this header
+abbrev pub IsHeadOf : Data → Header → Type 0
+IsHeadOf tree header = (header_of tree ≡ Some header) × IsHeader header
 
 -- the text is that of this header
 abbrev pub IsHeaderOf : List ℕ → Header → Type 0
@@ -45,7 +49,3 @@ IsAuditedAnswer input (Err fault) = IsTold plain_lines input fault
 pub record AreNumbered (workers : ℕ) (lines : List Line) : Type 0 where
   pub places : (k : ℕ) (line : Line) → k < length lines → (slice_index_or lines k line).at ≡ k + 2
   pub allowed : All (λ (line : Line). MayMake workers line.actor line.event) lines
-
--- each of the lines may be kept, by its number, of some tree
-abbrev pub AreOfForms : (ℕ → Data → Line → Type 0) → List Line → Type 0
-AreOfForms keeps lines = All (λ (line : Line). (tree : Data) × keeps line.at tree line) lines

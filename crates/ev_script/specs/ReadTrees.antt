@@ -6,13 +6,22 @@ use Rattle.serde_json.specs.declared.value.Value.{Value}
 use Rattle.ev_types.specs.declared.events.Profile.{Profile}
 use Rattle.ev_io.specs.Lines.{lines_of}
 use Rattle.ev_io.specs.declared.faults.ScriptFault.{ScriptFault}
+use Rattle.ev_script.specs.declared.trees.HeadTree.{HeadTree}
 use Rattle.ev_script.specs.declared.trees.ScriptTrees.{ScriptTrees}
 use Rattle.ev_script.specs.Members.{tree_of}
 use Rattle.ev_script.specs.Header.{header_of}
 use Rattle.ev_script.specs.Faults.{LineForms, Input}
 use Rattle.ev_script.specs.ReadInput.{IsTold, IsWhole}
 
--- what is kept of a line is its tree
+-- the tree is that of a header, and this is the header
+abbrev pub IsTreeHead : Data → HeadTree → Type 0
+IsTreeHead tree head = (view head.tree ≡ tree) × (header_of tree ≡ Some head.header)
+
+-- what is kept of the first line is its tree and its header
+abbrev pub KeepsHeads : (Data → HeadTree → Type 0) → Type 0
+KeepsHeads keeps = (tree : Data) (head : HeadTree) → keeps tree head → IsTreeHead tree head
+
+-- what is kept of another line is its tree
 abbrev pub KeepsTrees : (Profile → ℕ → Data → Value → Type 0) → Type 0
 KeepsTrees keeps = (profile : Profile) (at : ℕ) (tree : Data) (kept : Value) → keeps profile at tree kept → view kept ≡ tree
 

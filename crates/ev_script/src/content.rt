@@ -2,19 +2,19 @@ ghost use Rattle.std.specs.Prelude.{◌≡◌, ◌&&◌, IfOk};
 ghost use Rattle.serde_json.specs.View.{view};
 ghost use Rattle.ev_script.specs.Members.{tree_of};
 ghost use Rattle.ev_script.specs.Faults.{has_format};
-ghost use Rattle.ev_script.specs.Content.{first_of, first_content, is_above, IsContent};
+ghost use Rattle.ev_script.specs.Content.{first_content, first_set, is_above, IsFirstKept, IsContent};
 
 use crate::fault_kinds::FaultKind;
-use crate::forms::{Forms, Settings};
+use crate::forms::{FormedHead, Forms, Settings};
 use crate::members::read_tree;
 use serde_json::Value;
 use std::alloc::{AllocError, Global};
 
 // What the first line of an input is.
 #[derive(Drop)]
-pub(crate) enum First {
-    /// A header, which sets this.
-    Header(Settings),
+pub(crate) enum First<T> {
+    /// A header.
+    Header(T),
     /// No header, with this fault.
     Fault(FaultKind),
 }
@@ -35,22 +35,16 @@ pub(crate) fn read_first<F: Forms>(
     alloc: Global,
     forms: &F,
     text: &[u8],
-) -> Result<First, AllocError>
-    ensures { IfOk result (λ first. first ≡ first_content F.forms text.now) }
+) -> Result<First<FormedHead<F::Head>>, AllocError>
+    ensures sets { IfOk result (λ first. first_set first ≡ first_content F.forms text.now) }
+    ensures kept { IfOk result (IsFirstKept F.keeps_head (tree_of text.now)) }
 {
-    match read_tree(alloc, text)? {
-        Some(tree) => Ok(first_of(forms.read_head(alloc, &tree)?)),
-        None => Ok(First::Fault(FaultKind::NotJson)),
-    }
-}
-
-// What a first line is, by what it sets as a header.
-fn first_of(settings: Option<Settings>) -> First
-    ensures { result ≡ first_of settings }
-{
-    match settings {
-        Some(settings) => First::Header(settings),
-        None => First::Fault(FaultKind::NotHeader),
+    let Some(tree) = read_tree(alloc, text)? else {
+        return Ok(First::Fault(FaultKind::NotJson));
+    };
+    match forms.read_head(alloc, tree)? {
+        Some(head) => Ok(First::Header(head)),
+        None => Ok(First::Fault(FaultKind::NotHeader)),
     }
 }
 

@@ -4,7 +4,7 @@ ghost use Rattle.serde_json.specs.View.{view};
 ghost use Rattle.ev_types.specs.declared.events.Profile.{Profile};
 ghost use Rattle.ev_script.specs.Faults.{LineForms, worker_of};
 
-use crate::header::read_settings;
+use crate::header::{Header, read_header, settings_of};
 use crate::lines::read_line;
 use ev_types::{Actor, Line, Profile};
 use serde_json::Value;
@@ -19,6 +19,13 @@ pub struct Settings {
     pub profile: Profile,
 }
 
+/// The first line: what is kept of it, and what it sets for the others.
+#[derive(Drop)]
+pub struct FormedHead<T> {
+    pub kept: T,
+    pub settings: Settings,
+}
+
 /// A line after the first: what is kept of it, and the worker that it names, where it names one.
 #[derive(Drop)]
 pub struct FormedLine<T> {
@@ -26,23 +33,34 @@ pub struct FormedLine<T> {
     pub worker: Option<u32>,
 }
 
-/// Which lines an input may have, and what is kept of each after the first.
+/// Which lines an input may have, and what is kept of each.
 pub trait Forms {
-    /// What is kept of a line.
+    /// What is kept of the first line.
+    type Head: Drop;
+
+    /// What is kept of another one.
     type Kept: Drop;
 
     // What a tree is as the first line, and as another one.
     ghost forms: { LineForms };
 
-    // This may be kept of the line, by the profile, the line's number and its tree.
+    // This may be kept of the first line, by its tree.
+    ghost keeps_head: { Data → Self.Head → Type 0 };
+
+    // This may be kept of another line, by the profile, the line's number and its tree.
     ghost keeps: { Profile → ℕ → Data → Self.Kept → Type 0 };
 
-    /// What a tree sets as the first line, or none where it is no header.
+    /// The first line that a tree is, or none where it is no header.
     ///
     /// # Errors
     /// `AllocError` where there is no memory for it.
-    fn read_head(&self, alloc: Global, tree: &Value) -> Result<Option<Settings>, AllocError>
-        ensures settings { IfOk result (λ settings. settings ≡ forms.heads (view tree.now)) };
+    fn read_head(
+        &self,
+        alloc: Global,
+        tree: Value,
+    ) -> Result<Option<FormedHead<Self::Head>>, AllocError>
+        ensures settings { IfOk result (λ head. option_map (λ head. head.settings) head ≡ forms.heads (view tree)) }
+        ensures kept { IfOk result (λ head. IfSome head (λ head. keeps_head (view tree) head.kept)) };
 
     /// The line that a tree is, by the profile that the first line sets and its own number, or none
     /// where it isn't one. Whether its worker is one of the script's is not looked at.
@@ -61,7 +79,7 @@ pub trait Forms {
         ensures kept { IfOk result (λ line. IfSome line (λ line. keeps profile at (view tree) line.kept)) };
 }
 
-/// The lines of a script, each kept as what it says.
+/// The lines of a script, each kept as what it says, the first as its header.
 #[derive(Clone, Copy, Debug)]
 pub struct ScriptLines;
 
@@ -69,15 +87,29 @@ impl Forms for ScriptLines {
     ghost use Rattle.std.specs.Prelude.{Some};
     ghost use Rattle.ev_script.specs.Faults.{plain_lines};
     ghost use Rattle.ev_script.specs.Lines.{line_of};
+    ghost use Rattle.ev_script.specs.ReadScript.{IsHeadOf};
 
+    type Head = Header;
     type Kept = Line;
 
     ghost forms = { plain_lines };
 
+    ghost keeps_head = { IsHeadOf };
+
     ghost keeps = { λ profile at tree line. line_of profile at tree ≡ Some line };
 
-    fn read_head(&self, alloc: Global, tree: &Value) -> Result<Option<Settings>, AllocError> {
-        read_settings(alloc, tree)
+    fn read_head(
+        &self,
+        alloc: Global,
+        tree: Value,
+    ) -> Result<Option<FormedHead<Header>>, AllocError> {
+        match read_header(alloc, &tree)? {
+            Some(header) => Ok(Some(FormedHead {
+                settings: settings_of(&header),
+                kept: header,
+            })),
+            None => Ok(None),
+        }
     }
 
     fn read(

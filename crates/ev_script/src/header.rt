@@ -4,7 +4,6 @@ ghost use Rattle.ev_types.specs.Texts.{IsName};
 ghost use Rattle.ev_script.specs.Members.{name_of, member_or};
 ghost use Rattle.ev_types.specs.declared.events.Profile.TheVariants.{Own};
 ghost use Rattle.ev_script.specs.Header.{profile_with, profile_of, header_of, settings_of, IsHeader};
-ghost use Rattle.ev_script.specs.Faults.{plain_lines};
 
 use crate::forms::Settings;
 use crate::members::{flag_or, has_only, number_at, text_within};
@@ -62,17 +61,7 @@ pub fn read_header(alloc: Global, tree: &Value) -> Result<Option<Header>, AllocE
     }))
 }
 
-// What a header sets for the lines after it, or none where the tree isn't one.
-pub(crate) fn read_settings(alloc: Global, tree: &Value) -> Result<Option<Settings>, AllocError>
-    ensures { IfOk result (λ settings. settings ≡ plain_lines.heads (view tree.now)) }
-{
-    match read_header(alloc, tree)? {
-        Some(header) => Ok(Some(settings_of(&header))),
-        None => Ok(None),
-    }
-}
-
-// What a header sets.
+// What a header sets for the lines after it.
 pub(crate) fn settings_of(header: &Header) -> Settings
     ensures { result ≡ settings_of header.now }
 {

@@ -19,6 +19,7 @@
 //!   `fault_order`.
 //! - A place is a byte, or the end of the input after the last byte. Kinds 1, 2 and 3 are at the byte that goes
 //!   above the limit, by ev_io's own facts; kinds 4 to 7 at the byte that ends their line.
+//! - What is kept of the first line is a type of its own (`Forms::Head`), so that nothing reads it a second time.
 //! - Which lines there are is an argument of the definition of a fault (`LineForms`): what a tree sets as the first
 //!   line (`Settings`: how many workers there are, and the profile), and which worker it names as another one, or that
 //!   it is none. A command whose input has other lines gives other forms.
@@ -32,9 +33,7 @@
 //! - The reader of a whole input is one loop, `read_lines_with`, over a type that says which lines there are and what
 //!   is kept of each (`Forms`): a script keeps a line as what it says. A command that reads other lines gives such a
 //!   type; the lines of a script are `ScriptLines`.
-//! - `read_trees` is the same reader over a type that keeps a line as its tree (`LineTrees`). The first line's text
-//!   is kept until the end, and the header and its tree are read from it then: the loop would else need a second type
-//!   for what is kept of a header.
+//! - `read_trees` is the same reader over a type that keeps a line as its tree (`LineTrees`).
 //! - A script alone and a script with a journal after it are two calls with two types: `read_script` gives a
 //!   `Script`, and `read_audited_script` an `AuditedScript`. They take the place of one call `read_script` with a
 //!   flag and an answer that has both cases, of which each caller would have to rule out one. Trees are read of whole
@@ -72,7 +71,7 @@ mod trees;
 mod worker_lines;
 
 pub use fault_kinds::FaultKind;
-pub use forms::{FormedLine, Forms, ScriptLines, Settings};
+pub use forms::{FormedHead, FormedLine, Forms, ScriptLines, Settings};
 pub use header::{Header, read_header};
 pub use limits::{MAX_NUMBER, MAX_PATH_LENGTH, MAX_WORKER};
 pub use lines::read_line;
@@ -80,5 +79,5 @@ pub use members::{
     flag_at, has_only, is_op, name_at, number_at, read_name, read_tree, text_or, word_at,
 };
 pub use read_input::{ReadLines, read_lines_with};
-pub use script::{AuditedScript, read_audited_script, read_script, read_script_with};
-pub use trees::{LineTrees, ScriptTrees, read_trees, read_trees_with};
+pub use script::{AuditedScript, read_audited_script, read_script};
+pub use trees::{HeadTree, LineTrees, ScriptTrees, read_trees, read_trees_with};

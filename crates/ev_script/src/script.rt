@@ -1,19 +1,18 @@
-ghost use Rattle.std.specs.Prelude.{◌≡◌, ◌+◌, ◌<◌, ◌≤◌, ◌⊎◌, List, ℕ, None, Err, IsTrue, IsSome, true, false, OnErr, OnOk, IfOk, option_and_then, length};
+ghost use Rattle.std.specs.Prelude.{◌≡◌, ◌+◌, ◌<◌, ◌≤◌, ◌⊎◌, List, ℕ, None, Err, IsTrue, true, false, OnErr, OnOk, IfOk, length};
 ghost use Rattle.std.specs.Io.KnownBytes.{IsAtEnd};
 ghost use Rattle.ev_io.specs.Outside.{Rose, Takes};
 ghost use Rattle.ev_io.specs.LinesState.{IsFresh, HasTaken, IsWithin};
 ghost use Rattle.ev_io.specs.ReadLine.{LeavesOpen};
 ghost use Rattle.ev_types.specs.Scripts.{items_in, items_of};
-ghost use Rattle.ev_script.specs.Members.{tree_of};
 ghost use Rattle.ev_script.specs.Faults.{plain_lines};
-ghost use Rattle.ev_script.specs.Header.{header_of, IsHeader};
+ghost use Rattle.ev_script.specs.Header.{IsHeader};
 ghost use Rattle.ev_script.specs.ReadInput.{input_of};
-ghost use Rattle.ev_script.specs.ReadScript.{HeadsScripts, KeepsLines, IsHeaderOf, IsScriptAnswer, IsAuditedAnswer, AreNumbered, AreOfForms, script_made};
+ghost use Rattle.ev_script.specs.ReadScript.{IsScriptAnswer, IsAuditedAnswer, AreNumbered, script_made};
 
-use crate::forms::{Forms, ScriptLines};
-use crate::header::{Header, read_header};
-use crate::members::read_tree;
-use crate::read_input::{ReadLines, read_lines_with};
+use crate::fault_kinds::FaultKind;
+use crate::forms::ScriptLines;
+use crate::header::Header;
+use crate::read_input::{ReadLines, UpToJournal, fault_at, read_lines_with, read_up_to_journal};
 use ev_io::{Lines, MAX_LINES, ScriptFault, Source};
 use ev_types::{Event, Line, Script, Seq};
 use std::alloc::{AllocError, Global};
@@ -43,43 +42,9 @@ pub fn read_script<S: Source>(
     ensures same_count { (S.faults source.new ≡ S.faults source.old) ⊎ (result ≡ Err ScriptFault.Read) }
     ensures count { S.faults source.old ≤ S.faults source.new }
 {
-    read_script_with(alloc, &ScriptLines, lines, source)
-}
-
-/// The same, where the lines of the script have these forms alone.
-///
-/// # Errors
-/// As of `read_script`; a line of another form is one of kind 6.
-pub fn read_script_with<S: Source, F: Forms<Kept = Line>>(
-    alloc: Global,
-    forms: &F,
-    lines: &mut Lines,
-    source: &mut S,
-) -> Result<Script, ScriptFault>
-    requires fresh { IsFresh lines.old }
-    requires heads { HeadsScripts F.forms }
-    requires plain { KeepsLines F.forms F.keeps }
-    ensures reads { (bytes : List ℕ) × Takes (S.left source.old) (S.left source.new) bytes × HasTaken lines.new bytes
-        × IsScriptAnswer F.forms (input_of false lines.new bytes) result }
-    ensures forms { IfOk result (λ script. AreOfForms (F.keeps script.profile) script.lines) }
-    ensures untold { OnOk result (lines.new.told ≡ None) }
-    ensures number { IfOk result (λ script. lines.new.given ≡ script.count) }
-    ensures at_end { IsTrue lines.new.ended → IsAtEnd (S.left source.new) }
-    ensures unended { LeavesOpen S.ended source.old source.new lines.old lines.new }
-    ensures at_most { IsWithin lines.new }
-    ensures failed { result ≡ Err ScriptFault.Read → Rose (S.faults source.old) (S.faults source.new) }
-    ensures goes_on { result ≡ Err ScriptFault.Read → ¬ (IsTrue lines.new.ended) }
-    ensures same_count { (S.faults source.new ≡ S.faults source.old) ⊎ (result ≡ Err ScriptFault.Read) }
-    ensures count { S.faults source.old ≤ S.faults source.new }
-{
-    let ReadLines { heading, kept, .. } = read_lines_with(alloc, forms, false, lines, source)?;
-    let Ok(header) = read_heading(alloc, heading.as_slice()) else {
-        return Err(ScriptFault::OutOfMemory);
-    };
-    match made_script(header, kept) {
-        Ok(script) => Ok(script),
-        Err(_) => Err(ScriptFault::OutOfMemory),
-    }
+    let ReadLines { head, kept, .. } = read_lines_with(alloc, &ScriptLines, lines, source)?;
+    let script = made_script(head, kept)?;
+    Ok(script)
 }
 
 /// A script with a journal after it.
@@ -114,37 +79,13 @@ pub fn read_audited_script<S: Source>(
     ensures same_count { (S.faults source.new ≡ S.faults source.old) ⊎ (result ≡ Err ScriptFault.Read) }
     ensures count { S.faults source.old ≤ S.faults source.new }
 {
-    let ReadLines {
-        heading,
-        kept,
-        journal,
-        ..
-    } = read_lines_with(alloc, &ScriptLines, true, lines, source)?;
+    let UpToJournal { read, journal } =
+        read_up_to_journal(alloc, &ScriptLines, true, lines, source)?;
     let Some(journal) = journal else {
-        unreachable!()
+        return Err(fault_at(lines.number() + 1, FaultKind::NotJournal));
     };
-    let Ok(header) = read_heading(alloc, heading.as_slice()) else {
-        return Err(ScriptFault::OutOfMemory);
-    };
-    match made_script(header, kept) {
-        Ok(script) => Ok(AuditedScript { script, journal }),
-        Err(_) => Err(ScriptFault::OutOfMemory),
-    }
-}
-
-// What the text of a header says.
-pub(crate) fn read_heading(alloc: Global, text: &[u8]) -> Result<Header, AllocError>
-    requires { IsSome (option_and_then header_of (tree_of text.now)) }
-    ensures header { IfOk result (IsHeaderOf text.now) }
-    ensures kept { IfOk result IsHeader }
-{
-    let Some(tree) = read_tree(alloc, text)? else {
-        unreachable!()
-    };
-    match read_header(alloc, &tree)? {
-        Some(header) => Ok(header),
-        None => unreachable!(),
-    }
+    let script = made_script(read.head, read.kept)?;
+    Ok(AuditedScript { script, journal })
 }
 
 // The script of a header and the lines after it.

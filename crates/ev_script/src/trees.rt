@@ -1,25 +1,29 @@
-ghost use Rattle.std.specs.Prelude.{◌≡◌, ◌+◌, ◌≤◌, ◌⊎◌, List, ℕ, None, Some, Err, IsTrue, IsSome, false, OnOk, IfOk, option_and_then, length};
+ghost use Rattle.std.specs.Prelude.{◌≡◌, ◌+◌, ◌≤◌, ◌⊎◌, List, ℕ, None, Err, IsTrue, false, OnOk, IfOk, length};
 ghost use Rattle.std.specs.Io.KnownBytes.{IsAtEnd};
-ghost use Rattle.serde_json.specs.View.{view};
 ghost use Rattle.ev_io.specs.Outside.{Rose, Takes};
 ghost use Rattle.ev_io.specs.LinesState.{IsFresh, HasTaken, IsWithin};
 ghost use Rattle.ev_io.specs.ReadLine.{LeavesOpen};
 ghost use Rattle.ev_script.specs.Faults.{plain_lines};
-ghost use Rattle.ev_script.specs.Members.{tree_of};
 ghost use Rattle.ev_script.specs.ReadInput.{input_of};
-ghost use Rattle.ev_script.specs.Header.{header_of};
-ghost use Rattle.ev_script.specs.ReadScript.{HeadsScripts};
-ghost use Rattle.ev_script.specs.ReadTrees.{KeepsTrees, IsTreeOf, IsTreesAnswer};
+ghost use Rattle.ev_script.specs.ReadTrees.{KeepsHeads, KeepsTrees, IsTreesAnswer};
 
-use crate::forms::{FormedLine, Forms, Settings, worker_of};
-use crate::header::{Header, read_header, read_settings};
+use crate::forms::{FormedHead, FormedLine, Forms, worker_of};
+use crate::header::{Header, read_header, settings_of};
 use crate::lines::read_line;
-use crate::members::read_tree;
 use crate::read_input::{ReadLines, read_lines_with};
 use ev_io::{Lines, ScriptFault, Source};
+use ev_keys::Keys;
 use ev_types::Profile;
 use serde_json::Value;
 use std::alloc::{AllocError, Global};
+
+/// The first line of a script, by its tree.
+#[derive(Drop)]
+pub struct HeadTree {
+    /// What it says.
+    pub header: Header,
+    pub tree: Value,
+}
 
 /// The lines of a script, each kept as its tree.
 #[derive(Clone, Copy, Debug)]
@@ -27,15 +31,29 @@ pub struct LineTrees;
 
 impl Forms for LineTrees {
     ghost use Rattle.ev_script.specs.Faults.{plain_lines};
+    ghost use Rattle.ev_script.specs.ReadTrees.{IsTreeHead};
 
+    type Head = HeadTree;
     type Kept = Value;
 
     ghost forms = { plain_lines };
 
+    ghost keeps_head = { IsTreeHead };
+
     ghost keeps = { λ profile at tree kept. view kept ≡ tree };
 
-    fn read_head(&self, alloc: Global, tree: &Value) -> Result<Option<Settings>, AllocError> {
-        read_settings(alloc, tree)
+    fn read_head(
+        &self,
+        alloc: Global,
+        tree: Value,
+    ) -> Result<Option<FormedHead<HeadTree>>, AllocError> {
+        match read_header(alloc, &tree)? {
+            Some(header) => Ok(Some(FormedHead {
+                settings: settings_of(&header),
+                kept: HeadTree { header, tree },
+            })),
+            None => Ok(None),
+        }
     }
 
     fn read(
@@ -64,6 +82,8 @@ pub struct ScriptTrees {
     pub head: Value,
     /// The trees of the lines after it, in order.
     pub lines: Vec<Value>,
+    /// Keys of all lines, for tables of what they name. Which they are isn't promised.
+    pub keys: Keys,
 }
 
 /// Reads the trees of a script's lines, under the faults of `read_script`. The reader of lines is a fresh one.
@@ -95,14 +115,14 @@ pub fn read_trees<S: Source>(
 ///
 /// # Errors
 /// As of `read_script`; a line of another form is one of kind 6.
-pub fn read_trees_with<S: Source, F: Forms<Kept = Value>>(
+pub fn read_trees_with<S: Source, F: Forms<Head = HeadTree, Kept = Value>>(
     alloc: Global,
     forms: &F,
     lines: &mut Lines,
     source: &mut S,
 ) -> Result<ScriptTrees, ScriptFault>
     requires fresh { IsFresh lines.old }
-    requires heads { HeadsScripts F.forms }
+    requires heads { KeepsHeads F.keeps_head }
     requires trees { KeepsTrees F.keeps }
     ensures reads { (bytes : List ℕ) × Takes (S.left source.old) (S.left source.new) bytes × HasTaken lines.new bytes
         × IsTreesAnswer F.forms (input_of false lines.new bytes) result }
@@ -116,29 +136,11 @@ pub fn read_trees_with<S: Source, F: Forms<Kept = Value>>(
     ensures same_count { (S.faults source.new ≡ S.faults source.old) ⊎ (result ≡ Err ScriptFault.Read) }
     ensures count { S.faults source.old ≤ S.faults source.new }
 {
-    let ReadLines { heading, kept, .. } = read_lines_with(alloc, forms, false, lines, source)?;
-    match made_trees(alloc, heading.as_slice(), kept) {
-        Ok(trees) => Ok(trees),
-        Err(_) => Err(ScriptFault::OutOfMemory),
-    }
-}
-
-// The trees of a script whose first line is a header of this text.
-fn made_trees(alloc: Global, heading: &[u8], lines: Vec<Value>) -> Result<ScriptTrees, AllocError>
-    requires { IsSome (option_and_then header_of (tree_of heading.now)) }
-    ensures head { IfOk result (λ trees. IsTreeOf heading.now trees.head) }
-    ensures header { IfOk result (λ trees. header_of (view trees.head) ≡ Some trees.header) }
-    ensures lines { IfOk result (λ trees. trees.lines ≡ lines) }
-{
-    let Some(head) = read_tree(alloc, heading)? else {
-        unreachable!()
-    };
-    match read_header(alloc, &head)? {
-        Some(header) => Ok(ScriptTrees {
-            header,
-            head,
-            lines,
-        }),
-        None => unreachable!(),
-    }
+    let ReadLines { head, kept, .. } = read_lines_with(alloc, forms, lines, source)?;
+    Ok(ScriptTrees {
+        header: head.header,
+        head: head.tree,
+        lines: kept,
+        keys: lines.keys(),
+    })
 }

@@ -4,7 +4,7 @@ ghost use Rattle.ev_delta.specs.Discovery.{seen};
 ghost use Rattle.ev_sotw_lines.specs.Lines.{response_in, version_in};
 
 use ev_delta::{Discovery, read_discovery};
-use ev_script::{FormedLine, Forms, LineTrees, Settings, has_only, is_op};
+use ev_script::{FormedHead, FormedLine, Forms, HeadTree, LineTrees, has_only, is_op};
 use ev_types::Profile;
 use serde_json::Value;
 use std::alloc::{AllocError, Global};
@@ -16,14 +16,22 @@ pub struct SotwLines;
 
 impl Forms for SotwLines {
     ghost use Rattle.ev_sotw_lines.specs.Lines.{sotw_lines};
+    ghost use Rattle.ev_script.specs.ReadTrees.{IsTreeHead};
 
+    type Head = HeadTree;
     type Kept = Value;
 
     ghost forms = { sotw_lines };
 
+    ghost keeps_head = { IsTreeHead };
+
     ghost keeps = { λ profile at tree kept. view kept ≡ tree };
 
-    fn read_head(&self, alloc: Global, tree: &Value) -> Result<Option<Settings>, AllocError> {
+    fn read_head(
+        &self,
+        alloc: Global,
+        tree: Value,
+    ) -> Result<Option<FormedHead<HeadTree>>, AllocError> {
         LineTrees.read_head(alloc, tree)
     }
 

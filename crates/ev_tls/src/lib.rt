@@ -41,5 +41,11 @@ pub fn seal(alloc: Global, trees: &ScriptTrees) -> Result<Vec<u8>, ExpandError>
         ≡ Some (expanded_script (tls_rules trees.now.header.profile) trees.now)) }
     ensures kept { OnOk result (IsScript (expanded_script (tls_rules trees.now.header.profile) trees.now)) }
 {
-    expand(alloc, trees.header.profile, &trees.head, &trees.lines)
+    expand(
+        alloc,
+        trees.keys,
+        trees.header.profile,
+        &trees.head,
+        &trees.lines,
+    )
 }

@@ -12,6 +12,7 @@ ghost use Rattle.ev_tls_secrets.specs.Waiting.{AreComplete, EntersAll, EntersOne
 use crate::awaited::Awaited;
 use crate::places::Places;
 use ev_expand::Numbers;
+use ev_keys::Keys;
 use ev_types::{Discovery, Name, TryCopy};
 use indexmap::IndexSet;
 use std::alloc::{AllocError, Global};
@@ -27,12 +28,12 @@ pub(crate) struct Complete {
 
 impl Complete {
     /// There is none. It takes no memory.
-    pub(crate) fn new(alloc: Global) -> Complete
+    pub(crate) fn new(alloc: Global, keys: Keys) -> Complete
         ensures { (told : Told) → AreComplete told [] result }
     {
         Complete {
             places: IndexSet::new(alloc),
-            served: Places::new(alloc),
+            served: Places::new(alloc, keys),
         }
     }
 

@@ -9,6 +9,7 @@ ghost use Rattle.ev_tls_secrets.specs.Told.{value_shown};
 
 use crate::awaited::Awaited;
 use ev_expand::Key;
+use ev_keys::Keys;
 use ev_types::{Discovery, Name, TryCopy};
 use indexmap::{IndexMap, IndexSet};
 use serde_json::Value;
@@ -17,18 +18,18 @@ use std::alloc::{AllocError, Global};
 /// What has come: each name is found by a look-up.
 #[derive(Drop)]
 pub(crate) struct Told {
-    pub secrets: IndexSet<Name>,
-    pub endpoints: IndexSet<Name>,
+    pub secrets: IndexSet<Name, Keys>,
+    pub endpoints: IndexSet<Name, Keys>,
 }
 
 impl Told {
     /// Nothing has come. It takes no memory.
-    pub(crate) fn new(alloc: Global) -> Told
+    pub(crate) fn new(alloc: Global, keys: Keys) -> Told
         ensures { (awaited : Awaited) → has_told result awaited ≡ false }
     {
         Told {
-            secrets: IndexSet::new(alloc),
-            endpoints: IndexSet::new(alloc),
+            secrets: IndexSet::with_hasher(alloc, keys),
+            endpoints: IndexSet::with_hasher(alloc, keys),
         }
     }
 
@@ -107,7 +108,7 @@ impl Told {
 }
 
 // Puts a name into a set.
-fn insert(names: &mut IndexSet<Name>, name: Name) -> Result<(), AllocError>
+fn insert(names: &mut IndexSet<Name, Keys>, name: Name) -> Result<(), AllocError>
     ensures { OnOk result (Puts names.old names.new name) }
 {
     let Ok(_) = names.insert(name) else {
@@ -119,16 +120,16 @@ fn insert(names: &mut IndexSet<Name>, name: Name) -> Result<(), AllocError>
 /// The values of names of endpoints.
 #[derive(Drop)]
 pub(crate) struct Values {
-    pub by_name: IndexMap<Name, Value>,
+    pub by_name: IndexMap<Name, Value, Keys>,
 }
 
 impl Values {
     /// No value. It takes no memory.
-    pub(crate) fn new(alloc: Global) -> Values
+    pub(crate) fn new(alloc: Global, keys: Keys) -> Values
         ensures { (name : List ℕ) → shown_value result name ≡ None }
     {
         Values {
-            by_name: IndexMap::new(alloc),
+            by_name: IndexMap::with_hasher(alloc, keys),
         }
     }
 
@@ -144,11 +145,11 @@ impl Values {
         &mut self,
         alloc: Global,
         values: Vec<(Name, Value)>,
-    ) -> Result<IndexSet<Name>, AllocError>
+    ) -> Result<IndexSet<Name, Keys>, AllocError>
         ensures values { OnOk result (TakesValues (map value_shown values.items) self.old self.new) }
         ensures names { IfOk result (AreNamesOf (map value_shown values.items)) }
     {
-        let mut names = IndexSet::new(alloc);
+        let mut names = IndexSet::with_hasher(alloc, *self.by_name.hasher());
         for (name, value) in values {
             insert(&mut names, name.copy(alloc)?)?;
             self.put(name, value)?;

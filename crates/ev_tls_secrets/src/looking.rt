@@ -16,6 +16,7 @@ use crate::complete::Complete;
 use crate::known::Values;
 use crate::places::Places;
 use ev_expand::{Due, Key, Numbers};
+use ev_keys::Keys;
 use ev_types::{Discovery, Name, TryCopy};
 use indexmap::IndexSet;
 use serde_json::Value;
@@ -34,7 +35,7 @@ pub(crate) struct Marked {
     /// The places of its guarded resources.
     pub items: IndexSet<usize>,
     /// The names that it gives a value.
-    pub given: IndexSet<Name>,
+    pub given: IndexSet<Name, Keys>,
 }
 
 // Looks at the places that may be due: what is due, in order.
@@ -89,7 +90,7 @@ fn put_served(
     alloc: Global,
     places: &mut BTreeSet<usize>,
     served: &Places,
-    given: &IndexSet<Name>,
+    given: &IndexSet<Name, Keys>,
 ) -> Result<(), AllocError>
     ensures { OnOk result (Gains (stands_under_any served.now given.now.keys) places.old places.new) }
 {
@@ -157,7 +158,7 @@ fn is_due(complete: &Complete, marks: &Marked, place: usize, key: &Key) -> bool
 }
 
 // Whether the endpoints of a cluster are given a value.
-fn gives_to(given: &IndexSet<Name>, discovery: &Discovery) -> bool
+fn gives_to(given: &IndexSet<Name, Keys>, discovery: &Discovery) -> bool
     ensures { result ≡ list_any (contains bytes_eq given.now) (services_of discovery.now) }
 {
     match discovery {

@@ -2,6 +2,7 @@ ghost use Rattle.std.specs.Prelude.{◌≡◌, [], OnOk};
 ghost use Rattle.ev_tls_secrets.specs.Places.{places_under, Enters, Leaves};
 
 use crate::awaited::Awaited;
+use ev_keys::Keys;
 use ev_types::{Seq, TryCopy};
 use indexmap::IndexMap;
 use std::alloc::{AllocError, Global};
@@ -10,7 +11,7 @@ use std::marker::Model;
 /// Places that are under what they wait for, or waited for.
 #[derive(Drop)]
 pub(crate) struct Places {
-    lists: IndexMap<Awaited, Seq<usize>>,
+    lists: IndexMap<Awaited, Seq<usize>, Keys>,
 }
 
 impl Model for Places {
@@ -23,11 +24,11 @@ impl Model for Places {
 
 impl Places {
     /// No place. It takes no memory.
-    pub(crate) fn new(alloc: Global) -> Places
+    pub(crate) fn new(alloc: Global, keys: Keys) -> Places
         ensures { result ≡ [] }
     {
         Places {
-            lists: IndexMap::new(alloc),
+            lists: IndexMap::with_hasher(alloc, keys),
         }
     }
 

@@ -16,6 +16,7 @@ use crate::looking::{Marked, look};
 use crate::references::{body_in, key_by, own_endpoints};
 use crate::waiting::Waiting;
 use ev_expand::{Due, ExpandError, Expansion, Key, Numbers, expand_with};
+use ev_keys::Keys;
 use ev_types::{Event, Item, Name, Profile};
 use indexmap::IndexSet;
 use serde_json::Value;
@@ -38,15 +39,15 @@ pub(crate) struct Secrets {
 
 impl Secrets {
     // Nothing is known. It takes no memory.
-    pub(crate) fn new(alloc: Global) -> Secrets
+    pub(crate) fn new(alloc: Global, keys: Keys) -> Secrets
         ensures { (profile : Profile) → IsBehind profile result [] }
     {
         Secrets {
             connected: false,
-            told: Told::new(alloc),
-            values: Values::new(alloc),
-            waiting: Waiting::new(alloc),
-            complete: Complete::new(alloc),
+            told: Told::new(alloc, keys),
+            values: Values::new(alloc, keys),
+            waiting: Waiting::new(alloc, keys),
+            complete: Complete::new(alloc, keys),
         }
     }
 }
@@ -119,7 +120,7 @@ fn marks(
     connected: bool,
     finished: IndexSet<usize>,
     items: &[Option<usize>],
-    given: IndexSet<Name>,
+    given: IndexSet<Name, Keys>,
 ) -> Result<Marked, AllocError>
     ensures marks { IfOk result (λ marks. AreMarks was_open connected items.now (contains bytes_eq given) marks) }
     ensures finished { IfOk result (λ marks. marks.finished ≡ finished) }
@@ -154,7 +155,8 @@ fn put_place(set: &mut IndexSet<usize>, item: Option<usize>) -> Result<(), Alloc
     }
 }
 
-/// The text of a script whose clusters wait for their secrets, by its header and its lines, which are read by this profile.
+/// The text of a script whose clusters wait for their secrets, by its header and its lines, which are read by this profile. Its
+/// tables hash by these keys.
 ///
 /// # Errors
 /// `Private` exactly for the first line that uses a name that begins with `tls/` for endpoints. `Large` where there is none,
@@ -162,11 +164,12 @@ fn put_place(set: &mut IndexSet<usize>, item: Option<usize>) -> Result<(), Alloc
 /// lines and more.
 pub fn expand(
     alloc: Global,
+    keys: Keys,
     profile: Profile,
     head: &Value,
     lines: &[Value],
 ) -> Result<Vec<u8>, ExpandError>
     ensures { IsExpanded (tls_rules profile) (view head.now) (map view lines.now) result }
 {
-    expand_with(alloc, profile, Secrets::new(alloc), head, lines)
+    expand_with(alloc, keys, profile, Secrets::new(alloc, keys), head, lines)
 }

@@ -12,6 +12,7 @@ use crate::complete::insert_place;
 use crate::known::Told;
 use crate::places::Places;
 use ev_expand::Numbers;
+use ev_keys::Keys;
 use ev_types::Name;
 use indexmap::IndexSet;
 use std::alloc::{AllocError, Global};
@@ -27,12 +28,12 @@ pub(crate) struct Waiting {
 
 impl Waiting {
     /// There is no place. It takes no memory.
-    pub(crate) fn new(alloc: Global) -> Waiting
+    pub(crate) fn new(alloc: Global, keys: Keys) -> Waiting
         ensures { (told : Told) → IsWaiting told [] result }
     {
         Waiting {
             passed: Vec::new(alloc),
-            under: Places::new(alloc),
+            under: Places::new(alloc, keys),
         }
     }
 

@@ -5,4 +5,4 @@ use Rattle.ev_dns.proofs.OnceLemmas.{once_all}
 use Rattle.ev_dns.proofs.answers.each_once.Goals as goal
 
 pub returns : goal.returns
-returns c = c.in_ok-put_once.ensures ∙ ap (λ (names : List (List ℕ)). insert_all bytes_eq names c.args.names) c.new-set.ensures.empty ∙ once_all c.args.names
+returns c = c.in_ok-put_once.ensures ∙ ap (λ (names : List (List ℕ)). insert_all bytes_eq names c.args.names) c.with_hasher-set.ensures.empty ∙ once_all c.args.names
