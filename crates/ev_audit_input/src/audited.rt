@@ -35,9 +35,7 @@ pub fn read_audited<S: Source>(alloc: Global, source: &mut S) -> Result<Audited,
     ensures same_count { (S.faults source.new ≡ S.faults source.old) ⊎ (result ≡ Err ScriptFault.Read) }
     ensures count { S.faults source.old ≤ S.faults source.new }
 {
-    let Ok(mut lines) = Lines::new(alloc) else {
-        return Err(ScriptFault::OutOfMemory);
-    };
+    let mut lines = Lines::new(alloc)?;
     let audited = read_audited_script(alloc, &mut lines, source)?;
     let script = audited.script;
     let first = audited.journal;

@@ -1,4 +1,4 @@
-ghost use Rattle.std.specs.Prelude.{◌≡◌, [], map, length, OnOk};
+ghost use Rattle.std.specs.Prelude.{◌≡◌, ◌<◌, [], None, map, length, OnOk};
 ghost use Rattle.serde_json.specs.View.{view};
 ghost use Rattle.ev_expand.specs.Expanding.{IsExpanded, lines_due};
 ghost use Rattle.ev_expand.specs.Following.{due_shown};
@@ -7,6 +7,7 @@ ghost use Rattle.ev_expand.specs.Growing.{GrowsBy, Pushes, StepsBehind};
 ghost use Rattle.ev_expand.specs.Guarding.{clusters_in};
 ghost use Rattle.ev_expand.specs.Numbers.{TakesUpLine};
 ghost use Rattle.ev_expand.specs.Placing.{placed_lines};
+ghost use Rattle.ev_expand.specs.Private.{first_use};
 
 use crate::following::{Due, following_value};
 use crate::fronts::read_event;
@@ -117,13 +118,30 @@ pub fn expand_with<E: Expansion + Drop>(
     requires { E.is_behind profile expansion [] }
     ensures { IsExpanded (E.rules profile) (view head.now) (map view lines.now) result }
 {
-    let mut expansion = expansion;
     if lines.len() >= MOST_LINES {
         return Err(ExpandError::OutOfMemory);
     }
     if let Some(line) = first_use(alloc, profile, expansion.prefix(), lines)? {
         return Err(ExpandError::Private { line });
     }
+    grown_text(alloc, keys, profile, expansion, head, lines)
+}
+
+// The text of lines of which none uses a private name.
+fn grown_text<E: Expansion + Drop>(
+    alloc: Global,
+    keys: Keys,
+    profile: Profile,
+    expansion: E,
+    head: &Value,
+    lines: &[Value],
+) -> Result<Vec<u8>, ExpandError>
+    requires behind { E.is_behind profile expansion [] }
+    requires few { length lines.now < MOST_LINES }
+    requires unused { first_use (E.rules profile).guard.profile (E.rules profile).prefix (map view lines.now) ≡ None }
+    ensures { IsExpanded (E.rules profile) (view head.now) (map view lines.now) result }
+{
+    let mut expansion = expansion;
     let mut text = TextSoFar::new(alloc);
     if !text.push(alloc, head)? {
         return Err(ExpandError::Large { line: 1 });

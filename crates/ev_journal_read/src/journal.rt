@@ -43,10 +43,7 @@ pub fn read_rows<S: Source>(
     ensures same_count { (S.faults source.new ≡ S.faults source.old) ⊎ (result ≡ Err ScriptFault.Read) }
     ensures count { S.faults source.old ≤ S.faults source.new }
 {
-    let Ok(format) = format_of(alloc, first, workers) else {
-        return Err(ScriptFault::OutOfMemory);
-    };
-    let Some(format) = format else {
+    let Some(format) = format_of(alloc, first, workers)? else {
         return Err(misplaced(lines.number()));
     };
     let mut body = Body {
@@ -56,11 +53,11 @@ pub fn read_rows<S: Source>(
     let mut text = Vec::new(alloc);
     'lines: loop {
         match lines.read_line(source, &mut text) {
-            Ok(LineEnd::Line) => match body.add(alloc, text.as_slice()) {
-                Ok(true) => {}
-                Ok(false) => return Err(misplaced(lines.number())),
-                Err(_) => return Err(ScriptFault::OutOfMemory),
-            },
+            Ok(LineEnd::Line) => {
+                if !body.add(alloc, text.as_slice())? {
+                    return Err(misplaced(lines.number()));
+                }
+            }
             Ok(LineEnd::End) if body.ended => return Ok((format, body.rows)),
             Ok(LineEnd::End) => return Err(misplaced(lines.number() + 1)),
             Err(fault) => return Err(script_fault(lines.number(), fault)),

@@ -147,9 +147,11 @@ exit_journal forms keeps_head keeps audit before now after old new settings head
       r.bytes ++ call.0,
       takes_both before now after r.bytes call.0 r.takes call.1,
       reads.taken,
-      read_now forms keeps_head keeps audit before now old new settings heading kept call.0 out text.items Line r reads,
-      subst (λ (n : ℕ). IsUpToJournal forms input n text.items) r.given
-          (journal_reached forms input settings old.given text.items (given_now forms keeps_head keeps audit before now old new settings heading kept.items call.0 out text.items r reads) (omega (arith, r.given)) content),
+      (
+        read_now forms keeps_head keeps audit before now old new settings heading kept call.0 out text.items Line r reads,
+        subst (λ (n : ℕ). IsUpToJournal forms input n text.items) r.given
+            (journal_reached forms input settings old.given text.items (given_now forms keeps_head keeps audit before now old new settings heading kept.items call.0 out text.items r reads) (omega (arith, r.given)) content),
+      ),
     )
 
 -- where the input ends, it is whole, or a journal is missing
@@ -166,9 +168,11 @@ exit_end forms keeps_head keeps audit before now after old new settings heading 
       r.bytes ++ call.0,
       takes_both before now after r.bytes call.0 r.takes call.1,
       reads.taken,
-      read_now forms keeps_head keeps audit before now old new settings heading kept call.0 out text End r reads,
-      subst (HasNoJournal audit forms (input_of audit new (r.bytes ++ call.0))) r.given
-          (no_journal forms audit settings old new r.bytes call.0 out text reads r.read (omega (arith, r.given))),
+      (
+        read_now forms keeps_head keeps audit before now old new settings heading kept call.0 out text End r reads,
+        subst (HasNoJournal audit forms (input_of audit new (r.bytes ++ call.0))) r.given
+            (no_journal forms audit settings old new r.bytes call.0 out text reads r.read (omega (arith, r.given))),
+      ),
     )
 
 pub exit_memory : {H A : Type 0} (forms : LineForms) (keeps_head : Data → H → Type 0) (keeps : Profile → ℕ → Data → A → Type 0) (audit : Bool) (before now after : Option (List ℕ)) (old new : LinesState) (settings : Settings) (heading : H) (kept : List A) (answer : Result LineEnd LineFault) (out text : List ℕ) → IsReading forms keeps_head keeps audit before now old settings heading kept → Reads now after old new out text answer → Exits forms keeps_head keeps audit before after new (Err OutOfMemory)

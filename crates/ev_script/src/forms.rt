@@ -90,6 +90,7 @@ impl Forms for ScriptLines {
     ghost use Rattle.ev_script.specs.ReadScript.{IsHeadOf};
 
     type Head = Header;
+
     type Kept = Line;
 
     ghost forms = { plain_lines };

@@ -30,9 +30,11 @@
 //! - Headers are taken in the order of their written names, so of `X-A` and `x-a` the second counts. `:authority` and
 //!   `:path` are left out of them, since the ask's host and path stand for these.
 //! - The ask has the IP address that its address writes, so that a choice parses nothing.
-//! - The reader of a whole input is one loop, `read_lines_with`, over a type that says which lines there are and what
-//!   is kept of each (`Forms`): a script keeps a line as what it says. A command that reads other lines gives such a
-//!   type; the lines of a script are `ScriptLines`.
+//! - The reader of an input is one loop, `read_up_to_journal`, over a type that says which lines there are and what is
+//!   kept of each (`Forms`): a script keeps a line as what it says. A command that reads other lines gives such a type
+//!   to `read_lines_with`, which reads whole inputs; the lines of a script are `ScriptLines`.
+//! - The loop ends at a journal's first line or at the end of the input, and doesn't ask whether a journal has to be
+//!   there: where it is missing, `read_audited_script` reports that.
 //! - `read_trees` is the same reader over a type that keeps a line as its tree (`LineTrees`).
 //! - A script alone and a script with a journal after it are two calls with two types: `read_script` gives a
 //!   `Script`, and `read_audited_script` an `AuditedScript`. They take the place of one call `read_script` with a

@@ -73,7 +73,8 @@ pub(crate) fn read_up_to_journal<S: Source, F: Forms>(
     requires fresh { IsFresh lines.old }
     ensures reads { (bytes : List ℕ) × Takes (S.left source.old) (S.left source.new) bytes × HasTaken lines.new bytes
         × IsAnswerUpTo F.forms F.keeps_head F.keeps (input_of audit lines.new bytes) result }
-    ensures number { IfOk result (λ up_to. lines.new.given ≡ length up_to.read.kept.items + through_journal up_to.journal) }
+    ensures number { IfOk result (λ up_to. lines.new.given
+        ≡ length up_to.read.kept.items + through_journal up_to.journal) }
     ensures few { IfOk result (λ up_to. length up_to.read.kept.items < MAX_LINES) }
     ensures untold { OnOk result (lines.new.told ≡ None) }
     ensures at_end { IsTrue lines.new.ended → IsAtEnd (S.left source.new) }
@@ -84,7 +85,10 @@ pub(crate) fn read_up_to_journal<S: Source, F: Forms>(
     ensures same_count { (S.faults source.new ≡ S.faults source.old) ⊎ (result ≡ Err ScriptFault.Read) }
     ensures count { S.faults source.old ≤ S.faults source.new }
 {
-    let FormedHead { kept: head, settings } = read_head(alloc, forms, lines, source)?;
+    let FormedHead {
+        kept: head,
+        settings,
+    } = read_head(alloc, forms, lines, source)?;
     let mut text = Vec::new(alloc);
     let mut kept = Vec::new(alloc);
     'lines: loop {

@@ -79,8 +79,13 @@ pub fn read_audited_script<S: Source>(
     ensures same_count { (S.faults source.new ≡ S.faults source.old) ⊎ (result ≡ Err ScriptFault.Read) }
     ensures count { S.faults source.old ≤ S.faults source.new }
 {
-    let UpToJournal { read, journal } =
-        read_up_to_journal(alloc, &ScriptLines, true, lines, source)?;
+    let UpToJournal { read, journal } = read_up_to_journal(
+        alloc,
+        &ScriptLines,
+        true,
+        lines,
+        source,
+    )?;
     let Some(journal) = journal else {
         return Err(fault_at(lines.number() + 1, FaultKind::NotJournal));
     };

@@ -1,5 +1,6 @@
 ghost use Rattle.std.specs.Prelude.{◌≡◌, ◌+◌, ◌≤◌, ◌⊎◌, List, ℕ, None, Err, IsTrue, false, OnOk, IfOk, length};
 ghost use Rattle.std.specs.Io.KnownBytes.{IsAtEnd};
+ghost use Rattle.serde_json.specs.View.{view};
 ghost use Rattle.ev_io.specs.Outside.{Rose, Takes};
 ghost use Rattle.ev_io.specs.LinesState.{IsFresh, HasTaken, IsWithin};
 ghost use Rattle.ev_io.specs.ReadLine.{LeavesOpen};
@@ -34,6 +35,7 @@ impl Forms for LineTrees {
     ghost use Rattle.ev_script.specs.ReadTrees.{IsTreeHead};
 
     type Head = HeadTree;
+
     type Kept = Value;
 
     ghost forms = { plain_lines };

@@ -6,12 +6,14 @@ use Rattle.ev_types.specs.Scripts.{ScriptParts}
 use Rattle.ev_audit_input.proofs.AnswerLemmas.{IsBehind, RowsRead, nothing_read, script_answer, rows_fault, rows_open, rows_read, rows_few, still_at_end}
 use Rattle.ev_audit_input.proofs.audited.read_audited.Goals as goal
 
-pub returns-in_default-clause-reads : goal.returns-in_default-clause-reads
-returns-in_default-clause-reads g c = nothing_read (g.S.Source.left c.args.source.now)
+pub returns-in_err-lines-clause-reads : goal.returns-in_err-lines-clause-reads
+returns-in_err-lines-clause-reads g c =
+    let p = err_from_is_err_and c.from_residual.result c.from_residual.ensures.1 in
+    rw (p.1, p.2) (nothing_read (g.S.Source.left c.args.source.now))
 
 pub returns-in_err-audited-clause-reads : goal.returns-in_err-audited-clause-reads
 returns-in_err-audited-clause-reads g c =
-    let p = err_from_is_err_and c.from_residual.result c.from_residual.ensures.1 in
+    let p = err_from_is_err_and c.from_residual-in_err-audited.result c.from_residual-in_err-audited.ensures.1 in
     rw (p.1, p.2)
     (script_answer (g.S.Source.left c.args.source.now) (g.S.Source.left c.read_audited_script.new.source) c.read_audited_script.new.lines c.in_err-audited.field-0.0 c.in_err-audited.ensures.at_most c.in_err-audited.ensures.at_end c.in_err-audited.ensures.reads)
 
@@ -58,7 +60,7 @@ returns-clause-few g c =
 
 pub returns-in_err-audited-clause-unended : goal.returns-in_err-audited-clause-unended
 returns-in_err-audited-clause-unended g c =
-    let p = err_from_is_err_and c.from_residual.result c.from_residual.ensures.1 in
+    let p = err_from_is_err_and c.from_residual-in_err-audited.result c.from_residual-in_err-audited.ensures.1 in
     rw (p.1, p.2)
     (λ e.
     let same : c.in_err-audited.field-0.0 ≡ Read = cc in

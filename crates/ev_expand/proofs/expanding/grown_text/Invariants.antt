@@ -2,7 +2,7 @@ use Rattle.std.proofs.Common.{map, take}
 use Rattle.serde_json.specs.View.{view}
 use Rattle.ev_expand.specs.Growing.{IsGrown}
 use Rattle.ev_expand.specs.Numbers.{guarded_so_far}
-use Rattle.ev_expand.proofs.expanding.expand_with.Given as goal
+use Rattle.ev_expand.proofs.expanding.grown_text.Given as goal
 
 abbrev pub invariant-loop-index : goal.invariant-loop-index
 invariant-loop-index g l = record {
