@@ -54,7 +54,8 @@ pub fn read_rows<S: Source>(
     'lines: loop {
         match lines.read_line(source, &mut text) {
             Ok(LineEnd::Line) => {
-                if !body.add(alloc, text.as_slice())? {
+                let in_place = body.add(alloc, text.as_slice())?;
+                if !in_place {
                     return Err(misplaced(lines.number()));
                 }
             }
