@@ -6,7 +6,6 @@ use Rattle.ev_io.specs.declared.faults.ScriptFault.{ScriptFault}
 use Rattle.ev_io.specs.declared.faults.ScriptFault.TheVariants.{Bad}
 use Rattle.ev_io.proofs.GrowLemmas.{open_both}
 use Rattle.ev_script.specs.declared.content.Content.TheVariants as is
-use Rattle.ev_script.specs.declared.fault_kinds.FaultKind.TheVariants.{NotJournal}
 use Rattle.ev_script.specs.Faults.{fault_number}
 use Rattle.ev_script.specs.ReadInput.{script_fault}
 use Rattle.ev_script.proofs.StepLemmas.{few_lines}
