@@ -1,5 +1,6 @@
 -- What an input of filter chains is, by what the reader of lines answers.
-use Rattle.std.proofs.Common.{◌≡◌, ℕ, suc, ◌+◌, ◌<◌, true, false, List, [], ◌∷◌, Vec, map, length, get_or, IsTrue, Option, None, Some, Result, Ok, Err, option_map, option_and_then, refl, sym, ap, ◌∙◌, arith}
+use Rattle.std.proofs.Common.{◌≡◌, ℕ, suc, ◌+◌, ◌<◌, false, List, [], ◌∷◌, Vec, map, length, get_or, IsTrue, Option, None, Some, Result, Ok, Err, option_map, option_and_then, refl, sym, ap, ◌∙◌, arith}
+use Rattle.std.specs.Prelude.{⊤}
 use Rattle.std.specs.declared.alloc.Global.{Global}
 use Rattle.std.specs.Io.KnownBytes.{IsAtEnd}
 use Rattle.serde_json.specs.Data.{Data}
@@ -14,7 +15,7 @@ use Rattle.ev_script.specs.Faults.{Input}
 use Rattle.ev_script.specs.Members.{tree_of}
 use Rattle.ev_script.specs.Content.{IsKeptOf}
 use Rattle.ev_script.specs.ReadLines.{AreLinesKept}
-use Rattle.ev_script.specs.ReadInput.{input_of, IsReadOf, IsAnswer, IsWhole, IsTold, EndsBefore}
+use Rattle.ev_script.specs.ReadInput.{input_of, IsAnswer, IsTold}
 use Rattle.ev_chains.specs.declared.events.ChainEvent.{ChainEvent}
 use Rattle.ev_chains.specs.Events.{seen}
 use Rattle.ev_chains.specs.Steps.{Event}
