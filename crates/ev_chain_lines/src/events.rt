@@ -24,6 +24,7 @@ impl Forms for ChainLines {
     ghost use Rattle.ev_chain_lines.specs.Lines.{chain_lines, event_of};
 
     type Head = ();
+
     type Kept = ChainEvent;
 
     ghost forms = { chain_lines };
@@ -32,11 +33,7 @@ impl Forms for ChainLines {
 
     ghost keeps = { λ profile at tree event. event_of tree ≡ Some (seen event) };
 
-    fn read_head(
-        &self,
-        _alloc: Global,
-        tree: Value,
-    ) -> Result<Option<FormedHead<()>>, AllocError> {
+    fn read_head(&self, _alloc: Global, tree: Value) -> Result<Option<FormedHead<()>>, AllocError> {
         match header(&tree) {
             Some(settings) => Ok(Some(FormedHead { kept: (), settings })),
             None => Ok(None),

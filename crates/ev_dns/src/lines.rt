@@ -30,6 +30,7 @@ impl Forms for DnsLines {
     ghost use Rattle.ev_script.specs.ReadTrees.{IsTreeHead};
 
     type Head = HeadTree;
+
     type Kept = Value;
 
     ghost forms = { dns_lines };

@@ -19,6 +19,7 @@ impl Forms for SotwLines {
     ghost use Rattle.ev_script.specs.ReadTrees.{IsTreeHead};
 
     type Head = HeadTree;
+
     type Kept = Value;
 
     ghost forms = { sotw_lines };
