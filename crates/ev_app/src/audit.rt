@@ -27,8 +27,10 @@ pub(crate) fn make_audit<S: Source>(alloc: Global, source: &mut S) -> Result<Mad
     // what a script keeps, and when rows are found legal
     let _workers = workers_of(&audited.script);
     legal_exactly();
-    let made = audit_made(alloc, &audited)?;
-    Ok(made)
+    match audit_made(alloc, &audited) {
+        Ok(made) => Ok(made),
+        Err(_) => Err(ScriptFault::OutOfMemory),
+    }
 }
 
 // What is found of a journal, as a line, with its status.

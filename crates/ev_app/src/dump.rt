@@ -52,10 +52,15 @@ fn dump_made(alloc: Global, audited: &Audited, entries: u32) -> Result<Made, Scr
     ensures read { result ≢ Err ScriptFault.Read }
 {
     let rows = audited.rows.as_slice();
-    let finding = audit(alloc, audited.keys, audited.format, &audited.script, rows)?;
+    let Ok(finding) = audit(alloc, audited.keys, audited.format, &audited.script, rows) else {
+        return Err(ScriptFault::OutOfMemory);
+    };
     if finding != Finding::Legal {
+        let Ok(text) = write_finding(alloc, finding) else {
+            return Err(ScriptFault::OutOfMemory);
+        };
         return Ok(Made {
-            text: write_finding(alloc, finding)?,
+            text,
             status: Status::Illegal,
         });
     }
@@ -68,10 +73,13 @@ fn dump_made(alloc: Global, audited: &Audited, entries: u32) -> Result<Made, Scr
             kind: NO_COMMIT,
         });
     }
-    Ok(Made {
-        text: dump_text(alloc, audited, entries)?,
-        status: Status::Done,
-    })
+    match dump_text(alloc, audited, entries) {
+        Ok(text) => Ok(Made {
+            text,
+            status: Status::Done,
+        }),
+        Err(_) => Err(ScriptFault::OutOfMemory),
+    }
 }
 
 // The number of the journal's end line, where it is one of 32 bits.

@@ -22,6 +22,8 @@ pub(crate) fn read_trees_of<F: Forms<Head = HeadTree, Kept = Value>, S: Source>(
     ensures same_count { (S.faults source.new ≡ S.faults source.old) ⊎ (result ≡ Err ScriptFault.Read) }
     ensures count { S.faults source.old ≤ S.faults source.new }
 {
-    let mut lines = Lines::new(alloc)?;
+    let Ok(mut lines) = Lines::new(alloc) else {
+        return Err(ScriptFault::OutOfMemory);
+    };
     read_trees_with(alloc, forms, &mut lines, source)
 }
