@@ -1,4 +1,6 @@
 use Rattle.std.proofs.Common.{◌≡◌, ◌∙◌, ◌++◌, true, false, ap, sym, subst, List, ℕ}
+use Rattle.std.specs.Prelude.{⊤}
+use Rattle.std.proofs.lemmas.Result.{IfOk-from_err, MatchResult-from_err}
 use Rattle.serde_json.specs.View.{view}
 use Rattle.ev_model.specs.Picture.{has_number}
 use Rattle.ev_model.specs.Publishing.{ascending}
@@ -83,16 +85,28 @@ invariant_of-self c =
 pub returns-in_err-reserve-clause-err : goal.returns-in_err-reserve-clause-err
 returns-in_err-reserve-clause-err c =
     let self = c.self.inside in
-    (λ i. record { made = self.made; serving = self.serving; draining = draining_in (c.reserve.ensures.items i) self.draining.idle.items self.draining.busy.keys; opened = self.ledger })
-    ∙ c.self.view_is
+    let state : ChainState = record { made = self.made; serving = self.serving; draining = draining_in c.reserve.new.self.items self.draining.idle.items self.draining.busy.keys; opened = self.ledger } in
+    let same : state ≡ c.args.self.now =
+        (λ i. record { made = self.made; serving = self.serving; draining = draining_in (c.reserve.ensures.items i) self.draining.idle.items self.draining.busy.keys; opened = self.ledger })
+        ∙ c.self.view_is in
+    MatchResult-from_err c.from_residual-in_err-reserve.result (λ _. ⊤) (λ _. state ≡ c.args.self.now) c.from_residual-in_err-reserve.ensures.0 (λ _. same)
 
 pub returns-in_err-start-clause-err : goal.returns-in_err-start-clause-err
 returns-in_err-start-clause-err c =
     let self = c.self.inside in
-    (λ i. record {
-      made = self.made;
-      serving = self.serving;
-      draining = draining_in (c.reserve.ensures.items i) (c.in_err-start.ensures.same_idle i) (c.in_err-start.ensures.same_busy i);
-      opened = self.ledger;
-    })
-    ∙ c.self.view_is
+    let state : ChainState = record { made = self.made; serving = self.serving; draining = draining_in c.reserve.new.self.items c.start.new.self.idle.items c.start.new.self.busy.keys; opened = self.ledger } in
+    let same : state ≡ c.args.self.now =
+        (λ i. record {
+          made = self.made;
+          serving = self.serving;
+          draining = draining_in (c.reserve.ensures.items i) (c.in_err-start.ensures.same_idle i) (c.in_err-start.ensures.same_busy i);
+          opened = self.ledger;
+        })
+        ∙ c.self.view_is in
+    MatchResult-from_err c.from_residual-in_err-start.result (λ _. ⊤) (λ _. state ≡ c.args.self.now) c.from_residual-in_err-start.ensures.0 (λ _. same)
+
+pub returns-in_err-start-clause-state : goal.returns-in_err-start-clause-state
+returns-in_err-start-clause-state c =
+    let self = c.self.inside in
+    let state : ChainState = record { made = self.made; serving = self.serving; draining = draining_in c.reserve.new.self.items c.start.new.self.idle.items c.start.new.self.busy.keys; opened = self.ledger } in
+    IfOk-from_err c.from_residual-in_err-start.result (λ _. state ≡ accepted (chains_in (view c.args.body.now)) c.args.self.now) c.from_residual-in_err-start.ensures.0
