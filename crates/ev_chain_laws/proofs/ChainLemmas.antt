@@ -1,23 +1,34 @@
 -- Which chains serve, event by event.
-use Rattle.std.proofs.Common.{◌≡◌, ℕ, suc, zero, ◌<◌, ◌≤◌, Bool, true, false, cond, List, length, Option, Some, None, refl, sym, ap, ◌∙◌, subst, arith, inl, inr}
+use Rattle.std.proofs.Common.{◌≡◌, ℕ, suc, zero, ◌<◌, ◌≤◌, ◌==◌, Bool, true, false, cond, List, [], ◌∷◌, length, Option, Some, None, refl, sym, ap, ◌∙◌, subst, arith, inl, inr}
 use Rattle.std.specs.Prelude.{◌⊎◌, ◌↔◌}
 use Rattle.std.specs.List.{list_any}
-use Rattle.std.proofs.lemmas.Bool.{true≢false}
+use Rattle.std.proofs.lemmas.Bool.{true≢false, false≢true}
 use Rattle.serde_json.specs.Data.{Data}
 use Rattle.ev_model.specs.Connections.{is_open}
 use Rattle.ev_chains.specs.declared.chains.ChainAnswer.TheVariants as taken
 use Rattle.ev_chains.specs.declared.rows.Chain.{Chain}
 use Rattle.ev_chains.specs.declared.rows.Row.{Row}
-use Rattle.ev_chains.specs.Rows.{has_clash, chosen, chain_same}
+use Rattle.ev_chains.specs.Rows.{has_clash, chosen, chain_same, chain_decides}
 use Rattle.ev_chains.specs.Listed.{number_in, number_for}
 use Rattle.ev_chains.specs.Listeners.{matches_of, chains_in, parts_broken, chains_broken, rule_told}
 use Rattle.ev_chains.specs.State.{ChainState, numbered, made_by}
 use Rattle.ev_chains.specs.Steps.{Event, Update, Accept, Close, DrainTimeout, Reap, accept_by, listener_by, chain_step}
+use Rattle.ev_chains.specs.Kept.{HasRow, Sound}
 use Rattle.ev_chains.proofs.NextLemmas.{none_clash}
-use Rattle.ev_chain_laws.specs.Laws.{event_at, state_at, serves, AcceptsAt, MadeAt, LacksSince}
+use Rattle.ev_chains.proofs.RowLemmas.{HasChain, same_number, and_parts, or_true, number_true, number_false, chain_has, chain_true, for_some, for_none, cases_for, GotNumber, made_more, row_chain, row_number, row_kept, sound_next}
+use Rattle.ev_chain_laws.specs.Laws.{event_at, state_at, serves, AcceptsAt, MadeAt, LacksSince, is_row}
 use Rattle.ev_chain_laws.proofs.PlaceLemmas.{there, state_next}
 use Rattle.ev_chain_laws.proofs.PairLemmas.{order}
-use Rattle.ev_chain_laws.proofs.RowLemmas.{HasRow, HasChain, row_has, number_true, number_false, chain_has, chain_true, for_some, for_none, cases_for, Sound, GotNumber, made_more, row_chain, row_number, row_kept, sound_next}
+
+-- a row that is there
+pub row_has : (row : Row) (rows : List Row) → list_any (is_row row) rows ≡ true → HasRow row.number row.chain rows
+row_has row [] h = absurd (false≢true h)
+row_has row (other ∷ rows) h = elim (or_true (is_row row other) (list_any (is_row row) rows) h) [
+  | inl here ↦
+      let parts = and_parts (other.number == row.number) (chain_same other.chain row.chain) here in
+      inl (same_number other.number row.number parts.0, (chain_decides other.chain row.chain).0 parts.1)
+  | inr there ↦ inr (row_has row rows there)
+]
 
 -- ---- what an event does to the rows
 

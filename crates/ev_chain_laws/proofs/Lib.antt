@@ -1,4 +1,3 @@
 pub mod PlaceLemmas
 pub mod PairLemmas
-pub mod RowLemmas
 pub mod ChainLemmas

@@ -25,7 +25,7 @@ pub fn make_chains<S: Source>(alloc: Global, source: &mut S) -> Result<Vec<u8>, 
         return Err(ScriptFault::OutOfMemory);
     };
     match read_lines_with(alloc, &ChainLines, &mut lines, source) {
-        Ok(ReadLines { kept, .. }) => match answer_events(alloc, kept.as_slice()) {
+        Ok(ReadLines { kept, .. }) => match answer_events(alloc, lines.keys(), kept.as_slice()) {
             Ok(text) => Ok(text),
             Err(_) => Err(ScriptFault::OutOfMemory),
         },

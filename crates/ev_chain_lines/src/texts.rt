@@ -12,21 +12,26 @@ use crate::answers::{
 };
 use ev_chains::{ChainEvent, Chains};
 use ev_io::MAX_LINES;
+use ev_keys::Keys;
 use ev_tree::{ReadError, member};
 use ev_trees::push_line;
 use serde_json::{Value, json};
 use std::alloc::{AllocError, Global};
 
 /// The text that answers events: a line for each, and one with their number. They are the events of an input's lines after
-/// the first.
+/// the first. Chains are found by tables of these keys.
 ///
 /// # Errors
 /// `AllocError` where there is no memory for it, or more than 2^32 - 1 chains would have to be numbered.
-pub fn answer_events(alloc: Global, events: &[ChainEvent]) -> Result<Vec<u8>, AllocError>
+pub fn answer_events(
+    alloc: Global,
+    keys: Keys,
+    events: &[ChainEvent],
+) -> Result<Vec<u8>, AllocError>
     requires few { length events.now < MAX_LINES }
     ensures text { IfOk result (λ text. text.items ≡ chains_text (map seen events.now)) }
 {
-    let mut chains = Chains::new(alloc);
+    let mut chains = Chains::new(alloc, keys);
     let mut text = Vec::new(alloc);
     for (place, event) in events.iter().enumerate() {
         let answer = answer_event(alloc, &mut chains, event)?;

@@ -12,7 +12,8 @@ use Rattle.ev_ledger.specs.Members.{AreApart, is_open_at}
 use Rattle.ev_ledger.proofs.OrderLemmas.{any_sorted}
 use Rattle.ev_ledger.proofs.PlaceLemmas.{closed_leaves}
 use Rattle.ev_chains.specs.Closing.{closed_all, is_numbered}
-use Rattle.ev_chains.proofs.ConnLemmas.{Apart, any_left, any_first, turned}
+use Rattle.ev_chains.specs.Kept.{Apart}
+use Rattle.ev_chains.proofs.ConnLemmas.{any_left, any_first, turned}
 use Rattle.ev_chains.proofs.KeyLemmas.{any_same, any_swap}
 
 module _ (draining : List ℕ) where

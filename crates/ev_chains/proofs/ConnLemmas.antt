@@ -11,6 +11,7 @@ use Rattle.std.proofs.lemmas.List.Sums.{sum_by-cons}
 use Rattle.ev_model.specs.Picture.{has_number}
 use Rattle.ev_model.specs.Publishing.{ascending}
 use Rattle.ev_ledger.proofs.OrderLemmas.{Rises, sum_sorted, sorted_rises}
+use Rattle.ev_chains.specs.Kept.{Apart}
 use Rattle.ev_chains.proofs.KeyLemmas.{any_same}
 use Rattle.ev_chains.proofs.ListLemmas.{counts, nat_order, same_counts}
 
@@ -35,17 +36,13 @@ turned a b = grind (arith, nat_tests)
 
 -- ---- numbers that are apart
 
-abbrev pub Apart : List ℕ → Type 0
-Apart [] = Unit {0}
-Apart (x ∷ xs) = (has_number x xs ≡ false) × Apart xs
-
-own : (n : ℕ) → (n == n) ≡ true
+pub own : (n : ℕ) → (n == n) ≡ true
 own n = grind (arith, nat_tests)
 
-same : (a b : ℕ) → (a == b) ≡ true → a ≡ b
+pub same : (a b : ℕ) → (a == b) ≡ true → a ≡ b
 same a b h = grind (arith, nat_tests)
 
-abbrev one_if : Bool → ℕ
+abbrev pub one_if : Bool → ℕ
 one_if b = cond b 1 0
 
 count_none : (n : ℕ) (xs : List ℕ) → has_number n xs ≡ false → sum_by (counts n) xs ≡ 0
@@ -57,7 +54,7 @@ count_none n (x ∷ xs) none =
     let rest = count_none n xs parts.1 in
     omega (arith, first, here, rest)
 
-count_apart : (n : ℕ) (xs : List ℕ) → Apart xs → sum_by (counts n) xs ≡ one_if (has_number n xs)
+pub count_apart : (n : ℕ) (xs : List ℕ) → Apart xs → sum_by (counts n) xs ≡ one_if (has_number n xs)
 count_apart n [] apart = refl
 count_apart n (x ∷ xs) apart = sum_by-cons (counts n) x xs ∙ by (x == n) refl (count_apart n xs apart.1)
   where

@@ -5,3 +5,6 @@ pub mod ListLemmas
 pub mod ConnLemmas
 pub mod CloseLemmas
 pub mod NextLemmas
+pub mod RowLemmas
+pub mod NumberLemmas
+pub mod KeptLemmas

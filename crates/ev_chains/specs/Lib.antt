@@ -7,5 +7,6 @@ pub mod Listed
 pub mod Listeners
 pub mod State
 pub mod Steps
+pub mod Kept
 pub mod Closing
 pub mod Events

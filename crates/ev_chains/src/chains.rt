@@ -8,9 +8,11 @@ ghost use Rattle.ev_chains.specs.State.{opening, accepted, listener_reading};
 ghost use Rattle.ev_chains.specs.Steps.{accept, close, drain, drained_by, reap, reaped_by};
 
 use crate::changes::{Changed, ascending, numbers_above, part_rows, plain_numbers};
-use crate::closing::{close_all, closing_conns, part_draining};
+use crate::closing::{close_all, closing_conns, has_open};
+use crate::draining::{Draining, push_all};
 use crate::listed::Listed;
 use crate::next::{Next, read_next};
+use ev_keys::Keys;
 use ev_ledger::Ledger;
 use ev_tree::ReadError;
 use ev_types::Gen;
@@ -34,31 +36,39 @@ pub enum ChainAnswer {
 pub struct Chains {
     made: u32,
     serving: Listed,
-    draining: Vec<Gen>,
+    // The numbers of all chains that ever began to drain, in that order. Those drain still that are in `draining`.
+    began: Vec<Gen>,
+    draining: Draining,
+    // A connection's listener is its chain.
     ledger: Ledger,
 }
 
 impl Model for Chains {
-    ghost use Rattle.std.specs.Prelude.{◌≡◌, map, false};
-    ghost use Rattle.ev_chains.specs.Rows.{has_clash, match_of};
     ghost use Rattle.ev_chains.specs.State.{ChainState};
+    ghost use Rattle.ev_chains.specs.Kept.{AreKept, draining_in};
 
     ghost Value = { ChainState };
 
-    ghost view = { λ c. record { made = c.made; serving = c.serving; draining = c.draining.items; opened = c.ledger } };
+    ghost view = { λ c. record {
+      made = c.made;
+      serving = c.serving;
+      draining = draining_in c.began.items c.draining.idle.items c.draining.busy.keys;
+      opened = c.ledger;
+    } };
 
-    ghost invariant = { λ c. has_clash (map match_of c.serving) ≡ false };
+    ghost invariant = { λ c. AreKept c.made c.serving c.began.items c.draining.idle.items c.draining.busy.keys c.ledger };
 }
 
 impl Chains {
-    /// No chain, and no connection. It takes no memory.
-    pub fn new(alloc: Global) -> Chains
+    /// No chain, and no connection; chains will be found by tables of these keys. It takes no memory.
+    pub fn new(alloc: Global, keys: Keys) -> Chains
         ensures { result ≡ opening }
     {
         Chains {
             made: 0,
-            serving: Listed::new(alloc),
-            draining: Vec::new(alloc),
+            serving: Listed::new(alloc, keys),
+            began: Vec::new(alloc),
+            draining: Draining::new(alloc),
             ledger: Ledger::new(alloc),
         }
     }
@@ -89,7 +99,10 @@ impl Chains {
             kept: ascending(parted.kept)?,
             made: numbers_above(alloc, self.made, made)?,
         };
-        self.draining.extend_from_slice(parted.gone.as_slice())?;
+        let gone = parted.gone.as_slice();
+        self.began.reserve(gone.len())?;
+        self.draining.start(alloc, &self.ledger, gone)?;
+        push_all(&mut self.began, gone);
         self.serving = rows;
         self.made = made;
         Ok(changed)
@@ -124,7 +137,14 @@ impl Chains {
         ensures answer { result ≡ is_open self.old.opened 0 conn }
         ensures state { self.new ≡ close conn self.old }
     {
-        self.ledger.close(0, conn)
+        let on = self.ledger.on(0, conn);
+        let was_open = self.ledger.close(0, conn);
+        if let Some(place) = on {
+            if !has_open(&self.ledger, place.0) {
+                self.draining.end(place.0);
+            }
+        }
+        was_open
     }
 
     /// The drain timeout comes: the connections on chains that drain are closed. Their numbers, from the least. Out of memory,
@@ -134,8 +154,9 @@ impl Chains {
         ensures state { OnOk result (self.new ≡ drain self.old) }
         ensures err { OnErr result (self.new ≡ self.old) }
     {
-        let closed = closing_conns(alloc, &self.ledger, self.draining.as_slice())?;
+        let closed = closing_conns(alloc, &self.ledger, self.draining.busy_numbers())?;
         close_all(&mut self.ledger, closed.as_slice());
+        self.draining.end_all(alloc);
         Ok(closed)
     }
 
@@ -145,9 +166,8 @@ impl Chains {
         ensures state { OnOk result (self.new ≡ reap self.old) }
         ensures err { OnErr result (self.new ≡ self.old) }
     {
-        let parted = part_draining(alloc, &self.ledger, self.draining.as_slice())?;
-        let reaped = ascending(parted.idle)?;
-        self.draining = parted.busy;
+        let reaped = ascending(plain_numbers(alloc, self.draining.idle.as_slice())?)?;
+        self.draining.go();
         Ok(reaped.into_vec())
     }
 }

@@ -1,4 +1,4 @@
-ghost use Rattle.std.specs.Prelude.{◌≡◌, ◌==◌, ◌&&◌, IfOk, OnOk};
+ghost use Rattle.std.specs.Prelude.{◌≡◌, ◌+◌, ◌==◌, ◌&&◌, length, vec_len, IfOk, OnOk};
 ghost use Rattle.std.specs.BTreeSet.{contains, IsOrdered};
 ghost use Rattle.std.specs.Ordering.{nat_cmp};
 ghost use Rattle.ev_model.specs.Connections.{closed_by, left_open};
@@ -12,10 +12,10 @@ use ev_types::Gen;
 use std::alloc::{AllocError, Global};
 use std::collections::BTreeSet;
 
-// The numbers of chains that drain, by whether a connection is open on them.
+// The numbers of chains, by whether a connection is open on them.
 #[derive(Drop)]
 pub(crate) struct PartedDraining {
-    pub idle: Vec<u32>,
+    pub idle: Vec<Gen>,
     pub busy: Vec<Gen>,
 }
 
@@ -27,6 +27,7 @@ pub(crate) fn part_draining(
 ) -> Result<PartedDraining, AllocError>
     ensures idle { IfOk result (λ parted. parted.idle.items ≡ idle_among ledger.now draining.now) }
     ensures busy { IfOk result (λ parted. parted.busy.items ≡ busy_among ledger.now draining.now) }
+    ensures all { IfOk result (λ parted. vec_len parted.idle + vec_len parted.busy ≡ length draining.now) }
 {
     let mut idle = Vec::new(alloc);
     let mut busy = Vec::new(alloc);
@@ -34,14 +35,14 @@ pub(crate) fn part_draining(
         if has_open(ledger, *number) {
             busy.push(*number)?;
         } else {
-            idle.push(number.number())?;
+            idle.push(*number)?;
         }
     }
     Ok(PartedDraining { idle, busy })
 }
 
 // Whether a connection is open on a chain.
-fn has_open(ledger: &Ledger, number: Gen) -> bool
+pub(crate) fn has_open(ledger: &Ledger, number: Gen) -> bool
     ensures { result ≡ has_open ledger.now number }
 {
     ledger.count(number) != 0

@@ -20,13 +20,20 @@
 //!   keeps none.
 //! - Open connections are those of one worker, 0, in a ledger, with the chain as their listener. The ledger lists them by their
 //!   numbers.
-//! - A drain timeout looks at the connections that it closes and at no other. It and a reaping go over the chains that drain: those
-//!   that were not reaped since they began to, which are few where chains are reaped as they fall idle.
+//! - Of the chains that drain, those without a connection are one set and those with one another. A reaping takes the first, a
+//!   drain timeout goes over the second, and the last connection of a chain that closes moves it from the second to the first,
+//!   which has room for it: a close takes no memory. So each costs what it reaps, closes or moves, by look-ups.
+//! - A state lists the chains that drain in the order in which they began to, which nothing asks for. So their numbers are only
+//!   kept in that order, with those of the chains that are gone: four bytes a chain, and never gone over.
+//! - No number serves and drains, or drains twice (`AreNumbered`). So no connection is accepted on a chain that drains.
+//! - A drain timeout looks at the connections that it closes and at no other.
+//! - The table of keys hashes by keys that are made of the input, which chooses the names.
 #![tactic(auto)]
 
 mod chains;
 mod changes;
 mod closing;
+mod draining;
 mod events;
 mod keys;
 mod listed;

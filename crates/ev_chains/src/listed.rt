@@ -10,13 +10,14 @@ ghost use Rattle.ev_chains.specs.Listed.{has_any, PutsUnder, number_in, number_f
 use crate::keys::ChainKey;
 use crate::matches::ChainMatch;
 use crate::rows::{Chain, Row};
+use ev_keys::Keys;
 use ev_types::{Gen, Seq, Text};
 use indexmap::{IndexMap, IndexSet};
 use std::alloc::{AllocError, Global};
 use std::marker::Model;
 
 /// The places of chains in a list, by their keys.
-type Places = IndexMap<ChainKey, usize>;
+type Places = IndexMap<ChainKey, usize, Keys>;
 
 /// Chains of a listener with a table by key, seen by contracts as the chains.
 #[derive(Drop)]
@@ -40,23 +41,23 @@ impl Model for Listed {
 }
 
 impl Listed {
-    /// No chain. It takes no memory.
-    pub(crate) fn new(alloc: Global) -> Listed
+    /// No chain, in a table of these keys. It takes no memory.
+    pub(crate) fn new(alloc: Global, keys: Keys) -> Listed
         ensures { result ≡ [] }
     {
         Listed {
             rows: Vec::new(alloc),
-            places: IndexMap::new(alloc),
+            places: IndexMap::with_hasher(alloc, keys),
             ports: IndexSet::new(alloc),
             clash: false,
         }
     }
 
-    /// The list of these chains.
-    pub(crate) fn of(alloc: Global, rows: Vec<Row>) -> Result<Listed, AllocError>
+    /// The list of these chains, with a table of these keys.
+    pub(crate) fn of(alloc: Global, keys: Keys, rows: Vec<Row>) -> Result<Listed, AllocError>
         ensures { IfOk result (λ listed. listed ≡ rows.items) }
     {
-        let mut places = IndexMap::new(alloc);
+        let mut places = IndexMap::with_hasher(alloc, keys);
         let mut ports = IndexSet::new(alloc);
         let mut clash = false;
         for place in (0..rows.len()).rev() {
@@ -71,6 +72,11 @@ impl Listed {
             ports,
             clash,
         })
+    }
+
+    /// The keys of its table.
+    pub(crate) fn keys(&self) -> Keys {
+        *self.places.hasher()
     }
 
     /// The chains in order.

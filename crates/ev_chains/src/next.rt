@@ -37,7 +37,7 @@ pub(crate) fn read_next(
 {
     let found = inspect_listener(alloc, body)?;
     let Numbered { rows, made } = number_chains(alloc, made, serving, found.value)?;
-    let rows = Listed::of(alloc, rows)?;
+    let rows = Listed::of(alloc, serving.keys(), rows)?;
     match with_v26(found.broken, rows.has_clash()).least() {
         Some(rule) => Err(ReadError::Rule(rule)),
         None => Ok(Next { rows, made }),

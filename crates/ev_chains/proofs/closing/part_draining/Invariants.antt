@@ -1,4 +1,4 @@
-use Rattle.std.proofs.Common.{◌≡◌, take}
+use Rattle.std.proofs.Common.{◌≡◌, ◌+◌, take, vec_len}
 use Rattle.ev_chains.specs.State.{idle_among, busy_among}
 use Rattle.ev_chains.proofs.closing.part_draining.Given as goal
 
@@ -8,4 +8,5 @@ invariant-loop-number l =
     record {
       idle : l.idle.items ≡ idle_among l.ledger seen;
       busy : l.busy.items ≡ busy_among l.ledger seen;
+      all : vec_len l.idle + vec_len l.busy ≡ l.number-index;
     }
