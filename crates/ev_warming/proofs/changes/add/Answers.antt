@@ -1,11 +1,10 @@
 use Rattle.std.proofs.Common.{◌≡◌, ◌∙◌, ◌+◌, ◌++◌, [], ◌∷◌, Some, cond}
 use Rattle.std.specs.Str.{bytes_eq}
-use Rattle.ev_model.specs.Rows.{new_row, rows_with_new}
+use Rattle.ev_model.specs.Rows.{new_row}
 use Rattle.ev_model.specs.Watching.{dependencies_of}
 use Rattle.ev_indexes.specs.declared.state.State.{State}
 use Rattle.ev_indexes.specs.Addresses.{listens_at, numbers_at}
 use Rattle.ev_indexes.specs.Due.{is_one_of}
-use Rattle.ev_indexes.specs.Indexes.{SameMarks}
 use Rattle.ev_indexes.specs.Ready.{is_due_at}
 use Rattle.ev_indexes.specs.Standings.{standing_in}
 use Rattle.ev_indexes.specs.Watched.{watch_in, watched_for}

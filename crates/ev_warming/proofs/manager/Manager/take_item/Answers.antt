@@ -17,14 +17,13 @@ returns-clause-kept g c =
     let t = c.add.new.state in
     let e = c.in_ok-add.ensures in
     let content = c.in-New-Good.content in
-    let rows : t.table.rows ≡ rows_with_new m.state.kind m.state.table.made c.in_ok-name.name content m.state.table.rows =
-    e.rows ∙ (λ i. rows_with_new m.state.kind m.state.table.made (c.name.view_is i) content m.state.table.rows) in
+    let rows : t.table.rows ≡ rows_with_new m.state.kind m.state.table.made c.in_ok-name.name content m.state.table.rows = e.rows in
     record {
       rows = (λ i. is_by_name (e.others i).kind) ∙ c.requires.kept.rows;
       indexed = e.indexed;
       needs = needs-added m.state.kind m.state.table.made c.in_ok-name.name content m.state.table.rows t.table.rows rows c.requires.kept.needs e.needs;
       tidy = subst (IsTidyBut t) (sym c.in_ok-put_one.ensures)
-          (tidy-added m.state t c.in_ok-name.name content c.standing.result.warming m.stale c.requires.kept.indexed (λ i. (c.standing.ensures i).warming)
+          (tidy-added m.state t c.in_ok-name.name content c.standing-dropped.result.warming m.stale c.requires.kept.indexed (λ i. (c.standing-dropped.ensures i).warming)
           rows e.marks (λ i. (e.others i).results) c.requires.kept.tidy);
     }
 
@@ -35,11 +34,10 @@ returns-clause-told g c =
     let x = c.requires.kept.indexed in
     let name = c.in_ok-name.name in
     let content = c.in-New-Good.content in
-    let rows : c.add.new.state.table.rows ≡ rows_with_new m.state.kind m.state.table.made name content m.state.table.rows =
-    e.rows ∙ (λ i. rows_with_new m.state.kind m.state.table.made (c.name.view_is i) content m.state.table.rows) in
+    let rows : c.add.new.state.table.rows ≡ rows_with_new m.state.kind m.state.table.made name content m.state.table.rows = e.rows in
     subst (Tells m.state.table.rows c.add.new.state.table.rows c.args.retired.now) (sym c.in_ok-put_one-2.ensures)
-    (tells-added m.state.kind name m.state.table.rows x.table.apart x.kinds m.state.table.made content c.standing.result.warming c.add.new.state.table.rows c.args.retired.now
-    ((λ i. option_to_list (c.standing.ensures i).warming) ∙ x.warming name) rows)
+    (tells-added m.state.kind name m.state.table.rows x.table.apart x.kinds m.state.table.made content c.standing-dropped.result.warming c.add.new.state.table.rows c.args.retired.now
+    ((λ i. option_to_list (c.standing-dropped.ensures i).warming) ∙ x.warming name) rows)
 
 pub returns-clause-stands : goal.returns-clause-stands
 returns-clause-stands g c =
@@ -49,7 +47,7 @@ returns-clause-stands g c =
     let content = c.in-New-Good.content in
     subst (λ (verdict : Verdict). FollowsDrawing s.table.made s t (add_item s.kind verdict item)) (sym c.in-New-Good.is-0)
     (new-stands s t s.table.made s.kind item content ((λ i. (sym c.item.view_is i).body) ∙ c.in-New-Good.is-1)
-    (subst (λ (name : List ℕ). FollowsDrawing s.table.made s t (with_generation s.kind name content)) (c.name.view_is ∙ c.in_ok-name.ensures) c.in_ok-add.ensures.stands))
+    (subst (λ (name : List ℕ). FollowsDrawing s.table.made s t (with_generation s.kind name content)) c.in_ok-name.ensures c.in_ok-add.ensures.stands))
 
 pub returns-in_default-clause-told : goal.returns-in_default-clause-told
 returns-in_default-clause-told g c = tells-none c.args.self.now.state.table.rows c.args.retired.now
