@@ -15,7 +15,7 @@ apply-requires-clause-kept g c = subst (λ (o : Manager). IsKept o) (sym c.of_mu
 pub apply-requires-clause-typed : goal.apply-requires-clause-typed
 apply-requires-clause-typed g c =
     c.requires.typed
-    ∙ ap (λ (k : Kind). Some k) (sym (ap (λ (o : Manager). o.state.kind) c.of_mut-own.ensures.value ∙ rows-back c.args.self.now c.args.kind c.requires.kept c.if_not))
+    ∙ ap (λ (k : Kind). Some k) (sym (ap (λ (o : Manager). o.state.kind) c.of_mut-own.ensures.value ∙ rows-back c.args.self.now c.args.kind c.requires.kept (sym c.is_by_name.ensures ∙ c.if-is_by_name.false)))
 
 pub apply-requires-clause-later : goal.apply-requires-clause-later
 apply-requires-clause-later g c =
@@ -28,7 +28,7 @@ returns-clause-retired g c =
 
 pub returns-clause-stands : goal.returns-clause-stands
 returns-clause-stands g c =
-    rows-stand c.args.self.now c.args.kind c.apply.new.self c.made-drawn.result c.args.response.now c.args.verdicts.now c.requires.kept c.if_not c.made-drawn.ensures
+    rows-stand c.args.self.now c.args.kind c.apply.new.self c.made-drawn.result c.args.response.now c.args.verdicts.now c.requires.kept (sym c.is_by_name.ensures ∙ c.if-is_by_name.false) c.made-drawn.ensures
     (subst (λ (o : Manager). FollowsDrawing c.args.self.now.made o.state c.apply.new.self.state (with_response o.state.kind c.args.verdicts.now c.args.response.now))
     c.of_mut-own.ensures.value c.in_ok-retired.ensures.stands)
 
