@@ -36,28 +36,7 @@ impl Managers {
             self.arrive_all(alloc, kind, response, verdicts, steps)?;
             return Ok(Seq::new(alloc));
         }
-        let retired = self.apply(alloc, kind, response, verdicts, steps)?;
-        Ok(retired)
-    }
-
-    // A response of generations: their numbers go on after the last one that was drawn for either kind.
-    fn apply<L: Ledger>(
-        &mut self,
-        alloc: Global,
-        kind: Kind,
-        response: &Response,
-        verdicts: &[Verdict],
-        steps: &mut Steps<L>,
-    ) -> Result<Seq<Gen>, AllocError>
-        requires kept { AreManagersKept self.old }
-        requires rows { is_by_name kind ≡ false }
-        requires typed { response.now.kind ≡ Some kind }
-        requires one_each { length verdicts.now ≡ length response.now.items }
-        requires room { self.old.made + length response.now.items < 2 ^ 32 }
-        ensures kept { OnOk result (AreManagersKept self.new) }
-        ensures retired { IfOk result (λ retired. AreRetired retired self.old self.new) }
-        ensures stands { OnOk result (Follow self.old self.new (with_response kind verdicts.now response.now)) }
-    {
+        // the numbers go on after the last one that was drawn for either kind
         let made = self.made;
         let own = self.of_mut(kind);
         let retired = own.apply(alloc, made, response, verdicts, steps)?;

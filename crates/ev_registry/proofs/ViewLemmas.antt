@@ -2,14 +2,13 @@
 use Rattle.std.proofs.Common.{◌≡◌, ℕ, suc, ◌+◌, List, ◌++◌, Option, None, Some, map, option_map, option_to_list, refl, sym, ap, ◌∙◌, add-one}
 use Rattle.std.proofs.lemmas.List.{map-append}
 use Rattle.ev_types.specs.declared.rows.GenRow.{GenRow}
-use Rattle.ev_model.specs.World.{World, opening}
+use Rattle.ev_model.specs.World.{World}
 use Rattle.ev_model.specs.Dead.{last_picture}
 use Rattle.ev_model_laws.specs.Numbers.{IsNumbered}
 use Rattle.ev_model_laws.proofs.NumberLemmas.{draws_in_order}
 use Rattle.ev_actors.specs.Journals.{JournalParts, world_now}
 use Rattle.ev_types.specs.declared.rows.Phase.{Phase}
 use Rattle.ev_model.specs.declared.pictures.Picture.{Picture}
-use Rattle.ev_registry.specs.declared.views.View.{View}
 use Rattle.ev_run_laws.specs.ByNumber.{row_numbered, rows_numbered}
 use Rattle.ev_registry.specs.declared.views.ViewRow.{ViewRow}
 use Rattle.ev_registry.specs.Views.{view_of, view_row}

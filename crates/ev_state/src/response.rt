@@ -6,11 +6,10 @@ ghost use Rattle.ev_model.specs.Live.{lives_of};
 ghost use Rattle.ev_model.specs.Verdicts.{verdicts_of};
 ghost use Rattle.ev_model.specs.Rows.{with_removals, add_items, made_names, with_first};
 ghost use Rattle.ev_model.specs.Requests.{Watched, other_than, requests_by, reply_of};
-ghost use Rattle.ev_model.specs.Step.{respond, responded, answered};
-ghost use Rattle.ev_managers.specs.Managers.{AreForgotten, AreManagersKept};
+ghost use Rattle.ev_model.specs.Step.{respond};
+ghost use Rattle.ev_managers.specs.Managers.{AreManagersKept};
 ghost use Rattle.ev_subscription.specs.Subscriptions.{HasVersions};
 ghost use Rattle.ev_state.specs.States.{Follows, IsStep, ManagesAt};
-ghost use Rattle.ev_state.specs.Moves.{IsOver};
 ghost use Rattle.ev_state.specs.Retirements.{HaveMoved};
 
 use crate::asked::Asked;
@@ -38,30 +37,14 @@ impl State {
         requires room { 0 < length response.now.items → here.made + length response.now.items < 2 ^ 32 }
         ensures { IfOk result (λ told. IsStep self.new told.0 told.1 here (respond response.now here)) }
     {
-        match response.kind {
-            Some(kind) if self.subscription.is_open() => self.answer(alloc, kind, response, steps),
-            _ => Ok((Answer::Ignored, Moved::none(alloc))),
-        }
-    }
-
-    // A response of this kind is answered.
-    fn answer<L: Ledger>(
-        &mut self,
-        alloc: Global,
-        kind: Kind,
-        response: &Response,
-        steps: &mut Steps<L>,
-    ) -> Result<(Answer, Moved), AllocError>
-        ghost here: { World }
-        requires at { ManagesAt self.old here }
-        requires typed { response.now.kind ≡ Some kind }
-        requires room { 0 < length response.now.items → here.made + length response.now.items < 2 ^ 32 }
-        ensures { IfOk result (λ told. IsStep self.new told.0 told.1 here (answered kind response.now
-            (verdicts_of (lives_of here) here.versions response.now) here)) }
-    {
+        let (Some(kind), true) = (response.kind, self.subscription.is_open()) else {
+            return Ok((Answer::Ignored, Moved::none(alloc)));
+        };
         let mentions = Mentions::of(alloc, response)?;
         let verdicts = self.judge(alloc, &mentions)?;
-        let (asked, moved) = self.take(alloc, kind, verdicts.as_slice(), &mentions, steps)?;
+        let made = self.managers.made;
+        let mut moved = self.enter(alloc, kind, verdicts.as_slice(), &mentions, steps)?;
+        let asked = self.tidy(alloc, made, &mut moved, steps)?;
         let answer = self.reply(alloc, kind, response, verdicts, asked)?;
         Ok((answer, moved))
     }
@@ -77,33 +60,6 @@ impl State {
         let before = Before::new(&self.managers, &self.subscription);
         let verdicts = verdicts_by_mentions(alloc, &before, mentions)?;
         Ok(verdicts)
-    }
-
-    // What a response does to everything that is known, by the verdicts on its resources. Answers what it changes of what is asked for,
-    // and what it moves.
-    fn take<L: Ledger>(
-        &mut self,
-        alloc: Global,
-        kind: Kind,
-        verdicts: &[Verdict],
-        mentions: &Mentions<'_>,
-        steps: &mut Steps<L>,
-    ) -> Result<(Asked, Moved), AllocError>
-        ghost here: { World }
-        requires at { ManagesAt self.old here }
-        requires typed { mentions.now.kind ≡ Some kind }
-        requires room { 0 < length mentions.now.items → here.made + length mentions.now.items < 2 ^ 32 }
-        requires one_each { length verdicts.now ≡ length mentions.now.items }
-        requires judged { verdicts.now ≡ verdicts_of (lives_of here) here.versions mentions.now }
-        ensures kept { OnOk result (AreManagersKept self.new.managers) }
-        ensures forgotten { OnOk result (AreForgotten self.new.managers) }
-        ensures over { IfOk result (λ told. IsOver self.new told.0 told.1 here
-            (responded kind mentions.now verdicts.now here)) }
-    {
-        let made = self.managers.made;
-        let mut moved = self.enter(alloc, kind, verdicts, mentions, steps)?;
-        let asked = self.tidy(alloc, made, &mut moved, steps)?;
-        Ok((asked, moved))
     }
 
     // The answer to a response: its reply and what its changes ask for, and the verdicts.

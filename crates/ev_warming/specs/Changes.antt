@@ -1,5 +1,5 @@
 -- How generations changed, by their rows before and after.
-use Rattle.std.specs.Prelude.{◌≡◌, ℕ, Bool, true, false, not, ◌&&◌, ◌||◌, nat_le, if◌then◌else◌, List, [], ◌∷◌, ◌++◌, length, Option, None, Some, option_to_list}
+use Rattle.std.specs.Prelude.{◌≡◌, ℕ, Bool, true, false, not, ◌&&◌, ◌||◌, nat_le, if◌then◌else◌, List, [], length, Option, None, Some, option_to_list}
 use Rattle.ev_types.specs.Items.{ResponseParts}
 use Rattle.ev_types.specs.Kinds.{kind_same}
 use Rattle.ev_types.specs.Statuses.{is_active, is_live}
@@ -7,7 +7,7 @@ use Rattle.ev_types.specs.declared.contents.Content.{Content}
 use Rattle.ev_types.specs.declared.contents.Kind.{Kind}
 use Rattle.ev_types.specs.declared.rows.RowStatus.{RowStatus}
 use Rattle.ev_types.specs.declared.rows.GenRow.{GenRow}
-use Rattle.ev_model.specs.Rows.{removed_status, with_statuses, new_row, rows_with_new}
+use Rattle.ev_model.specs.Rows.{removed_status, with_statuses, rows_with_new}
 use Rattle.ev_model.specs.Signals.{is_draining, rows_ended}
 use Rattle.ev_model.specs.Verdicts.{items_named, is_among}
 use Rattle.ev_generations.specs.Tables.{row_in, with_status}
@@ -95,10 +95,6 @@ EndsRows old new name = new.table.rows ≡ rows_ended old.kind name old.table.ro
 -- the rows with a new one, which takes the place of one that warms under its name
 abbrev pub AddsRow : State → State → List ℕ → Content → Type 0
 AddsRow old new name content = new.table.rows ≡ rows_with_new old.kind old.table.made name content old.table.rows
-
--- the rows and a new one after them
-abbrev pub AppendsRow : State → State → List ℕ → Content → Type 0
-AppendsRow old new name content = new.table.rows ≡ old.table.rows ++ new_row old.kind old.table.made name content ∷ []
 
 -- these rows once the one of this number drains, or is dropped where it warmed
 abbrev pub rows_retired : ℕ → List GenRow → List GenRow

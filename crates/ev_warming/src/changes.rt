@@ -17,7 +17,7 @@ ghost use Rattle.ev_indexes.specs.Worlds.{needs_of};
 ghost use Rattle.ev_warming.specs.Promotion.{status_drained};
 ghost use Rattle.ev_indexes.specs.Indexes.{IsIndexed, SameMarks, depends_on, numbers_waiting, status_in, name_in};
 ghost use Rattle.ev_warming.specs.Arrivals.{Hears, UnwatchesNeeds, WatchesNeeds, with_arrived};
-ghost use Rattle.ev_warming.specs.Changes.{AddsRow, AppendsRow, AreDue, BeganToDrain, CameToServe, EndsRows, KeepsKnown, KeepsResults, LeavesNoneDue, promoted_by, rows_giving_way, rows_retired};
+ghost use Rattle.ev_warming.specs.Changes.{AddsRow, AreDue, BeganToDrain, CameToServe, EndsRows, KeepsKnown, KeepsResults, LeavesNoneDue, promoted_by, rows_giving_way, rows_retired};
 ghost use Rattle.ev_warming.specs.Worlds.{Follows, FollowsAt, FollowsDrawing, with_generation, with_rows_ended};
 
 use ev_generations::Steps;
@@ -216,26 +216,44 @@ pub(crate) fn add<L: Ledger>(
     state: &mut State,
     alloc: Global,
     name: Name,
-    content: Content,
+    content: &Content,
     steps: &mut Steps<L>,
 ) -> Result<(), AllocError>
     requires indexed { IsIndexed state.old }
-    requires typed { content_kind content ≡ state.old.kind }
+    requires typed { content_kind content.now ≡ state.old.kind }
     requires room { state.old.table.made + 1 < 2 ^ 32 }
     ensures indexed { OnOk result (IsIndexed state.new) }
-    ensures rows { OnOk result (AddsRow state.old state.new name content) }
+    ensures rows { OnOk result (AddsRow state.old state.new name content.now) }
     ensures made { OnOk result (state.new.table.made ≡ state.old.table.made + 1) }
     ensures marks { OnOk result (SameMarks state.old.watches state.new.watches) }
     ensures others { OnOk result (KeepsResults state.old state.new) }
     ensures steps { OnOk result (steps.new ≤ steps.old + 2) }
-    ensures needs { OnOk result (HaveNames (dependencies_of content)) }
+    ensures needs { OnOk result (HaveNames (dependencies_of content.now)) }
     // Whatever world the state stood for in which no other number was drawn, it stands for that world with the new generation.
     ensures stands { OnOk result (FollowsDrawing state.old.table.made state.old state.new
-        (with_generation state.old.kind name content)) }
+        (with_generation state.old.kind name content.now)) }
 {
     let _text = name.as_str();
     drop_warming(state, &name, steps);
-    append(state, alloc, name, content, steps)?;
+    let active = state.names.standing(&name).active;
+    let number = state
+        .table
+        .add(state.kind, name.copy(alloc)?, content.copy(alloc)?)?;
+    watch(&mut state.watches, alloc, content, number)?;
+    state.addresses.hold(alloc, content, number)?;
+    let standing = Standing {
+        active,
+        warming: Some(number),
+    };
+    state.names.enter(name, standing)?;
+    refresh(
+        &state.table,
+        &state.watches,
+        &state.results,
+        &mut state.due,
+        &[number],
+        steps,
+    )?;
     Ok(())
 }
 
@@ -285,47 +303,6 @@ fn drop_warming<L: Ledger>(state: &mut State, name: &Name, steps: &mut Steps<L>)
     if let Some(before) = state.names.standing(name).warming {
         retire(state, before, steps);
     }
-}
-
-// A new generation of a name under which none warms.
-fn append<L: Ledger>(
-    state: &mut State,
-    alloc: Global,
-    name: Name,
-    content: Content,
-    steps: &mut Steps<L>,
-) -> Result<(), AllocError>
-    requires indexed { IsIndexed state.old }
-    requires alone { (standing_in state.old.names name).warming ≡ None }
-    requires room { state.old.table.made + 1 < 2 ^ 32 }
-    ensures indexed { OnOk result (IsIndexed state.new) }
-    ensures rows { OnOk result (AppendsRow state.old state.new name content) }
-    ensures made { OnOk result (state.new.table.made ≡ state.old.table.made + 1) }
-    ensures marks { OnOk result (SameMarks state.old.watches state.new.watches) }
-    ensures others { OnOk result (KeepsResults state.old state.new) }
-    ensures steps { OnOk result (steps.new ≡ steps.old + 1) }
-    ensures needs { OnOk result (HaveNames (dependencies_of content)) }
-{
-    let active = state.names.standing(&name).active;
-    let number = state
-        .table
-        .add(state.kind, name.copy(alloc)?, content.copy(alloc)?)?;
-    watch(&mut state.watches, alloc, &content, number)?;
-    state.addresses.hold(alloc, &content, number)?;
-    let standing = Standing {
-        active,
-        warming: Some(number),
-    };
-    state.names.enter(name, standing)?;
-    refresh(
-        &state.table,
-        &state.watches,
-        &state.results,
-        &mut state.due,
-        &[number],
-        steps,
-    )?;
-    Ok(())
 }
 
 // Adds a number to the others, where there is one.

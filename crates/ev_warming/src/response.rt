@@ -4,20 +4,18 @@
 //! in place of a response.
 
 ghost use Rattle.std.specs.Prelude.{◌≡◌, ◌+◌, ◌^◌, ◌<◌, ◌≤◌, true, Some, All, length, IfOk, OnOk};
-ghost use Rattle.ev_types.specs.Items.{IsBodyOf, content_kind};
-ghost use Rattle.ev_types.specs.declared.contents.Body.TheVariants.{Good};
-ghost use Rattle.ev_types.specs.declared.events.Verdict.TheVariants.{New};
+ghost use Rattle.ev_types.specs.Items.{IsBodyOf};
 ghost use Rattle.ev_model.specs.Verdicts.{is_among};
 ghost use Rattle.ev_model.specs.Rows.{add_item, add_items};
 ghost use Rattle.ev_warming.specs.Managers.{IsKept};
 ghost use Rattle.ev_warming.specs.Changes.{HaveRetired, TellsRetired};
-ghost use Rattle.ev_warming.specs.Worlds.{Follows, FollowsDrawing, with_generation, with_name_left, unchanged, with_response, with_rows_ended, with_rows_left};
+ghost use Rattle.ev_warming.specs.Worlds.{Follows, FollowsDrawing, with_name_left, unchanged, with_response, with_rows_ended, with_rows_left};
 
 use crate::Manager;
 use crate::changes::{add, put_one};
 use ev_generations::Steps;
 use ev_mentions::Mentions;
-use ev_types::{Body, Content, Gen, Item, Name, NameError, Response, Seq, Text, TryCopy, Verdict};
+use ev_types::{Body, Gen, Item, Name, NameError, Response, Seq, Text, Verdict};
 use std::alloc::{AllocError, Global};
 use std::sync::ledger::Ledger;
 
@@ -174,7 +172,8 @@ impl Manager {
         Ok(())
     }
 
-    // One resource comes in: one that is new makes a generation, where it has content.
+    // One resource comes in: where it is new and has content, a generation of this warms under its name, and one that warmed
+    // under it before is dropped.
     fn take_item<L: Ledger>(
         &mut self,
         alloc: Global,
@@ -194,39 +193,14 @@ impl Manager {
         ensures stands { OnOk result (FollowsDrawing self.old.state.table.made self.old.state self.new.state
             (add_item self.old.state.kind verdict item.now)) }
     {
-        match (verdict, &item.body) {
-            (Verdict::New, Body::Good(content)) => self.make(alloc, item, content, retired, steps),
-            _ => Ok(()),
-        }
-    }
-
-    // A generation of this name and content, which are the resource's, warms, and one that warmed under the name is dropped. It
-    // costs at most two look-ups.
-    fn make<L: Ledger>(
-        &mut self,
-        alloc: Global,
-        item: &Item,
-        content: &Content,
-        retired: &mut Seq<Gen>,
-        steps: &mut Steps<L>,
-    ) -> Result<(), AllocError>
-        requires kept { IsKept self.old }
-        requires good { item.now.body ≡ Good content.now }
-        requires typed { content_kind content.now ≡ self.old.state.kind }
-        requires room { self.old.state.table.made + 1 < 2 ^ 32 }
-        ensures kept { OnOk result (IsKept self.new) }
-        ensures kind { OnOk result (self.new.state.kind ≡ self.old.state.kind) }
-        ensures made { OnOk result (self.new.state.table.made ≡ self.old.state.table.made + 1) }
-        ensures told { OnOk result (TellsRetired self.old.state self.new.state retired.old retired.new) }
-        ensures steps { OnOk result (steps.new ≤ steps.old + 2) }
-        ensures stands { OnOk result (FollowsDrawing self.old.state.table.made self.old.state self.new.state
-            (with_generation self.old.state.kind item.now.name content.now)) }
-    {
+        let (Verdict::New, Body::Good(content)) = (verdict, &item.body) else {
+            return Ok(());
+        };
         let name = item.resource_name(alloc)?;
         let dropped = self.state.names.standing(&name).warming;
         put_one(&mut self.stale, &dropped)?;
         put_one(retired, &dropped)?;
-        add(&mut self.state, alloc, name, content.copy(alloc)?, steps)?;
+        add(&mut self.state, alloc, name, content, steps)?;
         Ok(())
     }
 }

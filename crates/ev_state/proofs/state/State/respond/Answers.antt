@@ -1,13 +1,14 @@
-use Rattle.std.proofs.Common.{◌≡◌, ◌+◌, ◌<◌, List, length, Some, ap, sym, subst, ◌∙◌}
+use Rattle.std.proofs.Common.{◌≡◌, ◌+◌, ◌<◌, List, length, Option, Some, ap, sym, subst, ◌∙◌, arith}
 use Rattle.ev_types.specs.Items.{ResponseParts}
 use Rattle.ev_types.specs.declared.contents.Kind.{Kind}
 use Rattle.ev_types.specs.declared.events.Verdict.{Verdict}
 use Rattle.ev_types.specs.declared.events.Answer.{Answer}
-use Rattle.ev_types.specs.declared.events.Answer.TheVariants.{Replied}
+use Rattle.ev_types.specs.declared.events.Answer.TheVariants.{Ignored, Replied}
 use Rattle.ev_model.specs.World.{World}
 use Rattle.ev_model.specs.Live.{lives_of}
 use Rattle.ev_model.specs.Verdicts.{verdicts_of}
-use Rattle.ev_model.specs.Step.{responded, answered}
+use Rattle.ev_model.specs.Rows.{with_removals, add_items, made_names, with_first}
+use Rattle.ev_model.specs.Step.{responded, answered, respond_by}
 use Rattle.ev_model.specs.Requests.{Watched, all_watched, other_than, requests_by, requests_of, reply_of}
 use Rattle.ev_managers.specs.Managers.{AreForgotten, AreManagersKept}
 use Rattle.ev_subscription.specs.Subscriptions.{HasVersions}
@@ -16,27 +17,8 @@ use Rattle.ev_state.specs.declared.state.State.{State}
 use Rattle.ev_state.specs.declared.asked.Asked.{Asked}
 use Rattle.ev_state.specs.Moves.{IsOver}
 use Rattle.ev_state.specs.States.{IsStep}
-use Rattle.ev_state.proofs.state.State.answer.Goals as goal
-
-pub take-requires : goal.take-requires
-take-requires g c κs within =
-    let at = c.requires.1.0 in
-    let typed = ap (λ (r : ResponseParts). r.kind) c.in_ok-mentions.ensures ∙ c.requires.1.1.0 in (
-      within,
-      (
-        at,
-        (
-          typed,
-          (
-            subst (λ (r : ResponseParts). 0 < length r.items → g.here.made + length r.items < 4294967296) (sym c.in_ok-mentions.ensures) c.requires.1.1.1,
-            (
-              ap length c.as_slice.ensures.elements ∙ c.in_ok-verdicts.ensures.one_each,
-              c.as_slice.ensures.elements ∙ c.in_ok-verdicts.ensures.judged c.args.kind g.here at typed,
-            ),
-          ),
-        ),
-      ),
-    )
+use Rattle.ev_state.proofs.StepLemmas.{where_true}
+use Rattle.ev_state.proofs.state.State.respond.Goals as goal
 
 pub reply-requires : goal.reply-requires
 reply-requires g c = record {
@@ -72,11 +54,20 @@ replies s told verdicts given kind mentioned response asked these here kept forg
 
 pub returns : goal.returns
 returns g c =
-    let typed = ap (λ (r : ResponseParts). r.kind) c.in_ok-mentions.ensures ∙ c.requires.1.1.0 in
-    replies c.take.new.self c.in_ok-answer.answer c.in_ok-verdicts.verdicts c.as_slice.result.now c.args.kind c.in_ok-mentions.mentions c.args.response.now
-    c.in_ok-asked.asked c.in_ok-asked.moved g.here
+    let s = c.tidy.new.self in
+    let kind = c.in-Some-true.kind in
+    let response = c.args.response.now in
+    let mentions = c.in_ok-mentions.mentions in
+    let given = c.as_slice.result.now in
+    let at = c.requires.1.0 in
+    let own : response.kind ≡ Some kind = (λ i. (sym c.response.view_is i).kind) ∙ c.in-Some-true.is-0 in
+    let typed : mentions.kind ≡ Some kind = ap (λ (r : ResponseParts). r.kind) c.in_ok-mentions.ensures ∙ own in
+    let over = c.in_ok-asked.ensures.over g.here (with_first kind (made_names given mentions.items) (add_items kind given mentions.items (with_removals kind mentions g.here)))
+    c.in_ok-moved.ensures.follows at.follows.stands.managers.made c.in_ok-moved.ensures.moved in
+    where_true s c.in_ok-answer.answer c.tidy.new.moved g.here g.here.stream (respond_by response.kind response g.here) (g.here, Ignored)
+    (sym at.follows.stands.subscription.stream ∙ sym c.is_open.ensures ∙ c.in-Some-true.is-1)
+    (subst (λ (k : Option Kind). IsStep s c.in_ok-answer.answer c.tidy.new.moved g.here (respond_by k response g.here)) (sym own)
+    (replies s c.in_ok-answer.answer c.in_ok-verdicts.verdicts given kind mentions response c.in_ok-asked.asked c.tidy.new.moved g.here
     c.in_ok-asked.ensures.kept c.in_ok-asked.ensures.forgotten c.in_ok-mentions.ensures c.as_slice.ensures.elements
-    (c.as_slice.ensures.elements ∙ c.in_ok-verdicts.ensures.judged c.args.kind g.here c.requires.1.0 typed
-    ∙ ap (verdicts_of (lives_of g.here) g.here.versions) c.in_ok-mentions.ensures)
-    c.in_ok-asked.ensures.over
-    c.in_ok-answer.ensures
+    (c.as_slice.ensures.elements ∙ c.in_ok-verdicts.ensures.judged kind g.here at typed ∙ ap (verdicts_of (lives_of g.here) g.here.versions) c.in_ok-mentions.ensures)
+    over c.in_ok-answer.ensures))

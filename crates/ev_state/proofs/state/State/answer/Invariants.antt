@@ -1,4 +1,0 @@
-use Rattle.ev_state.proofs.state.State.answer.Given as goal
-
-abbrev pub ghost-take : goal.ghost-take
-ghost-take g a = g.here
