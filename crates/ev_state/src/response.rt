@@ -42,7 +42,7 @@ impl State {
         };
         let mentions = Mentions::of(alloc, response)?;
         let verdicts = self.judge(alloc, &mentions)?;
-        let made = self.managers.made;
+        let made = self.made();
         let mut moved = self.enter(alloc, kind, verdicts.as_slice(), &mentions, steps)?;
         let asked = self.tidy(alloc, made, &mut moved, steps)?;
         let answer = self.reply(alloc, kind, response, verdicts, asked)?;

@@ -1,4 +1,4 @@
-use Rattle.std.proofs.Common.{◌≡◌, ◌+◌, ◌<◌, List, length, Option, Some, ap, sym, subst, ◌∙◌, arith}
+use Rattle.std.proofs.Common.{◌≡◌, ℕ, zero, suc, ◌+◌, ◌<◌, List, length, Option, Some, ap, sym, subst, ◌∙◌, arith}
 use Rattle.ev_types.specs.Items.{ResponseParts}
 use Rattle.ev_types.specs.declared.contents.Kind.{Kind}
 use Rattle.ev_types.specs.declared.events.Verdict.{Verdict}
@@ -19,6 +19,33 @@ use Rattle.ev_state.specs.Moves.{IsOver}
 use Rattle.ev_state.specs.States.{IsStep}
 use Rattle.ev_state.proofs.StepLemmas.{where_true}
 use Rattle.ev_state.proofs.state.State.respond.Goals as goal
+
+room_for : (made n : ℕ) → made < 4294967296 → (0 < n → made + n < 4294967296) → made + n < 4294967296
+room_for made zero below room = omega (arith, below)
+room_for made (suc n) below room = room (omega arith)
+
+pub enter-requires : goal.enter-requires
+enter-requires g c κs within =
+    let at = c.requires.1.0 in
+    let kind = c.in-Some-true.kind in
+    let own : c.args.response.now.kind ≡ Some kind = (λ i. (sym c.response.view_is i).kind) ∙ c.in-Some-true.is-0 in
+    let typed : c.in_ok-mentions.mentions.kind ≡ Some kind = ap (λ (r : ResponseParts). r.kind) c.in_ok-mentions.ensures ∙ own in (
+      within,
+      (
+        at,
+        (
+          typed,
+          (
+            room_for g.here.made (length c.in_ok-mentions.mentions.items) (subst (λ n. n < 4294967296) (c.made-made.ensures g.here at) c.made-made.type_inv)
+                (subst (λ (r : ResponseParts). 0 < length r.items → g.here.made + length r.items < 4294967296) (sym c.in_ok-mentions.ensures) c.requires.1.1),
+            (
+              ap length c.as_slice.ensures.elements ∙ c.in_ok-verdicts.ensures.one_each,
+              c.as_slice.ensures.elements ∙ c.in_ok-verdicts.ensures.judged kind g.here at typed,
+            ),
+          ),
+        ),
+      ),
+    )
 
 pub reply-requires : goal.reply-requires
 reply-requires g c = record {
@@ -63,9 +90,9 @@ returns g c =
     let own : response.kind ≡ Some kind = (λ i. (sym c.response.view_is i).kind) ∙ c.in-Some-true.is-0 in
     let typed : mentions.kind ≡ Some kind = ap (λ (r : ResponseParts). r.kind) c.in_ok-mentions.ensures ∙ own in
     let over = c.in_ok-asked.ensures.over g.here (with_first kind (made_names given mentions.items) (add_items kind given mentions.items (with_removals kind mentions g.here)))
-    c.in_ok-moved.ensures.follows at.follows.stands.managers.made c.in_ok-moved.ensures.moved in
+    c.in_ok-moved.ensures.follows (c.made-made.ensures g.here at) c.in_ok-moved.ensures.moved in
     where_true s c.in_ok-answer.answer c.tidy.new.moved g.here g.here.stream (respond_by response.kind response g.here) (g.here, Ignored)
-    (sym at.follows.stands.subscription.stream ∙ sym c.is_open.ensures ∙ c.in-Some-true.is-1)
+    (sym at.follows.stands.subscription.stream ∙ sym c.in-Some-true.ensures)
     (subst (λ (k : Option Kind). IsStep s c.in_ok-answer.answer c.tidy.new.moved g.here (respond_by k response g.here)) (sym own)
     (replies s c.in_ok-answer.answer c.in_ok-verdicts.verdicts given kind mentions response c.in_ok-asked.asked c.tidy.new.moved g.here
     c.in_ok-asked.ensures.kept c.in_ok-asked.ensures.forgotten c.in_ok-mentions.ensures c.as_slice.ensures.elements
