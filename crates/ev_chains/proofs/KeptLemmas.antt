@@ -15,9 +15,8 @@ use Rattle.ev_model.specs.Connections.{closed_by, is_closing, is_member, left_op
 use Rattle.ev_ledger.specs.Members.{AreApart, member_before, on_in, with_member}
 use Rattle.ev_ledger.proofs.IndexLemmas.{found_any}
 use Rattle.ev_ledger.proofs.OrderLemmas.{any_put}
-use Rattle.ev_chains.specs.declared.rows.Row.{Row}
 use Rattle.ev_chains.specs.State.{busy_among, has_open, idle_among}
-use Rattle.ev_chains.specs.Kept.{Apart, AreNumbered, ArePlaced, HasRow, draining_in, drains, is_foreign, is_in, is_used}
+use Rattle.ev_chains.specs.Kept.{Apart, ArePlaced, draining_in, drains, is_foreign, is_in, is_used}
 use Rattle.ev_chains.proofs.ConnLemmas.{any_left, own, same}
 use Rattle.ev_chains.proofs.RowLemmas.{and_parts, or_true, right_true}
 use Rattle.ev_chains.proofs.NumberLemmas.{apart_append, apart_filter, ascending_same, distinct_apart, filter_all, filter_twice, filter_where, has_filter, in_has, not_true}

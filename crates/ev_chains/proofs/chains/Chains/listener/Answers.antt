@@ -7,7 +7,7 @@ use Rattle.ev_model.specs.Publishing.{ascending}
 use Rattle.ev_chains.specs.declared.next.Next.{Next}
 use Rattle.ev_chains.specs.Kept.{AreKept, AreNumbered, Apart, draining_in}
 use Rattle.ev_chains.specs.Listeners.{chains_in, rule_told}
-use Rattle.ev_chains.specs.State.{ChainState, numbered, made_by, gone_in, kept_in, accepted, idle_among, listener_reading}
+use Rattle.ev_chains.specs.State.{ChainState, numbered, made_by, gone_in, kept_in, accepted, listener_reading}
 use Rattle.ev_chains.proofs.NextLemmas.{judged_ok, changed_is, accepted_is}
 use Rattle.ev_chains.proofs.NumberLemmas.{gone_apart, gone_new, numbered_then}
 use Rattle.ev_chains.proofs.KeptLemmas.{placed_start, start_same}
@@ -87,8 +87,8 @@ returns-in_err-reserve-clause-err c =
     let self = c.self.inside in
     let state : ChainState = record { made = self.made; serving = self.serving; draining = draining_in c.reserve.new.self.items self.draining.idle.items self.draining.busy.keys; opened = self.ledger } in
     let same : state ≡ c.args.self.now =
-        (λ i. record { made = self.made; serving = self.serving; draining = draining_in (c.reserve.ensures.items i) self.draining.idle.items self.draining.busy.keys; opened = self.ledger })
-        ∙ c.self.view_is in
+    (λ i. record { made = self.made; serving = self.serving; draining = draining_in (c.reserve.ensures.items i) self.draining.idle.items self.draining.busy.keys; opened = self.ledger })
+    ∙ c.self.view_is in
     MatchResult-from_err c.from_residual-in_err-reserve.result (λ _. ⊤) (λ _. state ≡ c.args.self.now) c.from_residual-in_err-reserve.ensures.0 (λ _. same)
 
 pub returns-in_err-start-clause-err : goal.returns-in_err-start-clause-err
@@ -96,13 +96,13 @@ returns-in_err-start-clause-err c =
     let self = c.self.inside in
     let state : ChainState = record { made = self.made; serving = self.serving; draining = draining_in c.reserve.new.self.items c.start.new.self.idle.items c.start.new.self.busy.keys; opened = self.ledger } in
     let same : state ≡ c.args.self.now =
-        (λ i. record {
-          made = self.made;
-          serving = self.serving;
-          draining = draining_in (c.reserve.ensures.items i) (c.in_err-start.ensures.same_idle i) (c.in_err-start.ensures.same_busy i);
-          opened = self.ledger;
-        })
-        ∙ c.self.view_is in
+    (λ i. record {
+      made = self.made;
+      serving = self.serving;
+      draining = draining_in (c.reserve.ensures.items i) (c.in_err-start.ensures.same_idle i) (c.in_err-start.ensures.same_busy i);
+      opened = self.ledger;
+    })
+    ∙ c.self.view_is in
     MatchResult-from_err c.from_residual-in_err-start.result (λ _. ⊤) (λ _. state ≡ c.args.self.now) c.from_residual-in_err-start.ensures.0 (λ _. same)
 
 pub returns-in_err-start-clause-state : goal.returns-in_err-start-clause-state
