@@ -26,9 +26,7 @@ pub(crate) fn read_input<S: Source>(
     ensures same_count { (S.faults source.new ≡ S.faults source.old) ⊎ (result ≡ Err ScriptFault.Read) }
     ensures count { S.faults source.old ≤ S.faults source.new }
 {
-    let Ok(mut lines) = Lines::new(alloc) else {
-        return Err(ScriptFault::OutOfMemory);
-    };
+    let mut lines = Lines::new(alloc)?;
     let script = read_script(alloc, &mut lines, source)?;
     Ok(KeyedScript {
         script,

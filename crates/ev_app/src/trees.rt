@@ -22,8 +22,6 @@ pub(crate) fn read_trees_of<F: Forms<Head = HeadTree, Kept = Value>, S: Source>(
     ensures same_count { (S.faults source.new ≡ S.faults source.old) ⊎ (result ≡ Err ScriptFault.Read) }
     ensures count { S.faults source.old ≤ S.faults source.new }
 {
-    let Ok(mut lines) = Lines::new(alloc) else {
-        return Err(ScriptFault::OutOfMemory);
-    };
+    let mut lines = Lines::new(alloc)?;
     read_trees_with(alloc, forms, &mut lines, source)
 }

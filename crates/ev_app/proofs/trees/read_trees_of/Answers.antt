@@ -1,9 +1,12 @@
 -- What was read, at each end.
+use Rattle.std.proofs.lemmas.Result.{err_from_is_err_and}
 use Rattle.ev_app.proofs.TreeLemmas.{reads_no_tree, reads_trees}
 use Rattle.ev_app.proofs.trees.read_trees_of.Goals as goal
 
-pub returns-in_default-clause-reads : goal.returns-in_default-clause-reads
-returns-in_default-clause-reads g c = reads_no_tree (g.F.Forms.forms) (g.S.Source.left c.args.source.now)
+pub returns-in_err-lines-clause-reads : goal.returns-in_err-lines-clause-reads
+returns-in_err-lines-clause-reads g c =
+    let p = err_from_is_err_and c.from_residual.result c.from_residual.ensures.1 in
+    rw (p.1, p.2) (reads_no_tree (g.F.Forms.forms) (g.S.Source.left c.args.source.now))
 
 pub returns-clause-reads : goal.returns-clause-reads
 returns-clause-reads g c =
