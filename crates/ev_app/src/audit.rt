@@ -27,10 +27,8 @@ pub(crate) fn make_audit<S: Source>(alloc: Global, source: &mut S) -> Result<Mad
     // what a script keeps, and when rows are found legal
     let _workers = workers_of(&audited.script);
     legal_exactly();
-    match audit_made(alloc, &audited) {
-        Ok(made) => Ok(made),
-        Err(_) => Err(ScriptFault::OutOfMemory),
-    }
+    let made = audit_made(alloc, &audited)?;
+    Ok(made)
 }
 
 // What is found of a journal, as a line, with its status.

@@ -52,15 +52,10 @@ fn dump_made(alloc: Global, audited: &Audited, entries: u32) -> Result<Made, Scr
     ensures read { result ≢ Err ScriptFault.Read }
 {
     let rows = audited.rows.as_slice();
-    let Ok(finding) = audit(alloc, audited.keys, audited.format, &audited.script, rows) else {
-        return Err(ScriptFault::OutOfMemory);
-    };
+    let finding = audit(alloc, audited.keys, audited.format, &audited.script, rows)?;
     if finding != Finding::Legal {
-        let Ok(text) = write_finding(alloc, finding) else {
-            return Err(ScriptFault::OutOfMemory);
-        };
         return Ok(Made {
-            text,
+            text: write_finding(alloc, finding)?,
             status: Status::Illegal,
         });
     }
@@ -73,13 +68,10 @@ fn dump_made(alloc: Global, audited: &Audited, entries: u32) -> Result<Made, Scr
             kind: NO_COMMIT,
         });
     }
-    match dump_text(alloc, audited, entries) {
-        Ok(text) => Ok(Made {
-            text,
-            status: Status::Done,
-        }),
-        Err(_) => Err(ScriptFault::OutOfMemory),
-    }
+    Ok(Made {
+        text: dump_text(alloc, audited, entries)?,
+        status: Status::Done,
+    })
 }
 
 // The number of the journal's end line, where it is one of 32 bits.

@@ -47,13 +47,10 @@ pub(crate) fn make<R: Threads + Wait + Sync, S: Source, P: Pace + Sync>(
         Command::Replay => make_replay(alloc, source),
         Command::Run => make_run(rt, alloc, source, pace),
         Command::Audit => make_audit(alloc, source),
-        Command::Soak { seed, count } => match soak_text(alloc, seed, count) {
-            Ok(text) => Ok(Made {
-                text,
-                status: Status::Done,
-            }),
-            Err(_) => Err(ScriptFault::OutOfMemory),
-        },
+        Command::Soak { seed, count } => Ok(Made {
+            text: soak_text(alloc, seed, count)?,
+            status: Status::Done,
+        }),
         Command::Tls => make_tls(alloc, source),
         Command::Dns => make_dns(alloc, source),
         Command::Chains => make_of_chains(alloc, source),

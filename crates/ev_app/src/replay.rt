@@ -29,13 +29,10 @@ pub(crate) fn make_replay<S: Source>(alloc: Global, source: &mut S) -> Result<Ma
     ensures count { S.faults source.old ≤ S.faults source.new }
 {
     let KeyedScript { script, keys } = read_input(alloc, source)?;
-    match replay_text(alloc, keys, &script) {
-        Ok(text) => Ok(Made {
-            text,
-            status: Status::Done,
-        }),
-        Err(_) => Err(ScriptFault::OutOfMemory),
-    }
+    Ok(Made {
+        text: replay_text(alloc, keys, &script)?,
+        status: Status::Done,
+    })
 }
 
 // The text of the journal of a script's replay on one thread, by the rules of format 2, and what the script keeps.

@@ -36,13 +36,10 @@ pub(crate) fn make_run<R: Threads + Wait + Sync, S: Source, P: Pace + Sync>(
     ensures count { S.faults source.old ≤ S.faults source.new }
 {
     let KeyedScript { script, keys } = read_input(alloc, source)?;
-    match run_text(rt, alloc, keys, &script, pace) {
-        Ok(text) => Ok(Made {
-            text,
-            status: Status::Done,
-        }),
-        Err(_) => Err(ScriptFault::OutOfMemory),
-    }
+    Ok(Made {
+        text: run_text(rt, alloc, keys, &script, pace)?,
+        status: Status::Done,
+    })
 }
 
 // The text of the journal of a script's run with a thread for each actor, by the rules of format 2, and what the script keeps.

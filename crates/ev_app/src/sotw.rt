@@ -54,13 +54,10 @@ fn sotw_made(alloc: Global, trees: &ScriptTrees) -> Result<Made, ScriptFault>
     ensures read { result ≢ Err ScriptFault.Read }
 {
     let KeyedScript { script, keys } = delta_of(alloc, trees)?;
-    match sotw_text(alloc, keys, trees, &script) {
-        Ok(text) => Ok(Made {
-            text,
-            status: Status::Done,
-        }),
-        Err(_) => Err(ScriptFault::OutOfMemory),
-    }
+    Ok(Made {
+        text: sotw_text(alloc, keys, trees, &script)?,
+        status: Status::Done,
+    })
 }
 
 // The incremental script that says what the trees say, or why there is none.
