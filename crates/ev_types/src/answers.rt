@@ -10,8 +10,13 @@ pub fn is_same_answer(one: &Answer, other: &Answer) -> bool
     ensures { result ≡ answer_same one.now other.now }
 {
     match (one, other) {
-        (Answer::Ignored, Answer::Ignored) => true,
-        (Answer::Done, Answer::Done) => true,
+        (Answer::Ignored, Answer::Ignored)
+        | (Answer::Done, Answer::Done)
+        | (Answer::Unchanged, Answer::Unchanged)
+        | (Answer::InUse, Answer::InUse)
+        | (Answer::NoListener, Answer::NoListener)
+        | (Answer::NoChain, Answer::NoChain)
+        | (Answer::NotOpen, Answer::NotOpen) => true,
         (Answer::Moved { requests: ones }, Answer::Moved { requests: others }) => {
             are_same(ones.as_slice(), others.as_slice())
         }
@@ -29,12 +34,12 @@ pub fn is_same_answer(one: &Answer, other: &Answer) -> bool
                 && are_same(first.as_slice(), second.as_slice())
         }
         (Answer::Version(one), Answer::Version(other)) => one == other,
-        (Answer::Unchanged, Answer::Unchanged) => true,
         (Answer::Reaped(ones), Answer::Reaped(others)) => ones == others,
-        (Answer::InUse, Answer::InUse) => true,
-        (Answer::NoListener, Answer::NoListener) => true,
-        (Answer::NoChain, Answer::NoChain) => true,
-        (Answer::Undecided { listener: one }, Answer::Undecided { listener: other }) => {
+        (Answer::Undecided { listener: one }, Answer::Undecided { listener: other })
+        | (Answer::NoRoute { listener: one }, Answer::NoRoute { listener: other })
+        | (Answer::Redirect { listener: one }, Answer::Redirect { listener: other })
+        | (Answer::NoCluster { listener: one }, Answer::NoCluster { listener: other })
+        | (Answer::NoEndpoint { listener: one }, Answer::NoEndpoint { listener: other }) => {
             one == other
         }
         (
@@ -47,14 +52,6 @@ pub fn is_same_answer(one: &Answer, other: &Answer) -> bool
                 cluster: second,
             },
         ) => one == other && first == second,
-        (Answer::NoRoute { listener: one }, Answer::NoRoute { listener: other }) => one == other,
-        (Answer::Redirect { listener: one }, Answer::Redirect { listener: other }) => one == other,
-        (Answer::NoCluster { listener: one }, Answer::NoCluster { listener: other }) => {
-            one == other
-        }
-        (Answer::NoEndpoint { listener: one }, Answer::NoEndpoint { listener: other }) => {
-            one == other
-        }
         (
             Answer::Local {
                 listener: one,
@@ -77,7 +74,6 @@ pub fn is_same_answer(one: &Answer, other: &Answer) -> bool
                 host: other_host,
             },
         ) => one == other && first == second && host == other_host,
-        (Answer::NotOpen, Answer::NotOpen) => true,
         (
             Answer::Settled {
                 closed: ones,

@@ -1,4 +1,6 @@
-use crate::{FetchTimeout, Gen, Host, Ip, Kind, Name, Request, Response, Seq, Text, TryCopy};
+use crate::{
+    FetchTimeout, Gen, Host, Ip, Kind, Name, Request, Response, Seq, Shared, Text, TryCopy,
+};
 use std::alloc::{AllocError, Global};
 use std::marker::Model;
 
@@ -42,24 +44,8 @@ pub struct Ask {
     pub pick: u64,
 }
 
-impl TryCopy for Ask {
-    fn copy(&self, alloc: Global) -> Result<Ask, AllocError> {
-        Ok(Ask {
-            conn: self.conn,
-            address: self.address.copy(alloc)?,
-            ip: self.ip,
-            server_name: self.server_name.copy(alloc)?,
-            tls: self.tls,
-            alpn: self.alpn.copy(alloc)?,
-            host: self.host.copy(alloc)?,
-            path: self.path.copy(alloc)?,
-            headers: self.headers.copy(alloc)?,
-            pick: self.pick,
-        })
-    }
-}
-
-/// What happens to the managers.
+/// What happens to the managers. A response and what a connection asks for are shared, so that an event is small and a copy of it
+/// takes no memory for them.
 #[derive(Drop)]
 pub enum Event {
     /// A stream to the control plane opens.
@@ -67,7 +53,7 @@ pub enum Event {
     /// The stream is lost.
     Disconnect,
     /// A response comes on the stream.
-    Response(Response),
+    Response(Shared<Response>),
     /// A health check of a cluster's host ended.
     Health {
         cluster: Name,
@@ -88,7 +74,7 @@ pub enum Event {
     /// Generations that nothing holds any more are destroyed.
     Reap,
     /// A worker accepts a connection.
-    Accept(Ask),
+    Accept(Shared<Ask>),
     /// A worker closes the connection of this number.
     Close(u64),
     /// A worker takes over the last picture.
