@@ -11,7 +11,7 @@ use crate::assignments::make_assignment;
 use crate::hosts::make_name;
 use crate::parts::{inspect_eds, inspect_hosts, inspect_own, is_by_eds, is_in_cluster};
 use ev_tree::{ReadError, body_text};
-use ev_types::{Cluster, Discovery, HostRow, Profile, Text};
+use ev_types::{Cluster, Discovery, HostRow, Profile, Shared, Text};
 use serde_json::Value;
 use std::alloc::{AllocError, Global};
 
@@ -85,7 +85,7 @@ fn make_discovery(
 {
     if way.in_cluster {
         let rows = make_assignment(alloc, rows)?;
-        return Ok(Some(Discovery::Static(rows)));
+        return Ok(Some(Discovery::Static(Shared::new(alloc, rows)?)));
     }
     if !way.by_eds {
         return Ok(Some(Discovery::Elsewhere));

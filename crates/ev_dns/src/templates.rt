@@ -171,7 +171,7 @@ pub(crate) fn rows_of(key: &Key) -> &[HostRow]
     ensures { result.now ≡ template_rows key.now }
 {
     match &key.cluster.discovery {
-        Discovery::Static(assignment) => assignment.rows(),
+        Discovery::Static(assignment) => assignment.get().rows(),
         Discovery::Eds { .. } => &[],
         Discovery::Elsewhere => &[],
     }

@@ -176,7 +176,7 @@ fn kind_of(event: &Option<Event>) -> Option<Kind>
     ensures { result ≡ kind_of event.now }
 {
     match event {
-        Some(Event::Response(response)) => response.kind,
+        Some(Event::Response(response)) => response.get().kind,
         _ => None,
     }
 }
@@ -186,7 +186,7 @@ fn items_by(event: &Option<Event>) -> &[Item]
     ensures { result.now ≡ items_by event.now }
 {
     match event {
-        Some(Event::Response(response)) => response_items(response),
+        Some(Event::Response(response)) => response_items(response.get()),
         _ => &[],
     }
 }

@@ -79,7 +79,7 @@ fn hash_discovery<H: Hasher>(discovery: &Discovery, state: &mut H)
     ensures { state.new ≡ fold H.write state.old (discovery_hash_input discovery.now) }
 {
     match discovery {
-        Discovery::Static(assignment) => hash_rows(assignment.rows(), state),
+        Discovery::Static(assignment) => hash_rows(assignment.get().rows(), state),
         Discovery::Eds {
             service,
             limited,

@@ -46,7 +46,7 @@ fn event_uses(prefix: &str, event: &Event) -> bool
     ensures { result ≡ event_uses prefix.now event.now }
 {
     match event {
-        Event::Response(response) => response_uses(prefix, response),
+        Event::Response(response) => response_uses(prefix, response.get()),
         Event::FetchTimeout(timeout) => match &timeout.name {
             Some(name) => named_uses(prefix, timeout.kind, name.as_str()),
             None => false,

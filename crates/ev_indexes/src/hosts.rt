@@ -26,7 +26,7 @@ pub(crate) fn assignment<'a>(watches: &'a Watches, content: &'a Content) -> Opti
         return None;
     };
     match &cluster.get().discovery {
-        Discovery::Static(rows) => Some(rows),
+        Discovery::Static(rows) => Some(rows.get()),
         Discovery::Eds { service, .. } => value(watches, service),
         Discovery::Elsewhere => None,
     }

@@ -73,7 +73,7 @@ fn is_round_done(watches: &Watches, results: &Endpoints, number: Gen, content: &
         return true;
     }
     match &cluster.discovery {
-        Discovery::Static(rows) => results.first_round_done(number, rows),
+        Discovery::Static(rows) => results.first_round_done(number, rows.get()),
         Discovery::Eds { service, .. } => is_value_done(watches, results, number, service),
         Discovery::Elsewhere => true,
     }

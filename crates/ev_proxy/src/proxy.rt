@@ -115,7 +115,7 @@ impl Proxy {
                 self.note(alloc, told)
             }
             Event::Response(response) => {
-                let told = self.state.respond(alloc, response, &mut steps)?;
+                let told = self.state.respond(alloc, response.get(), &mut steps)?;
                 self.note(alloc, told)
             }
             Event::Health {
@@ -139,7 +139,7 @@ impl Proxy {
             Event::DrainTimeout(listener) => self.drain_timeout(alloc, listener, &mut steps),
             Event::Publish => self.publish(alloc),
             Event::Reap => self.reap(alloc, format),
-            Event::Accept(ask) => self.accept(alloc, actor, ask),
+            Event::Accept(ask) => self.accept(alloc, actor, ask.get()),
             Event::Close(conn) => self.close(actor, *conn),
             Event::Settle => self.settle_by(alloc, actor),
         }

@@ -53,7 +53,16 @@ fn take_line(
     ensures found { AreFound closing.old drain.now ledger.old → AreFound closing.new drain.now ledger.new }
 {
     match &line.event {
-        Event::Accept(ask) => take_accept(closing, drain, ledger, worker, ask.conn, &line.outcome),
+        Event::Accept(ask) => {
+            take_accept(
+                closing,
+                drain,
+                ledger,
+                worker,
+                ask.get().conn,
+                &line.outcome,
+            )
+        }
         Event::Close(conn) => take_close(asking, closing, drain, ledger, worker, *conn),
         _ => Ok(()),
     }

@@ -142,7 +142,7 @@ fn items_in(event: &Event) -> usize
     ensures { result ≡ items_in event.now }
 {
     match event {
-        Event::Response(response) => response.items.len(),
+        Event::Response(response) => response.get().items.len(),
         _ => 0,
     }
 }

@@ -7,7 +7,7 @@ ghost use Rattle.ev_types.specs.declared.events.Event.TheVariants.{Response as r
 
 use crate::line_forms::line_at;
 use crate::members::has_only;
-use ev_types::{Actor, Event, Line, Profile, Response};
+use ev_types::{Actor, Event, Line, Profile, Response, Shared};
 use ev_wire::{WireError, read_response};
 use serde_json::Value;
 use std::alloc::{AllocError, Global};
@@ -44,17 +44,17 @@ pub(crate) fn response_line(
     if !has_only(tree, &["op", "message"]) {
         return Ok(None);
     }
-    let event = response_event(read_message(alloc, profile, tree.get("message"))?);
+    let event = response_event(alloc, read_message(alloc, profile, tree.get("message"))?)?;
     Ok(line_at(at, Actor::Stream, event))
 }
 
 // The event of a response, where there is one.
-fn response_event(response: Option<Response>) -> Option<Event>
-    ensures { result ≡ option_map (λ response. response_event response) response }
+fn response_event(alloc: Global, response: Option<Response>) -> Result<Option<Event>, AllocError>
+    ensures { IfOk result (λ event. event ≡ option_map (λ response. response_event response) response) }
 {
     match response {
-        Some(response) => Some(Event::Response(response)),
-        None => None,
+        Some(response) => Ok(Some(Event::Response(Shared::new(alloc, response)?))),
+        None => Ok(None),
     }
 }
 

@@ -8,7 +8,7 @@ use crate::asks::{ask_in, conn_in};
 use crate::limits::MAX_WORKER;
 use crate::line_forms::line_at;
 use crate::members::{has_only, number_at};
-use ev_types::{Actor, Event, Line, Profile};
+use ev_types::{Actor, Event, Line, Profile, Shared};
 use serde_json::Value;
 use std::alloc::{AllocError, Global};
 
@@ -64,7 +64,7 @@ fn accept_in(alloc: Global, tree: &Value) -> Result<Option<Event>, AllocError>
     ensures { IfOk result (λ event. event ≡ accept_in (view tree.now)) }
 {
     match ask_in(alloc, tree)? {
-        Some(ask) => Ok(Some(Event::Accept(ask))),
+        Some(ask) => Ok(Some(Event::Accept(Shared::new(alloc, ask)?))),
         None => Ok(None),
     }
 }

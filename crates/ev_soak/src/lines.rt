@@ -11,7 +11,8 @@ use crate::parts::{
     listening, numbered_text, routes_content, routes_name,
 };
 use ev_types::{
-    Actor, Ask, Body, Content, Event, FetchTimeout, Ip, Item, Kind, Line, Name, Response, Seq, Text,
+    Actor, Ask, Body, Content, Event, FetchTimeout, Ip, Item, Kind, Line, Name, Response, Seq,
+    Shared, Text,
 };
 use std::alloc::{AllocError, Global};
 
@@ -164,7 +165,7 @@ fn removals(alloc: Global, draws: &mut Draws, at: u32) -> Result<Line, AllocErro
         items: Seq::new(alloc),
         removed: Seq::from_vec(removed),
     };
-    Ok(stream_line(at, response))
+    stream_line(alloc, at, response)
 }
 
 // A worker settles.
@@ -205,7 +206,7 @@ fn accepts(alloc: Global, draws: &mut Draws, at: u32) -> Result<Line, AllocError
     Ok(Line {
         at,
         actor: Actor::Worker(worker),
-        event: Event::Accept(ask),
+        event: Event::Accept(Shared::new(alloc, ask)?),
     })
 }
 
@@ -247,16 +248,16 @@ fn resource_line(
         items: Seq::from_vec(vec![in alloc; item]?),
         removed: Seq::new(alloc),
     };
-    Ok(stream_line(at, response))
+    stream_line(alloc, at, response)
 }
 
 // A line with a response.
-fn stream_line(at: u32, response: Response) -> Line
-    ensures { result ≡ record { at = at; actor = Actor.Stream; event = Event.Response response } }
+fn stream_line(alloc: Global, at: u32, response: Response) -> Result<Line, AllocError>
+    ensures { IfOk result (λ line. line ≡ record { at = at; actor = Actor.Stream; event = Event.Response response }) }
 {
-    Line {
+    Ok(Line {
         at,
         actor: Actor::Stream,
-        event: Event::Response(response),
-    }
+        event: Event::Response(Shared::new(alloc, response)?),
+    })
 }

@@ -30,7 +30,7 @@ pub(crate) fn told_by(
     ensures { IfOk result (λ told. told.items ≡ told_by profile (view line.now)) }
 {
     match event {
-        Some(Event::Response(response)) => told_as(alloc, response, message_of(line)),
+        Some(Event::Response(response)) => told_as(alloc, response.get(), message_of(line)),
         _ => Ok(Vec::new(alloc)),
     }
 }

@@ -41,7 +41,7 @@ fn event_values(
     ensures { IfOk result (λ values. map value_shown values.items ≡ values_in profile (view line.now)) }
 {
     match event {
-        Event::Response(response) => response_values(alloc, profile, line, response),
+        Event::Response(response) => response_values(alloc, profile, line, response.get()),
         _ => Ok(Vec::new(alloc)),
     }
 }

@@ -1,5 +1,5 @@
 -- The address that a text writes, by std's relation, is the one that the definition reads.
-use Rattle.std.proofs.Common.{◌≡◌, ◌∙◌, sym, ap, subst, refl, ℕ, Bool, List, [], ◌∷◌, ◌++◌, length, ne_eqb, arith, if◌then◌else◌, Option, Some, None, option_map, lit≤, append-nil, Result, Ok, Err}
+use Rattle.std.proofs.Common.{◌≡◌, ◌∙◌, sym, ap, subst, refl, ℕ, Bool, List, [], ◌∷◌, length, ne_eqb, arith, if◌then◌else◌, Option, Some, None, option_map, lit≤, append-nil, Result, Ok, Err}
 use Rattle.std.proofs.lemmas.Option.{none-some}
 use Rattle.std.specs.declared.net.ipv4_addr.Ipv4Addr.{Ipv4Addr}
 use Rattle.std.specs.declared.net.ipv6_addr.Ipv6Addr.{Ipv6Addr}

@@ -1,7 +1,9 @@
 -- When hosts and their rows are equal, and which hosts are in rows.
-use Rattle.std.specs.Prelude.{ℕ, ◌≤◌, Bool, true, ◌≡◌, ◌&&◌, ◌==◌, ◌++◌, List, length}
+use Rattle.std.specs.Prelude.{ℕ, suc, ◌≤◌, Bool, true, ◌≡◌, ◌&&◌, ◌==◌, ◌++◌, if◌then◌else◌, List, [], ◌∷◌, Option, None, Some, length, option_map}
 use Rattle.std.specs.List.{list_any}
 use Rattle.std.specs.Bool.{Decides}
+use Rattle.std.specs.Map.{lookup}
+use Rattle.std.specs.Option.{option_or}
 use Rattle.std.specs.Hash as fed
 use Rattle.std.specs.Str.{bytes_eq}
 use Rattle.std.proofs.Common.{ap}
@@ -30,9 +32,19 @@ rows_same a b = pointwise host_row_same a b
 abbrev pub has_host : Host → List HostRowParts → Bool
 has_host host rows = list_any (λ (h : HostRowParts). host_same h.host host) rows
 
--- these are the hosts of the rows
-abbrev pub AreHostsOf : List HostRowParts → List Host → Type 0
-AreHostsOf rows hosts = (host : Host) → list_any (host_same host) hosts ≡ has_host host rows
+-- the place of the first row of the host
+abbrev pub place_of : Host → List HostRowParts → Option ℕ
+place_of host [] = None
+place_of host (row ∷ rows) = if host_same row.host host then Some 0 else option_map suc (place_of host rows)
+
+-- each host of the rows is found with the place of its first row, and no other host is found
+abbrev pub ArePlacesIn : List HostRowParts → List (Host × ℕ) → Type 0
+ArePlacesIn rows places = (host : Host) → lookup (host_same host) places ≡ place_of host rows
+
+-- the host has this place where it had none, and each other host has what it had
+abbrev pub Puts : List (Host × ℕ) → List (Host × ℕ) → Host → ℕ → Type 0
+Puts old new host place =
+    (h : Host) → lookup (host_same h) new ≡ option_or (lookup (host_same h) old) (if host_same host h then Some place else None)
 
 -- this many hosts, or more, are in each list that has all hosts of the rows
 abbrev pub NeedsHosts : List HostRowParts → ℕ → Type 0

@@ -1,11 +1,11 @@
-use crate::{Assignment, Name, Text, TryCopy};
+use crate::{Assignment, Name, Shared, Text, TryCopy};
 use std::alloc::{AllocError, Global};
 
 /// How a cluster finds its hosts.
 #[derive(Drop)]
 pub enum Discovery {
     /// They are given in the cluster itself.
-    Static(Assignment),
+    Static(Shared<Assignment>),
     /// They come by the endpoint discovery service.
     Eds {
         /// The name that is asked for.

@@ -1,5 +1,6 @@
-ghost use Rattle.std.specs.Prelude.{◌≡◌, IfOk};
-ghost use Rattle.ev_types.specs.SameHosts.{has_host};
+ghost use Rattle.std.specs.Prelude.{◌≡◌, ◌<◌, length, IfOk};
+ghost use Rattle.ev_types.specs.declared.limits.TheConstants.{ROW_LIMIT};
+ghost use Rattle.ev_types.specs.SameHosts.{place_of};
 
 use crate::host_index::HostIndex;
 use crate::{Name, ROW_LIMIT, Seq, Shared, TryCopy};
@@ -127,19 +128,19 @@ pub struct Assignment {
 impl Model for Assignment {
     ghost use Rattle.std.specs.Prelude.{List, length, ◌<◌, IfSome};
     ghost use Rattle.ev_types.specs.Hosts.{HostRowParts};
-    ghost use Rattle.ev_types.specs.SameHosts.{AreHostsOf};
+    ghost use Rattle.ev_types.specs.SameHosts.{ArePlacesIn};
     ghost use Rattle.ev_types.specs.declared.limits.TheConstants.{ROW_LIMIT};
 
     ghost Value = { List HostRowParts };
 
     ghost view = { λ a. a.rows };
 
-    ghost invariant = { λ a. (length a.rows < ROW_LIMIT) × IfSome a.index (AreHostsOf a.rows) };
+    ghost invariant = { λ a. (length a.rows < ROW_LIMIT) × IfSome a.index (ArePlacesIn a.rows) };
 }
 
 impl Assignment {
     ghost use Rattle.std.specs.Prelude.{◌≡◌, ◌<◌, length};
-    ghost use Rattle.ev_types.specs.SameHosts.{NeedsHosts};
+    ghost use Rattle.ev_types.specs.SameHosts.{has_host, place_of, NeedsHosts};
 
     /// The assignment of these rows, without an index. It takes no memory.
     pub fn new(rows: Seq<HostRow>) -> Assignment
@@ -173,12 +174,21 @@ impl Assignment {
     }
 
     /// Whether a host is among its rows: by a look-up where there is an index, else by a walk.
+    #[tactic(auto, using(crate::proofs::HostLemmas::place_tells))]
     pub fn has(&self, host: &Host) -> bool
         ensures { result ≡ has_host host.now self.now }
     {
+        self.place_of(host).is_some()
+    }
+
+    /// The place of a host's first row: by a look-up where there is an index, else by a walk. Two hosts have one place only where
+    /// they are equal.
+    pub fn place_of(&self, host: &Host) -> Option<u32>
+        ensures { result ≡ place_of host.now self.now }
+    {
         match &self.index {
-            Some(index) => index.get().has(host),
-            None => has_host(self.rows.as_slice(), host),
+            Some(index) => index.get().place_of(host),
+            None => walk_to(self.rows.as_slice(), host),
         }
     }
 
@@ -193,11 +203,18 @@ impl Assignment {
     }
 }
 
-// Whether a host is among these rows.
-fn has_host(rows: &[HostRow], host: &Host) -> bool
-    ensures { result ≡ has_host host.now rows.now }
+// The place of a host's first row.
+fn walk_to(rows: &[HostRow], host: &Host) -> Option<u32>
+    requires few { length rows.now < ROW_LIMIT }
+    ensures { result ≡ place_of host.now rows.now }
 {
-    rows.iter().any(|row| row.host == *host)
+    for place in 0..rows.len() {
+        let row = &rows[place];
+        if row.host == *host {
+            return Some(place as u32);
+        }
+    }
+    None
 }
 
 impl TryCopy for Assignment {

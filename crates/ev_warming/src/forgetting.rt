@@ -101,7 +101,7 @@ fn trim_hosts(
         return Ok(());
     };
     match &cluster.get().discovery {
-        Discovery::Static(rows) => results.trim(alloc, number, rows),
+        Discovery::Static(rows) => results.trim(alloc, number, rows.get()),
         Discovery::Eds { service, .. } => trim_value(watches, results, alloc, number, service),
         Discovery::Elsewhere => {
             results.forget(number);

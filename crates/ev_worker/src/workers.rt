@@ -12,7 +12,7 @@ use crate::lines::{Accepted, BatchLine, Closed, Outcome, Settled};
 use crate::members::{Members, close, close_all, on_of, open_on};
 use ev_keys::Keys;
 use ev_snapshot::Snapshot;
-use ev_types::{Ask, Event};
+use ev_types::{Ask, Event, Shared};
 use indexmap::IndexMap;
 use std::alloc::{AllocError, Global};
 use std::marker::Model;
@@ -104,7 +104,7 @@ impl Worker {
     /// Accepts a connection at a line of the script, where the batch has room: it goes where the worker's picture says, and is
     /// open from then on where there is a listener; where the worker has one of this number open, nothing is done. The line
     /// joins the batch. It takes no memory.
-    pub fn accept(&mut self, at: u32, ask: Ask) -> Accepted
+    pub fn accept(&mut self, at: u32, ask: Shared<Ask>) -> Accepted
         requires room { length self.old.lines < batch_limit }
         ensures answer { result ≡ accepted_as self.old.picture ask (is_open self.old.opened self.old.number ask.conn) }
         ensures machine { accepted_answer self.old.picture result ≡ (acceptance ask self.old).answer }
@@ -114,8 +114,8 @@ impl Worker {
         ensures picture { self.new.picture ≡ self.old.picture }
         ensures made { (begun : List OpenMember) → IsMadeFrom begun self.old → IsMadeFrom begun self.new }
     {
-        let answer = self.answer_to(&ask);
-        open_on(&mut self.members, ask.conn, on_of(&answer));
+        let answer = self.answer_to(ask.get());
+        open_on(&mut self.members, ask.get().conn, on_of(&answer));
         self.batch.push(BatchLine {
             at,
             event: Event::Accept(ask),

@@ -1,7 +1,7 @@
 //! A worker is idle until its first line.
 use ev_keys::Keys;
 use ev_snapshot::Snapshot;
-use ev_types::{Ask, Host, Name, Seq, Text};
+use ev_types::{Ask, Host, Name, Seq, Shared, Text};
 use ev_worker::Worker;
 use std::alloc::Global;
 use std::hash::DefaultHasher;
@@ -29,7 +29,7 @@ fn accept(alloc: Global, worker: &mut Worker) -> Result<(), Fail> {
         headers: Seq::new(alloc),
         pick: 0,
     };
-    worker.accept(2, ask);
+    worker.accept(2, Shared::new(alloc, ask)?);
     Ok(())
 }
 

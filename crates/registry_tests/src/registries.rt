@@ -8,7 +8,7 @@ use ev_keys::Keys;
 use ev_mentions::LiveRow;
 use ev_model_laws::{acknowledges_exactly, has_a_replay, has_one_replay, replay_holds_operations};
 use ev_registry::Registry;
-use ev_types::{Actor, Body, Event, Format, Gen, Profile, Response, Text, Verdict};
+use ev_types::{Actor, Body, Event, Format, Gen, Profile, Response, Shared, Text, Verdict};
 use ev_verdicts::{Listed, verdicts};
 use ev_wire::read_response;
 use serde_json::Value;
@@ -124,7 +124,7 @@ fn is_of_two(event: &Event) -> bool
     ensures { IsTrue result → items_in event.now ≡ 2 }
 {
     match event {
-        Event::Response(response) => response.items.len() == 2,
+        Event::Response(response) => response.get().items.len() == 2,
         _ => false,
     }
 }
@@ -139,7 +139,7 @@ fn a_registry_enters_what_it_does(rt: HostRuntime) -> Result<(), Fail> {
     acknowledges_exactly();
     let alloc = rt.alloc();
     let node = Text::new(alloc, "n")?;
-    let event = Event::Response(read(alloc, TWO_CLUSTERS)?);
+    let event = Event::Response(Shared::new(alloc, read(alloc, TWO_CLUSTERS)?)?);
     let taken = enters(alloc, &node, &event);
     drop(event);
     assert!(rt; taken?);

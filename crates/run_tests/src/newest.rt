@@ -25,7 +25,7 @@ fn is_of_one(event: &Event) -> bool
     ensures { IsTrue result → items_in event.now ≡ 1 }
 {
     match event {
-        Event::Response(response) => response.items.len() == 1,
+        Event::Response(response) => response.get().items.len() == 1,
         _ => false,
     }
 }

@@ -1,4 +1,4 @@
-use Rattle.std.proofs.Common.{◌≡◌, ◌∙◌, ap, Some, Ok}
+use Rattle.std.proofs.Common.{◌∙◌, ap, Some, Ok}
 use Rattle.ev_types.specs.declared.ips.Ip.TheVariants.{V4, V6}
 use Rattle.ev_types.proofs.IpLemmas.{v4_is_read, v6_is_read}
 use Rattle.ev_types.proofs.ips.Ip.read.Goals as goal
