@@ -1,3 +1,2 @@
 pub mod ResultLemmas
-pub mod CopyLemmas
 pub mod RoundLemmas

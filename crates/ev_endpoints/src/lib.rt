@@ -147,56 +147,6 @@ impl Endpoints {
     }
 }
 
-impl TryCopy for Endpoints {
-    fn copy(&self, alloc: Global) -> Result<Endpoints, AllocError> {
-        let mut copied = IndexMap::new(alloc);
-        for (number, hosts) in &self.results {
-            put_hosts(&mut copied, *number, copy_hosts(alloc, hosts)?)?;
-        }
-        Ok(Endpoints {
-            keys: self.keys,
-            results: copied,
-        })
-    }
-}
-
-// Appends the results of a number that has none yet to the others.
-fn put_hosts(
-    results: &mut IndexMap<u32, Hosts>,
-    number: u32,
-    hosts: Hosts,
-) -> Result<(), AllocError>
-    requires { get nat_eq results.old number ≡ None }
-    ensures { OnOk result (Appends results.old.entries results.new.entries number hosts.entries) }
-{
-    let Ok(_) = results.insert(number, hosts) else {
-        return Err(AllocError);
-    };
-    Ok(())
-}
-
-// The same results in the same order, in memory of their own.
-fn copy_hosts(alloc: Global, hosts: &Hosts) -> Result<Hosts, AllocError>
-    ensures { IfOk result (λ copied. copied.entries ≡ hosts.now.entries) }
-{
-    let mut copied = IndexMap::with_hasher(alloc, *hosts.hasher());
-    for (host, healthy) in hosts {
-        put_new(&mut copied, host.copy(alloc)?, *healthy)?;
-    }
-    Ok(copied)
-}
-
-// Appends the result of a host that has none yet to the others.
-fn put_new(hosts: &mut Hosts, host: Host, healthy: bool) -> Result<(), AllocError>
-    requires { get host_same hosts.old host ≡ None }
-    ensures { OnOk result (hosts.new.entries ≡ hosts.old.entries ++ (host, healthy) ∷ []) }
-{
-    let Ok(_) = hosts.insert(host, healthy) else {
-        return Err(AllocError);
-    };
-    Ok(())
-}
-
 // The results of the hosts that are among these rows.
 fn standing(alloc: Global, hosts: &Hosts, rows: &[HostRow]) -> Result<Hosts, AllocError>
     ensures { IfOk result (λ kept. KeepsAmong hosts.now kept rows.now) }

@@ -72,10 +72,6 @@ has_come_in rows name = list_any (serves name) rows || not (list_any (warms name
 abbrev pub serving_rows : List GenRow → List GenRow
 serving_rows rows = filter (λ (row : GenRow). is_active row.status) rows
 
--- the active rows, in the order of their names
-abbrev pub active_by_name : List GenRow → List GenRow
-active_by_name rows = by_name (serving_rows rows)
-
 -- the host may be chosen for the row
 abbrev pub is_eligible_in : ResultsKept → GenRow → HostRowParts → Bool
 is_eligible_in results row h = h.usable && (not (is_checked row.content) || unwrap_or (result_in results row.number h.host) false)
@@ -92,18 +88,6 @@ cluster_in watches results row = record {
   hosts = eligible_in watches results row;
   elsewhere = is_elsewhere row.content;
 }
-
--- the active clusters, in the order of the rows
-abbrev pub clusters_found : WatchesKept → ResultsKept → List GenRow → List ServedCluster
-clusters_found watches results rows = map (cluster_in watches results) (serving_rows rows)
-
--- a row's cluster, where the row is active
-abbrev pub cluster_found : WatchesKept → ResultsKept → GenRow → List ServedCluster
-cluster_found watches results row = clusters_found watches results (row ∷ [])
-
--- the active clusters, in the order of their names
-abbrev pub clusters_in : WatchesKept → ResultsKept → List GenRow → List ServedCluster
-clusters_in watches results rows = map (cluster_in watches results) (active_by_name rows)
 
 -- where a chain's connections go
 abbrev pub routing_in : WatchesKept → Serve → Routing
@@ -129,14 +113,6 @@ listener_in watches row (a_listener listener) = record {
   default_filter_chain = option_map (routing_in watches) listener.default_filter_chain;
 } ∷ []
 listener_in watches row (routes table) = []
-
--- the active listeners, in the order of the rows
-abbrev pub listeners_found : WatchesKept → List GenRow → List ServedListener
-listeners_found watches rows = flat_map (λ (row : GenRow). listener_in watches row row.content) (serving_rows rows)
-
--- the active listeners, in the order of their names
-abbrev pub listeners_in : WatchesKept → List GenRow → List ServedListener
-listeners_in watches rows = flat_map (λ (row : GenRow). listener_in watches row row.content) (active_by_name rows)
 
 -- a live row of the world waits for the name of this kind within a limit: it was neither told of it, nor has the wait timed out
 abbrev pub is_awaited_at : World → Kind → List ℕ → Bool

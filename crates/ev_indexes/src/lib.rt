@@ -8,7 +8,6 @@
 #![tactic(auto)]
 
 mod addresses;
-mod copies;
 mod due;
 mod holders;
 mod hosts;

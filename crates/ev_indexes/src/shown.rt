@@ -1,40 +1,22 @@
 //! What a picture shows of clusters.
 
-ghost use Rattle.std.specs.Prelude.{◌≡◌, ◌<◌, ◌++◌, [], ◌∷◌, Some, map, filter, length, IfOk, OnOk};
-ghost use Rattle.std.specs.Str.{bytes_eq};
-ghost use Rattle.std.specs.List.{IsDistinct};
+ghost use Rattle.std.specs.Prelude.{◌≡◌, ◌<◌, Some, filter, length, IfOk};
 ghost use Rattle.ev_types.specs.declared.contents.Kind.TheVariants.{Cds};
 ghost use Rattle.ev_types.specs.declared.limits.TheConstants.{ROW_LIMIT};
-ghost use Rattle.ev_types.specs.declared.rows.GenRow as declared;
 ghost use Rattle.ev_model.specs.Picture.{is_elsewhere};
-ghost use Rattle.ev_model.specs.Sorted.{sorted_by};
-ghost use Rattle.ev_model.specs.Versions.{is_before};
 ghost use Rattle.ev_indexes.specs.Indexes.{IsIndexed};
-ghost use Rattle.ev_indexes.specs.Reads.{is_eligible_in, cluster_in, cluster_found, clusters_found, eligible_in};
-ghost use Rattle.ev_indexes.specs.Shown.{cluster_at, cluster_shown_in, clusters_at, clusters_by, cluster_by};
+ghost use Rattle.ev_indexes.specs.Reads.{is_eligible_in, cluster_in, eligible_in};
+ghost use Rattle.ev_indexes.specs.Shown.{cluster_at, cluster_shown_in, cluster_by};
 ghost use Rattle.ev_indexes.specs.Worlds.{InWorldsOf};
 
 use crate::hosts::{assignment, is_checked};
 use crate::{State, Watches};
 use ev_endpoints::Endpoints;
-use ev_generations::Generations;
 use ev_model::ServedCluster;
 use ev_types::{Assignment, Content, Discovery, Gen, GenRow, HostRow, Seq, TryCopy};
 use std::alloc::{AllocError, Global};
 
 impl State {
-    /// What a picture shows of clusters now: each active one with its hosts that may be chosen, in the order of their names. It
-    /// goes over the whole table.
-    pub fn clusters(&self, alloc: Global) -> Result<Seq<ServedCluster>, AllocError>
-        requires indexed { IsIndexed self.now }
-        ensures rows { IfOk result (λ served. served ≡ clusters_by self.now) }
-        ensures world { IfOk result (λ served. InWorldsOf Cds self.now (λ world. served ≡ clusters_at world)) }
-    {
-        let mut served = clusters(alloc, &self.watches, &self.results, &self.table)?;
-        sort(&mut served);
-        Ok(Seq::from_vec(served))
-    }
-
     /// What a picture shows of the cluster of this number now: where it is active, its hosts that may be chosen. It costs a
     /// look-up of the number and of the name that the cluster depends on, and one of each of its hosts.
     pub fn cluster(&self, alloc: Global, number: Gen) -> Result<Option<ServedCluster>, AllocError>
@@ -91,38 +73,6 @@ fn is_elsewhere(content: &Content) -> bool
     }
 }
 
-// The active clusters of a table, in the order of the rows.
-fn clusters(
-    alloc: Global,
-    watches: &Watches,
-    results: &Endpoints,
-    table: &Generations,
-) -> Result<Vec<ServedCluster>, AllocError>
-    ensures { IfOk result (λ served. served.items ≡ clusters_found watches.now results.now table.now.rows) }
-{
-    let mut served = Vec::new(alloc);
-    for row in table.rows() {
-        push_cluster(alloc, watches, results, row, &mut served)?;
-    }
-    Ok(served)
-}
-
-// Adds a cluster to the others, where it is active.
-fn push_cluster(
-    alloc: Global,
-    watches: &Watches,
-    results: &Endpoints,
-    row: &GenRow,
-    served: &mut Vec<ServedCluster>,
-) -> Result<(), AllocError>
-    ensures { OnOk result (served.new.items ≡ served.old.items ++ cluster_found watches.now results.now row.now) }
-{
-    if row.status.is_active() {
-        served.push(cluster(alloc, watches, results, row)?)?;
-    }
-    Ok(())
-}
-
 // The hosts of a cluster that may be chosen.
 fn eligible(
     alloc: Global,
@@ -157,12 +107,4 @@ fn choose(
         }
     }
     Ok(Seq::from_vec(chosen))
-}
-
-// Sorts clusters by name, where their names differ.
-fn sort(served: &mut Vec<ServedCluster>)
-    requires { IsDistinct bytes_eq (map (λ c. c.name) served.old.items) }
-    ensures { served.new.items ≡ sorted_by (λ c d. is_before c.name d.name) served.old.items }
-{
-    served.sort_unstable_by(|one, other| one.name.as_str().cmp(other.name.as_str()));
 }
