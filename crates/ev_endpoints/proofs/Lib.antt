@@ -1,2 +1,3 @@
 pub mod ResultLemmas
 pub mod RoundLemmas
+pub mod MarkLemmas

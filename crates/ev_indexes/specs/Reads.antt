@@ -25,7 +25,7 @@ use Rattle.ev_model.specs.Signals.{is_awaited}
 use Rattle.ev_model.specs.Warming.{counts_for, is_checked}
 use Rattle.ev_model.specs.Watching.{Dependency, dependencies_of, sorted_names}
 use Rattle.ev_model.specs.World.{World}
-use Rattle.ev_endpoints.specs.Results.{ResultsKept, result_in}
+use Rattle.ev_endpoints.specs.Kept.{ResultsKept, result_in}
 use Rattle.ev_generations.specs.Tables.{row_in}
 use Rattle.ev_mentions.specs.Lives.{is_at}
 use Rattle.ev_indexes.specs.declared.watches.Watch.{Watch}

@@ -1,10 +1,11 @@
 //! What a picture shows of clusters.
 
-ghost use Rattle.std.specs.Prelude.{◌≡◌, ◌<◌, Some, filter, length, IfOk};
+ghost use Rattle.std.specs.Prelude.{◌≡◌, true, Some, filter, IfOk, IfSome};
 ghost use Rattle.ev_types.specs.declared.contents.Kind.TheVariants.{Cds};
-ghost use Rattle.ev_types.specs.declared.limits.TheConstants.{ROW_LIMIT};
+ghost use Rattle.ev_types.specs.Statuses.{is_active};
 ghost use Rattle.ev_model.specs.Picture.{is_elsewhere};
-ghost use Rattle.ev_indexes.specs.Indexes.{IsIndexed};
+ghost use Rattle.ev_endpoints.specs.Kept.{marked_in};
+ghost use Rattle.ev_indexes.specs.Indexes.{IsIndexed, IsAssignmentOf, MarksAssignment};
 ghost use Rattle.ev_indexes.specs.Reads.{is_eligible_in, cluster_in, eligible_in};
 ghost use Rattle.ev_indexes.specs.Shown.{cluster_at, cluster_shown_in, cluster_by};
 ghost use Rattle.ev_indexes.specs.Worlds.{InWorldsOf};
@@ -12,15 +13,17 @@ ghost use Rattle.ev_indexes.specs.Worlds.{InWorldsOf};
 use crate::hosts::{assignment, is_checked};
 use crate::{State, Watches};
 use ev_endpoints::Endpoints;
-use ev_model::ServedCluster;
-use ev_types::{Assignment, Content, Discovery, Gen, GenRow, HostRow, Seq, TryCopy};
+use ev_hosts::{ChosenHosts, ShownCluster};
+use ev_types::{Assignment, Content, Discovery, Gen, GenRow, Seq, Shared, TryCopy};
 use std::alloc::{AllocError, Global};
 
 impl State {
     /// What a picture shows of the cluster of this number now: where it is active, its hosts that may be chosen. It costs a
-    /// look-up of the number and of the name that the cluster depends on, and one of each of its hosts.
-    pub fn cluster(&self, alloc: Global, number: Gen) -> Result<Option<ServedCluster>, AllocError>
+    /// look-up of the number; and where its rows are marked, a copy of the marks, else a look-up of the name that the cluster
+    /// depends on, and of each of its hosts.
+    pub fn cluster(&self, alloc: Global, number: Gen) -> Result<Option<ShownCluster>, AllocError>
         requires indexed { IsIndexed self.now }
+        requires marked { MarksAssignment self.now number }
         ensures rows { IfOk result (λ served. served ≡ cluster_by self.now number) }
         ensures world { IfOk result (λ served. InWorldsOf Cds self.now (λ world. served ≡ cluster_at world number)) }
     {
@@ -37,7 +40,9 @@ fn active_cluster(
     watches: &Watches,
     results: &Endpoints,
     row: &GenRow,
-) -> Result<Option<ServedCluster>, AllocError>
+) -> Result<Option<ShownCluster>, AllocError>
+    requires marked { is_active row.now.status ≡ true
+        → IfSome (marked_in results.now row.now.number) (IsAssignmentOf watches.now row.now.content) }
     ensures { IfOk result (λ served. served ≡ cluster_shown_in watches.now results.now (Some row.now)) }
 {
     if !row.status.is_active() {
@@ -52,10 +57,11 @@ fn cluster(
     watches: &Watches,
     results: &Endpoints,
     row: &GenRow,
-) -> Result<ServedCluster, AllocError>
+) -> Result<ShownCluster, AllocError>
+    requires marked { IfSome (marked_in results.now row.now.number) (IsAssignmentOf watches.now row.now.content) }
     ensures { IfOk result (λ served. served ≡ cluster_in watches.now results.now row.now) }
 {
-    Ok(ServedCluster {
+    Ok(ShownCluster {
         number: row.number,
         name: row.name.copy(alloc)?,
         hosts: eligible(alloc, watches, results, row)?,
@@ -73,38 +79,36 @@ fn is_elsewhere(content: &Content) -> bool
     }
 }
 
-// The hosts of a cluster that may be chosen.
+// The hosts of a cluster that may be chosen: of marked rows what is marked, else each is looked at.
 fn eligible(
     alloc: Global,
     watches: &Watches,
     results: &Endpoints,
     row: &GenRow,
-) -> Result<Assignment, AllocError>
+) -> Result<ChosenHosts, AllocError>
+    requires marked { IfSome (marked_in results.now row.now.number) (IsAssignmentOf watches.now row.now.content) }
     ensures { IfOk result (λ hosts. hosts ≡ eligible_in watches.now results.now row.now) }
 {
+    if let Some(chosen) = results.chosen(alloc, row.number)? {
+        return Ok(chosen);
+    }
     match assignment(watches, &row.content) {
-        Some(hosts) => Ok(Assignment::new(choose(alloc, results, row, hosts.rows())?)),
-        None => Ok(Assignment::new(Seq::new(alloc))),
+        Some(hosts) => choose(alloc, results, row, hosts),
+        None => ChosenHosts::listed(alloc, Seq::new(alloc)),
     }
 }
 
 // Those of these hosts that may be chosen.
+#[tactic(auto, using(ev_hosts::proofs::ChosenLemmas::chosen_map))]
 fn choose(
     alloc: Global,
     results: &Endpoints,
     row: &GenRow,
-    hosts: &[HostRow],
-) -> Result<Seq<HostRow>, AllocError>
-    requires { length hosts.now < ROW_LIMIT }
-    ensures chosen { IfOk result (λ chosen. chosen ≡ filter (is_eligible_in results.now row.now) hosts.now) }
-    ensures few { IfOk result (λ chosen. length chosen < ROW_LIMIT) }
+    hosts: &Shared<Assignment>,
+) -> Result<ChosenHosts, AllocError>
+    ensures { IfOk result (λ chosen. chosen ≡ filter (is_eligible_in results.now row.now) hosts.now) }
 {
     let checked = is_checked(&row.content);
-    let mut chosen = Vec::new(alloc);
-    for host in hosts {
-        if results.eligible(row.number, checked, host) {
-            chosen.push(host.copy(alloc)?)?;
-        }
-    }
-    Ok(Seq::from_vec(chosen))
+    let marks = results.marks_of(alloc, row.number, checked, hosts.get())?;
+    Ok(ChosenHosts::new(hosts.share()?, marks))
 }

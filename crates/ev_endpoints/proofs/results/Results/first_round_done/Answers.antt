@@ -1,6 +1,6 @@
 use Rattle.std.proofs.Common.{◌<◌, sym, subst}
 use Rattle.ev_endpoints.proofs.RoundLemmas.{round_open}
-use Rattle.ev_endpoints.proofs.Endpoints.first_round_done.Goals as goal
+use Rattle.ev_endpoints.proofs.results.Results.first_round_done.Goals as goal
 
 pub returns-then-count-count_indexed : goal.returns-then-count-count_indexed
 returns-then-count-count_indexed c =

@@ -3,8 +3,8 @@ use Rattle.std.specs.Option.{option_copied}
 use Rattle.indexmap.specs.IndexMap.{get}
 use Rattle.ev_types.specs.SameHosts.{host_same, host_decides, has_host}
 use Rattle.ev_endpoints.proofs.ResultLemmas.{standing_kept, standing_skipped, has_host-more}
-use Rattle.ev_endpoints.proofs.standing.Goals as goal
-use Rattle.ev_endpoints.proofs.standing.Goals.{in-Some+in_ok-copy+in_ok-put, in_default}
+use Rattle.ev_endpoints.proofs.results.standing.Goals as goal
+use Rattle.ev_endpoints.proofs.results.standing.Goals.{in-Some+in_ok-copy+in_ok-put, in_default}
 
 pub loop-row-preserved : goal.loop-row-preserved
 loop-row-preserved c = λ h.

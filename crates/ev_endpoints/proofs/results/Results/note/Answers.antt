@@ -3,9 +3,9 @@ use Rattle.std.specs.Map.{lookup}
 use Rattle.std.specs.Option.{option_copied_mut}
 use Rattle.ev_types.specs.SameHosts.{host_same, host_decides}
 use Rattle.ev_types.specs.declared.hosts.Host.{Host}
-use Rattle.ev_endpoints.specs.Results.{HasNoEmpty, result_in, results_of}
+use Rattle.ev_endpoints.specs.Results.{HasNoEmpty, result_among, results_of}
 use Rattle.ev_endpoints.proofs.ResultLemmas.{found, found_some, inner, notes_by, results_of-set_value, some_as, still_no_empty}
-use Rattle.ev_endpoints.proofs.Endpoints.note.Goals as goal
+use Rattle.ev_endpoints.proofs.results.Results.note.Goals as goal
 
 pub returns-in_default-insert-clause-err : goal.returns-in_default-insert-clause-err
 returns-in_default-insert-clause-err c =
@@ -20,11 +20,11 @@ returns-in-Some-clause-ok c =
     let es = c.self.inside.results.entries in
     let w = c.insert.new.self in
     let there = subst IsSome c.in-Some.ensures.value refl in
-    let same : (h : Host) → inner (Some m) h ≡ result_in (results_of es) c.number-at.result h = λ h. sym (found es c.number-at.result (Some m) (sym c.in-Some.ensures.value) h) in
+    let same : (h : Host) → inner (Some m) h ≡ result_among (results_of es) c.number-at.result h = λ h. sym (found es c.number-at.result (Some m) (sym c.in-Some.ensures.value) h) in
     λ n h.
     notes_by es (c.get_mut.follows.lender w).entries c.number-at.result (Some w) ((c.get_mut.follows.holds w).3 there).0 c.in_ok-host.host c.args.healthy
     (λ k. c.in-Ok.ensures.updates.0 k ∙ ap (λ r. cond (host_same c.in_ok-host.host k) (Some c.args.healthy) r) (same k)) n h
-    ∙ (λ i. cond (nat_eq (c.number-at.ensures.number i) n && host_same (c.in_ok-host.ensures.equal i) h) (Some c.args.healthy) (result_in (c.self.view_is i) n h))
+    ∙ (λ i. cond (nat_eq (c.number-at.ensures.number i) n && host_same (c.in_ok-host.ensures.equal i) h) (Some c.args.healthy) (result_among (c.self.view_is i) n h))
 
 pub returns-clause-ok : goal.returns-clause-ok
 returns-clause-ok c =
@@ -38,7 +38,7 @@ returns-clause-ok c =
     (λ q. c.in-Ok-insert-2.ensures.updates.0 q ∙ (λ i. cond (nat_eq c.number-at.result q) (Some w) (lookup (nat_eq q) (c.get_mut.follows.holds-at-none i).entries)))
     c.in_ok-host.host c.args.healthy
     (λ k. made k ∙ ap (λ r. cond (host_same c.in_ok-host.host k) (Some c.args.healthy) r) (sym (found es c.number-at.result None none k))) n h
-    ∙ (λ i. cond (nat_eq (c.number-at.ensures.number i) n && host_same (c.in_ok-host.ensures.equal i) h) (Some c.args.healthy) (result_in (c.self.view_is i) n h))
+    ∙ (λ i. cond (nat_eq (c.number-at.ensures.number i) n && host_same (c.in_ok-host.ensures.equal i) h) (Some c.args.healthy) (result_among (c.self.view_is i) n h))
 
 pub invariant_of-self : goal.invariant_of-self
 invariant_of-self c =
