@@ -1,9 +1,10 @@
 -- What is read of a state, by searches of its rows: the machine's words, where what came is looked up.
 use Rattle.std.specs.Prelude.{ℕ, Bool, false, not, ◌&&◌, ◌||◌, List, [], ◌∷◌, filter, map, option_map, unwrap_or}
-use Rattle.std.specs.List.{list_any, flat_map}
+use Rattle.std.specs.List.{list_all, list_any, flat_map}
 use Rattle.std.specs.Str.{bytes_eq}
 use Rattle.ev_types.specs.Hosts.{HostRowParts}
 use Rattle.ev_types.specs.Kinds.{kind_same}
+use Rattle.ev_types.specs.Same.{bool_same}
 use Rattle.ev_types.specs.Statuses.{is_live, is_active}
 use Rattle.ev_types.specs.declared.contents.Content.{Content}
 use Rattle.ev_types.specs.declared.contents.Content.TheVariants.{Cluster as a_cluster, Assignment as an_assignment, Listener as a_listener, Routes as routes}
@@ -32,7 +33,8 @@ use Rattle.ev_indexes.specs.declared.watches.Watch.{Watch}
 use Rattle.ev_indexes.specs.Needs.{names_of, needs_at, places_of}
 use Rattle.ev_indexes.specs.Watched.{WatchesKept, watch_in}
 use Rattle.ev_indexes.specs.Ready.{assignment_in}
-use Rattle.ev_indexes.specs.Indexes.{passes, serves, warms, holds}
+use Rattle.ev_indexes.specs.Indexes.{numbers_where, passes, serves, warms, holds}
+use Rattle.ev_indexes.specs.declared.state.State.{State}
 
 -- the live ones of these rows
 abbrev pub live_rows : List GenRow → List GenRow
@@ -129,3 +131,8 @@ holders_in rows address = map live_of (filter (holds address) rows)
 -- what is seen in a world of the live generations that listen at the address
 abbrev pub holders_of : World → Host → List Live
 holders_of world address = filter (is_at address) (lives_of world)
+
+-- a host is as healthy as a result says for each row that serves the name
+abbrev pub is_as_healthy : State → List ℕ → Host → Bool → Bool
+is_as_healthy s name host healthy =
+    list_all (λ n. bool_same (unwrap_or (result_in s.results n host) false) healthy) (numbers_where (serves name) s.table.rows)
