@@ -72,13 +72,14 @@ pub(crate) fn place_above(rows: &[HostRow], marks: &Marks, priority: u8, n: u64)
     let mut sum: u64 = 0;
     let mut chosen: u32 = 0;
     for place in 0..rows.len() {
-        if marks.get(place) {
-            sum += weight_at(priority, &rows[place]) as u64;
-            if n < sum {
-                return Some(chosen);
-            }
-            chosen += 1;
+        if !marks.get(place) {
+            continue;
         }
+        sum += weight_at(priority, &rows[place]) as u64;
+        if n < sum {
+            return Some(chosen);
+        }
+        chosen += 1;
     }
     None
 }
@@ -90,12 +91,14 @@ pub(crate) fn host_at<'a>(rows: &'a [HostRow], marks: &Marks, place: u32) -> Opt
 {
     let mut left = place;
     for at in 0..rows.len() {
-        if marks.get(at) {
-            if left == 0 {
-                return Some(&rows[at].host);
-            }
-            left -= 1;
+        if !marks.get(at) {
+            continue;
         }
+        let row = &rows[at];
+        if left == 0 {
+            return Some(&row.host);
+        }
+        left -= 1;
     }
     None
 }
@@ -131,13 +134,18 @@ pub(crate) fn are_same(
     }
     let mut other = 0;
     for place in 0..rows.len() {
-        if marks.get(place) {
-            other = next_marked(other_marks, other);
-            if other == other_rows.len() || rows[place] != other_rows[other] {
-                return false;
-            }
-            other += 1;
+        if !marks.get(place) {
+            continue;
         }
+        let row = &rows[place];
+        other = next_marked(other_marks, other);
+        if other == other_rows.len() {
+            return false;
+        }
+        if *row != other_rows[other] {
+            return false;
+        }
+        other += 1;
     }
     true
 }
