@@ -1,4 +1,4 @@
-use Rattle.std.proofs.Common.{◌≡◌, ◌∙◌, ◌+◌, [], ◌∷◌, refl, sym, ap, length, drop, false, arith}
+use Rattle.std.proofs.Common.{◌≡◌, ◌∙◌, ◌+◌, [], ◌∷◌, refl, sym, ap, length, drop, arith}
 use Rattle.ev_types.specs.SameHosts.{rows_same}
 use Rattle.ev_hosts.specs.Chosen.{chosen_by}
 use Rattle.ev_hosts.proofs.ChosenLemmas.{chosen_no, chosen_yes, chosen_end, length_chosen, differ_in_length}
@@ -15,8 +15,8 @@ loop-place-init c = record {
   within = omega arith;
   rest = refl;
   long = length_chosen c.args.marks.now c.args.rows.now c.requires.marked
-    ∙ sym c.count.ensures ∙ c.if-count.false ∙ c.count-2.ensures
-    ∙ sym (length_chosen c.args.other_marks.now c.args.other_rows.now c.requires.other_marked);
+      ∙ sym c.count.ensures ∙ c.if-count.false ∙ c.count-2.ensures
+      ∙ sym (length_chosen c.args.other_marks.now c.args.other_rows.now c.requires.other_marked);
 }
 
 pub loop-place-preserved-then-not-get : goal.loop-place-preserved-then-not-get
@@ -29,7 +29,7 @@ loop-place-preserved-then-not-get c =
     record {
       within = c.loop-place.invariant.within;
       rest = c.loop-place.invariant.rest
-        ∙ ap (λ chosen. rows_same chosen (chosen_by (drop c.loop-place.other c.args.other_marks.now) (drop c.loop-place.other c.args.other_rows.now))) same;
+          ∙ ap (λ chosen. rows_same chosen (chosen_by (drop c.loop-place.other c.args.other_marks.now) (drop c.loop-place.other c.args.other_rows.now))) same;
       long = sym (ap length same) ∙ c.loop-place.invariant.long;
     }
 

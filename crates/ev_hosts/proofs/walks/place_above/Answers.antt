@@ -1,4 +1,4 @@
-use Rattle.std.proofs.Common.{◌≡◌, ◌∙◌, ◌+◌, sym, ap, sum, map, drop, false, arith, refl}
+use Rattle.std.proofs.Common.{◌≡◌, ◌∙◌, ◌+◌, sym, ap, sum, map, drop, arith}
 use Rattle.ev_model.specs.Choice.{weight_at}
 use Rattle.ev_hosts.specs.Chosen.{chosen_by}
 use Rattle.ev_hosts.proofs.ChosenLemmas.{chosen_no}

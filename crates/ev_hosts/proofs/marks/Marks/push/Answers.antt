@@ -1,4 +1,4 @@
-use Rattle.std.proofs.Common.{◌≡◌, ◌∙◌, ◌+◌, ◌++◌, ◌∷◌, [], List, Bool, Result, Ok, Err, sym, ap, subst, OnErr, arith}
+use Rattle.std.proofs.Common.{◌∙◌, ◌+◌, ◌++◌, ◌∷◌, [], Result, Ok, Err, sym, ap, subst, OnErr, arith}
 use mir.Val.{bool_byte}
 use Rattle.ev_hosts.specs.Bits.{marks_of, AreCounted}
 use Rattle.ev_hosts.proofs.MarkLemmas.{is_pushed, is_kept, IsPushed, marks_of-same}

@@ -1,4 +1,4 @@
-use Rattle.std.proofs.Common.{◌≡◌, ◌∙◌, ◌<◌, ◌≤◌, ◌+◌, ◌-◌, Bool, sym, ap, subst, length, get_or, slice_set, false, arith}
+use Rattle.std.proofs.Common.{◌∙◌, ◌<◌, ◌≤◌, ◌+◌, ◌-◌, sym, ap, subst, length, get_or, slice_set, false, arith}
 use mir.Val.{bool_byte}
 use Rattle.ev_hosts.specs.Bits.{marks_of, AreCounted}
 use Rattle.ev_hosts.proofs.MarkLemmas.{has_room, is_put, IsPut}
