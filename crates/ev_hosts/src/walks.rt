@@ -10,16 +10,21 @@ ghost use Rattle.ev_hosts.specs.Chosen.{chosen_by, lowest_of, lowest_with, Skips
 use crate::marks::Marks;
 use ev_types::{Host, HostRow};
 
-/// The lowest priority of the rows that are marked, if there is one.
+/// The lowest priority of the rows that are marked, if there is one. No priority is lower than 0, so a row of 0 ends the walk.
 pub(crate) fn lowest_priority(rows: &[HostRow], marks: &Marks) -> Option<u8>
     requires { length marks.now ≡ length rows.now }
     ensures { result ≡ lowest_of (chosen_by marks.now rows.now) }
 {
     let mut lowest = None;
     for place in (0..rows.len()).rev() {
-        if marks.get(place) {
-            lowest = Some(lower(&rows[place], lowest));
+        if !marks.get(place) {
+            continue;
         }
+        let priority = lower(&rows[place], lowest);
+        if priority == 0 {
+            return Some(0);
+        }
+        lowest = Some(priority);
     }
     lowest
 }
