@@ -1,5 +1,5 @@
 -- Marks as words of 64 bits, the lowest bit first.
-use Rattle.std.specs.Prelude.{ℕ, ◌≡◌, ◌≤◌, ◌*◌, ◌/◌, ◌%◌, ◌==◌, Bool, if◌then◌else◌, List, length, map, filter, slice_index_or}
+use Rattle.std.specs.Prelude.{ℕ, ◌≡◌, ◌<◌, ◌≤◌, ◌*◌, ◌/◌, ◌%◌, ◌==◌, Bool, if◌then◌else◌, List, length, map, filter, slice_index_or}
 use Rattle.std.specs.List.{range_with_len}
 use Rattle.std.specs.Int.{bit_at}
 
@@ -26,8 +26,12 @@ pub record AreCounted (words : List ℕ) (len count : ℕ) : Type 0 where
 
 -- the bit at a place of a word is this one from now on, and each other bit is what it was
 abbrev pub PutsBit : ℕ → Bool → ℕ → ℕ → Type 0
-PutsBit place mark old new = (k : ℕ) → has_bit new k ≡ (if k == place then mark else has_bit old k)
+PutsBit place mark old new = (k : ℕ) → k < 64 → has_bit new k ≡ (if k == place then mark else has_bit old k)
 
 -- the bit at a place of words is this one from now on, and each other bit is what it was
 abbrev pub PutsMark : ℕ → Bool → List ℕ → List ℕ → Type 0
 PutsMark place mark old new = (k : ℕ) → mark_at new k ≡ (if k == place then mark else mark_at old k)
+
+-- each bit of words is what it was
+abbrev pub KeepsMarks : List ℕ → List ℕ → Type 0
+KeepsMarks old new = (k : ℕ) → mark_at new k ≡ mark_at old k

@@ -1,5 +1,5 @@
-ghost use Rattle.std.specs.Prelude.{◌≡◌, ◌<◌, ◌/◌, List, [], ◌∷◌, ◌++◌, length, slice_set, slice_index_or, false, OnOk, OnErr};
-ghost use Rattle.ev_hosts.specs.Bits.{count_set, PutsBit, PutsMark};
+ghost use Rattle.std.specs.Prelude.{◌≡◌, ◌<◌, ◌≤◌, ◌*◌, ◌/◌, List, [], ◌∷◌, ◌++◌, length, slice_set, slice_index_or, false, OnOk, OnErr};
+ghost use Rattle.ev_hosts.specs.Bits.{count_set, has_bit, KeepsMarks, PutsBit, PutsMark};
 
 use ev_types::{Seq, TryCopy};
 use std::alloc::{AllocError, Global};
@@ -63,13 +63,9 @@ impl Marks {
         requires { place < length self.old }
         ensures { self.new ≡ slice_set self.old place mark }
     {
-        if self.get(place) {
-            self.count -= 1;
-        }
-        if mark {
-            self.count += 1;
-        }
+        let before = self.get(place);
         put(&mut self.words, place, mark);
+        self.count = self.count - before as usize + mark as usize;
     }
 
     /// Puts a mark at the end. Out of memory, the marks stay as they were.
@@ -80,16 +76,25 @@ impl Marks {
         let Some(len) = self.len.checked_add(1) else {
             return Err(AllocError);
         };
-        if self.len / 64 == self.words.len() {
-            self.words.push(0)?;
-        }
+        make_room(&mut self.words, self.len)?;
         put(&mut self.words, self.len, mark);
         self.len = len;
-        if mark {
-            self.count += 1;
-        }
+        self.count += mark as usize;
         Ok(())
     }
+}
+
+// Makes room for one more mark after so many, where there is none.
+fn make_room(words: &mut Seq<u64>, len: usize) -> Result<(), AllocError>
+    requires { len ≤ 64 * length words.old }
+    ensures ok { OnOk result (len < 64 * length words.new) }
+    ensures keeps { KeepsMarks words.old words.new }
+    ensures room { length words.old ≤ length words.new }
+{
+    if len / 64 < words.len() {
+        return Ok(());
+    }
+    words.push(0)
 }
 
 // Whether the bit at a place of a word is set.

@@ -10,16 +10,21 @@ ghost use Rattle.ev_hosts.specs.Chosen.{chosen_by, lowest_of, lowest_with, Skips
 use crate::marks::Marks;
 use ev_types::{Host, HostRow};
 
-/// The lowest priority of the rows that are marked, if there is one.
+/// The lowest priority of the rows that are marked, if there is one. No priority is lower than 0, so a row of 0 ends the walk.
 pub(crate) fn lowest_priority(rows: &[HostRow], marks: &Marks) -> Option<u8>
     requires { length marks.now ≡ length rows.now }
     ensures { result ≡ lowest_of (chosen_by marks.now rows.now) }
 {
     let mut lowest = None;
     for place in (0..rows.len()).rev() {
-        if marks.get(place) {
-            lowest = Some(lower(&rows[place], lowest));
+        if !marks.get(place) {
+            continue;
         }
+        let priority = lower(&rows[place], lowest);
+        if priority == 0 {
+            return Some(0);
+        }
+        lowest = Some(priority);
     }
     lowest
 }
@@ -72,13 +77,14 @@ pub(crate) fn place_above(rows: &[HostRow], marks: &Marks, priority: u8, n: u64)
     let mut sum: u64 = 0;
     let mut chosen: u32 = 0;
     for place in 0..rows.len() {
-        if marks.get(place) {
-            sum += weight_at(priority, &rows[place]) as u64;
-            if n < sum {
-                return Some(chosen);
-            }
-            chosen += 1;
+        if !marks.get(place) {
+            continue;
         }
+        sum += weight_at(priority, &rows[place]) as u64;
+        if n < sum {
+            return Some(chosen);
+        }
+        chosen += 1;
     }
     None
 }
@@ -90,12 +96,14 @@ pub(crate) fn host_at<'a>(rows: &'a [HostRow], marks: &Marks, place: u32) -> Opt
 {
     let mut left = place;
     for at in 0..rows.len() {
-        if marks.get(at) {
-            if left == 0 {
-                return Some(&rows[at].host);
-            }
-            left -= 1;
+        if !marks.get(at) {
+            continue;
         }
+        let row = &rows[at];
+        if left == 0 {
+            return Some(&row.host);
+        }
+        left -= 1;
     }
     None
 }
@@ -131,13 +139,18 @@ pub(crate) fn are_same(
     }
     let mut other = 0;
     for place in 0..rows.len() {
-        if marks.get(place) {
-            other = next_marked(other_marks, other);
-            if other == other_rows.len() || rows[place] != other_rows[other] {
-                return false;
-            }
-            other += 1;
+        if !marks.get(place) {
+            continue;
         }
+        let row = &rows[place];
+        other = next_marked(other_marks, other);
+        if other == other_rows.len() {
+            return false;
+        }
+        if *row != other_rows[other] {
+            return false;
+        }
+        other += 1;
     }
     true
 }
