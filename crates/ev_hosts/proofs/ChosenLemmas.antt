@@ -8,9 +8,9 @@ use Rattle.ev_hosts.specs.Bits.{count_set}
 use Rattle.ev_hosts.specs.Chosen.{chosen_by}
 
 -- where the rows that pass a test are marked, these are chosen
-pub chosen-map : (test : HostRowParts → Bool) (rows : List HostRowParts) → chosen_by (map test rows) rows ≡ filter test rows
-chosen-map test [] = refl
-chosen-map test (row ∷ rows) = λ i. cond (test row) (row ∷ chosen-map test rows i) (chosen-map test rows i)
+pub chosen_map : (test : HostRowParts → Bool) (rows : List HostRowParts) → chosen_by (map test rows) rows ≡ filter test rows
+chosen_map test [] = refl
+chosen_map test (row ∷ rows) = λ i. cond (test row) (row ∷ chosen_map test rows i) (chosen_map test rows i)
 
 -- where all are marked, all are chosen
 pub all_chosen : (rows : List HostRowParts) → chosen_by (map (λ (r : HostRowParts). true) rows) rows ≡ rows
