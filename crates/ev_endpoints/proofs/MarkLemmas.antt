@@ -9,6 +9,9 @@ use Rattle.ev_types.specs.SameHosts.{host_same, host_decides, has_host, place_of
 use Rattle.ev_types.specs.Hosts.{HostRowParts}
 use Rattle.ev_types.specs.declared.hosts.Host.{Host}
 use Rattle.ev_endpoints.specs.Results.{HostResults, result_among, NotesAmong, is_eligible_among}
+use Rattle.ev_hosts.specs.Chosen.{chosen_by}
+use Rattle.ev_hosts.proofs.ChosenLemmas.{chosen_map}
+use Rattle.ev_endpoints.specs.Kept.{chosen_in}
 use Rattle.ev_endpoints.specs.Marked.{has_repeats, usable_at, marks_with, rows_marked, IsMarkedBy, AreMarked, NotesMark}
 use Rattle.ev_endpoints.specs.declared.marked.MarkedRows.{MarkedRows}
 
@@ -55,6 +58,28 @@ lookup-rows_marked test (e ∷ es) = by (test e.0) (lookup test es) (lookup-rows
         → cond b (Some e.1.rows) r ≡ option_map (λ (m : MarkedRows). m.rows) (cond b (Some e.1) o)
     by true o h = refl
     by false o h = h
+
+-- other marked rows for one number
+pub rows-changed : (es fs : List (ℕ × MarkedRows)) (number : ℕ) (u : Option MarkedRows) → ((n : ℕ) → lookup (nat_eq n) fs ≡ cond (nat_eq number n) u (lookup (nat_eq n) es))
+    → (n : ℕ) → lookup (nat_eq n) (rows_marked fs) ≡ cond (nat_eq number n) (option_map (λ (m : MarkedRows). m.rows) u) (lookup (nat_eq n) (rows_marked es))
+rows-changed es fs number u updates n =
+    lookup-rows_marked (nat_eq n) fs ∙ ap (option_map (λ (m : MarkedRows). m.rows)) (updates n) ∙ by (nat_eq number n)
+  where
+    by : (b : Bool) → option_map (λ (m : MarkedRows). m.rows) (cond b u (lookup (nat_eq n) es)) ≡ cond b (option_map (λ (m : MarkedRows). m.rows) u) (lookup (nat_eq n) (rows_marked es))
+    by true = refl
+    by false = sym (lookup-rows_marked (nat_eq n) es)
+
+-- what is marked of the rows of a number are those that may be chosen
+pub chosen-found : (results : HostResults) (es : List (ℕ × MarkedRows)) (n : ℕ) (o : Option MarkedRows) → lookup (nat_eq n) es ≡ o → AreMarked results es
+    → option_map (λ (m : MarkedRows). chosen_by m.marks m.rows) o ≡ chosen_in (record { hosts = results; marked = rows_marked es }) n
+chosen-found results es n o at are =
+    by o (subst (λ (p : Option MarkedRows). IfSome p (IsMarkedBy results n)) at (are n))
+    ∙ ap (option_map (λ (rows : List HostRowParts). filter (is_eligible_among results n true) rows)) (sym (lookup-rows_marked (nat_eq n) es ∙ ap (option_map (λ (m : MarkedRows). m.rows)) at))
+  where
+    by : (o : Option MarkedRows) → IfSome o (IsMarkedBy results n)
+        → option_map (λ (m : MarkedRows). chosen_by m.marks m.rows) o ≡ option_map (λ (rows : List HostRowParts). filter (is_eligible_among results n true) rows) (option_map (λ (m : MarkedRows). m.rows) o)
+    by None is = refl
+    by (Some m) is = ap Some ((λ i. chosen_by (is.marks i) m.rows) ∙ chosen_map (is_eligible_among results n true) m.rows)
 
 -- marked rows with the same rows in place of others change no row
 pub rows_marked-set_value : (test : ℕ → Bool) (es : List (ℕ × MarkedRows)) (m w : MarkedRows) → lookup test es ≡ Some m → w.rows ≡ m.rows
@@ -152,7 +177,7 @@ notes-none es number host healthy none = record {
     same n false e = refl
 
 -- the hosts of rows, one that comes again later left out
-once : List HostRowParts → List Host
+abbrev once : List HostRowParts → List Host
 once [] = []
 once (row ∷ rows) = cond (has_host row.host rows) (once rows) (row.host ∷ once rows)
 

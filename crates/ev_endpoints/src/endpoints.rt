@@ -150,8 +150,8 @@ impl Endpoints {
         ensures results { Forgets self.old self.new number }
         ensures marked { Unmarks self.old self.new number }
     {
-        self.unmark(number);
         self.results.forget(number);
+        self.marked.swap_remove(&number.number());
     }
 
     /// Forgets the results of a generation for hosts that aren't among these rows, and its marks. Out of memory, all stays as it was.
