@@ -1,16 +1,14 @@
 -- What is shown of a state that stands for a world is what the machine shows of the world.
-use Rattle.std.proofs.Common.{◌≡◌, ◌∙◌, ℕ, ◌≤◌, Bool, true, false, cond, not, ◌&&◌, ◌||◌, List, [], ◌∷◌, ◌++◌, ◌⊎◌, inl, inr, Option, None, Some, IsSome, option_map, option_to_list, map, filter, length, refl, sym, ap, subst, true≢false, arith}
-use Rattle.std.specs.List.{IsDistinct, AllByRecursion, flat_map}
+use Rattle.std.proofs.Common.{◌≡◌, ◌∙◌, ℕ, ◌≤◌, Bool, true, false, cond, not, ◌&&◌, ◌||◌, List, [], ◌∷◌, Option, None, Some, IsSome, option_map, option_to_list, map, filter, length, refl, sym, ap, subst, true≢false, arith}
+use Rattle.std.specs.List.{IsDistinct, AllByRecursion}
 use Rattle.std.specs.Str.{bytes_eq}
-use Rattle.std.proofs.lemmas.Cmp.{nat_list_cmp_total}
 use Rattle.std.proofs.lemmas.Bool.{cond_both}
-use Rattle.std.specs.Cmp.{both_ways, on_total}
+use Rattle.std.specs.Cmp.{both_ways}
 use Rattle.ev_types.specs.Hosts.{HostRowParts}
 use Rattle.ev_types.specs.Items.{content_kind}
-use Rattle.ev_types.specs.Kinds.{kind_same, kind_decides}
 use Rattle.ev_types.specs.Same.{bytes_decide}
 use Rattle.ev_types.specs.Statuses.{is_active}
-use Rattle.ev_types.specs.declared.contents.Kind.TheVariants.{Cds, Lds}
+use Rattle.ev_types.specs.declared.contents.Kind.TheVariants.{Lds}
 use Rattle.ev_types.specs.declared.contents.Content.{Content}
 use Rattle.ev_types.specs.declared.contents.Content.TheVariants.{Cluster as a_cluster, Assignment as an_assignment, Listener as a_listener, Routes as routes}
 use Rattle.ev_types.specs.declared.listeners.FilterChain.{FilterChain}
@@ -18,21 +16,15 @@ use Rattle.ev_types.specs.declared.listeners.Serve.{Serve}
 use Rattle.ev_types.specs.declared.listeners.Serve.TheVariants.{Rds as by_rds, Inline, Tcp as by_tcp, Other as by_other}
 use Rattle.ev_types.specs.declared.rows.GenRow.{GenRow}
 use Rattle.ev_model.specs.declared.pictures.Routing.TheVariants.{Table}
-use Rattle.ev_model.specs.declared.pictures.ServedListener.{ServedListener}
 use Rattle.ev_model.specs.World.{World}
-use Rattle.ev_model.specs.Picture.{by_name, active_rows, is_elsewhere, served_chain, served_cluster, served_clusters, served_listener, served_listeners, routing_of, table_in}
+use Rattle.ev_model.specs.Picture.{is_elsewhere, served_chain, served_cluster, served_listener, routing_of, table_in}
 use Rattle.ev_model.specs.Warming.{is_checked, value_by}
 use Rattle.ev_generations.specs.Tables.{row_in, numbers_of}
 use Rattle.ev_indexes.specs.declared.state.State.{State}
 use Rattle.ev_indexes.specs.Standings.{standing_in}
 use Rattle.ev_indexes.specs.Indexes.{IsIndexed, serves, numbers_where}
-use Rattle.ev_indexes.specs.Reads.{active_by_name, chain_in, cluster_in, clusters_in, listener_in, listeners_in, routing_in}
-use Rattle.ev_indexes.specs.Watched.{WatchesKept}
+use Rattle.ev_indexes.specs.Reads.{chain_in, cluster_in, listener_in, routing_in}
 use Rattle.ev_indexes.specs.Worlds.{HasRows, needs_of}
-use Rattle.ev_indexes.proofs.RowLemmas.{filter-rows_of_kind, filter_agrees, all_then, both_all}
-use Rattle.ev_indexes.proofs.SortLemmas.{by_key, sorted_by-same}
-use Rattle.ev_indexes.proofs.SoundLemmas.{contents-of}
-use Rattle.ev_indexes.proofs.WhereLemmas.{own-rows}
 use Rattle.ev_indexes.proofs.WorldLemmas.{hosts}
 
 pub all_left : (P : GenRow → Type 0) (q : GenRow → Bool) (rows : List GenRow) → AllByRecursion P rows → AllByRecursion P (filter q rows)

@@ -1,5 +1,5 @@
 -- Rows of a kind under changes of statuses, and what a state that stands for a world has of it: the same hosts, and the same rows are ready.
-use Rattle.std.proofs.Common.{◌≡◌, ◌∙◌, ℕ, Bool, true, false, cond, not, ◌&&◌, ◌||◌, List, [], ◌∷◌, Option, IsSome, is_some, refl, sym, ap, true≢false}
+use Rattle.std.proofs.Common.{◌≡◌, ◌∙◌, ℕ, Bool, true, false, cond, not, ◌&&◌, ◌||◌, List, [], ◌∷◌, IsSome, is_some, refl, sym, ap, true≢false}
 use Rattle.std.specs.List.{list_any}
 use Rattle.ev_types.specs.Hosts.{HostRowParts}
 use Rattle.ev_types.specs.Items.{content_kind}

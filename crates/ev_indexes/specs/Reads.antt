@@ -5,7 +5,7 @@ use Rattle.std.specs.Str.{bytes_eq}
 use Rattle.ev_types.specs.Hosts.{HostRowParts}
 use Rattle.ev_types.specs.Kinds.{kind_same}
 use Rattle.ev_types.specs.Same.{bool_same}
-use Rattle.ev_types.specs.Statuses.{is_live, is_active}
+use Rattle.ev_types.specs.Statuses.{is_live}
 use Rattle.ev_types.specs.declared.contents.Content.{Content}
 use Rattle.ev_types.specs.declared.contents.Content.TheVariants.{Cluster as a_cluster, Assignment as an_assignment, Listener as a_listener, Routes as routes}
 use Rattle.ev_types.specs.declared.contents.Kind.{Kind}
@@ -21,7 +21,7 @@ use Rattle.ev_model.specs.declared.pictures.ServedCluster.{ServedCluster}
 use Rattle.ev_model.specs.declared.pictures.ServedListener.{ServedListener}
 use Rattle.ev_types.specs.declared.hosts.Host.{Host}
 use Rattle.ev_model.specs.Live.{live_of, lives_of}
-use Rattle.ev_model.specs.Picture.{by_name, is_elsewhere, table_in}
+use Rattle.ev_model.specs.Picture.{is_elsewhere, table_in}
 use Rattle.ev_model.specs.Signals.{is_awaited}
 use Rattle.ev_model.specs.Warming.{counts_for, is_checked}
 use Rattle.ev_model.specs.Watching.{Dependency, dependencies_of, sorted_names}
@@ -69,10 +69,6 @@ is_one_waiting name watch rows numbers = list_any (λ number. passes (is_waiting
 -- a row serves the name, or none warms under it
 abbrev pub has_come_in : List GenRow → List ℕ → Bool
 has_come_in rows name = list_any (serves name) rows || not (list_any (warms name) rows)
-
--- the active ones of these rows
-abbrev pub serving_rows : List GenRow → List GenRow
-serving_rows rows = filter (λ (row : GenRow). is_active row.status) rows
 
 -- the host may be chosen for the row
 abbrev pub is_eligible_in : ResultsKept → GenRow → HostRowParts → Bool

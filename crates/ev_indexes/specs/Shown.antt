@@ -8,11 +8,11 @@ use Rattle.ev_model.specs.declared.pictures.ServedCluster.{ServedCluster}
 use Rattle.ev_model.specs.declared.pictures.ServedListener.{ServedListener}
 use Rattle.ev_model.specs.World.{World, Arrived, HealthResult}
 use Rattle.ev_model.specs.Phase.{is_serving}
-use Rattle.ev_model.specs.Picture.{served_cluster, served_clusters, served_listener, served_listeners}
+use Rattle.ev_model.specs.Picture.{served_cluster, served_listener}
 use Rattle.ev_endpoints.specs.Kept.{ResultsKept}
 use Rattle.ev_generations.specs.Tables.{row_in}
 use Rattle.ev_indexes.specs.declared.state.State.{State}
-use Rattle.ev_indexes.specs.Reads.{cluster_in, clusters_in, listener_in, listeners_in}
+use Rattle.ev_indexes.specs.Reads.{cluster_in, listener_in}
 use Rattle.ev_indexes.specs.Watched.{WatchesKept}
 
 -- what a picture shows of a row that is found: an active cluster
