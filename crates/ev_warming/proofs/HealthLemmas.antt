@@ -5,7 +5,7 @@ use Rattle.std.specs.List.{list_any, last_or}
 use Rattle.std.specs.Str.{bytes_eq}
 use Rattle.std.proofs.Math.Bool.{or-true}
 use Rattle.std.proofs.lemmas.Bool.{eqb-true, eq-eqb, and_parts}
-use Rattle.std.proofs.lemmas.Option.{none-some}
+use Rattle.std.proofs.lemmas.Option.{none-some as not_some}
 use Rattle.std.proofs.lemmas.List.{map-append}
 use Rattle.std.proofs.lemmas.List.Elements.{filter-append}
 use Rattle.std.proofs.lemmas.List.Folds.{list_any-append}
@@ -81,7 +81,7 @@ indexed-noted s number row host healthy results due x found notes marks looked =
     other : {A : Type 0} (n : ℕ) → s.table.made < n → nat_eq number n ≡ true → A
     other n above e =
         let clash : Some row ≡ None = sym found ∙ (λ i. row_in (eqb-true number n e i) s.table.rows) ∙ x.table.drawn n above in
-        absurd (none-some row (sym clash))
+        absurd (not_some row (sym clash))
 
     far : (n : ℕ) (h : Host) → s.table.made < n → (b : Bool) → nat_eq number n ≡ b → cond (b && host_same host h) (Some healthy) (result_in s.results n h) ≡ None
     far n h above true e =

@@ -1,6 +1,6 @@
 -- Which generations a health result is for, and what it does to what is kept: the machine's words, where what came is looked up.
 -- Source: cluster manager warming of Envoy's documentation: a checked cluster waits for a first result of each host.
-use Rattle.std.specs.Prelude.{◌≡◌, ◌×◌, ◌⊎◌, ℕ, Bool, true, ◌&&◌, nat_eq, if◌then◌else◌, List, [], Option, Some, IfSome, option_and_then, option_to_list}
+use Rattle.std.specs.Prelude.{◌≡◌, ◌⊎◌, ℕ, Bool, true, ◌&&◌, nat_eq, if◌then◌else◌, List, [], Option, Some, IfSome, option_and_then, option_to_list}
 use Rattle.std.specs.List.{list_any}
 use Rattle.std.specs.Str.{bytes_eq}
 use Rattle.ev_types.specs.SameHosts.{host_same}
