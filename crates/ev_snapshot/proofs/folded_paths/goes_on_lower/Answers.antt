@@ -1,4 +1,4 @@
-use Rattle.std.proofs.Common.{◌&&◌, ◌<◌, ◌∙◌, length, nat_eq, slice_index_or, true, false, sym, ap, arith}
+use Rattle.std.proofs.Common.{◌&&◌, ◌<◌, ◌∙◌, length, nat_eq, slice_index_or, sym, ap, arith}
 use Rattle.ev_snapshot.proofs.InCase.{goes_on_cased}
 use Rattle.ev_snapshot.proofs.folded_paths.goes_on_lower.Goals as goal
 
