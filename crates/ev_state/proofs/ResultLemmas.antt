@@ -59,8 +59,8 @@ results_same n given healthy results rows others (h ∷ hosts) =
 -- results that say of a host what was known of it change nothing
 last_as : (n : ℕ) (h given : Host) (healthy : Bool) (rows : List GenRow) (o : Option Bool) → (host_same given h ≡ true → unwrap_or o false ≡ healthy)
     → unwrap_or (last_or o (map (λ (r : HealthResult). r.healthy) (filter (is_result_of n h) (map (result_for given healthy) rows)))) false ≡ unwrap_or o false
-last_as n h given healthy [] o as = refl
-last_as n h given healthy (row ∷ rows) o as = by (nat_eq row.number n) (host_same given h) refl (λ (p : Option Bool) q. last_as n h given healthy rows p q)
+last_as n h given healthy [] o known = refl
+last_as n h given healthy (row ∷ rows) o known = by (nat_eq row.number n) (host_same given h) refl (λ (p : Option Bool) q. last_as n h given healthy rows p q)
   where
     by : (a b : Bool) → host_same given h ≡ b
         → ((p : Option Bool) → (host_same given h ≡ true → unwrap_or p false ≡ healthy)
@@ -68,14 +68,14 @@ last_as n h given healthy (row ∷ rows) o as = by (nat_eq row.number n) (host_s
         → unwrap_or (last_or o (map (λ (r : HealthResult). r.healthy)
         (cond (a && b) (result_for given healthy row ∷ filter (is_result_of n h) (map (result_for given healthy) rows)) (filter (is_result_of n h) (map (result_for given healthy) rows))))) false
         ≡ unwrap_or o false
-    by true true e rest = rest (Some healthy) (λ same. refl) ∙ sym (as e)
-    by true false e rest = rest o as
-    by false b e rest = rest o as
+    by true true e rest = rest (Some healthy) (λ same. refl) ∙ sym (known e)
+    by true false e rest = rest o known
+    by false b e rest = rest o known
 
 still_as : (n : ℕ) (given : Host) (healthy : Bool) (results : List HealthResult) (rows : List GenRow) → is_healthy results n given ≡ healthy
     → (hosts : List HostRowParts) → SameResults results (results ++ map (result_for given healthy) rows) n hosts
-still_as n given healthy results rows as [] = tt
-still_as n given healthy results rows as (h ∷ hosts) = (one h.host, still_as n given healthy results rows as hosts)
+still_as n given healthy results rows known [] = tt
+still_as n given healthy results rows known (h ∷ hosts) = (one h.host, still_as n given healthy results rows known hosts)
   where
     one : (k : Host) → is_healthy (results ++ map (result_for given healthy) rows) n k ≡ is_healthy results n k
     one k =
@@ -86,7 +86,7 @@ still_as n given healthy results rows as (h ∷ hosts) = (one h.host, still_as n
         ∙ ap (λ o. unwrap_or o false)
         (last_or-append None (map (λ (r : HealthResult). r.healthy) (filter (is_result_of n k) results)) (map (λ (r : HealthResult). r.healthy) (filter (is_result_of n k) (map (result_for given healthy) rows))))
         ∙ last_as n k given healthy rows (last_or None (map (λ (r : HealthResult). r.healthy) (filter (is_result_of n k) results)))
-        (λ same. (λ i. is_healthy results n (sym ((host_decides given k).0 same) i)) ∙ as)
+        (λ same. (λ i. is_healthy results n (sym ((host_decides given k).0 same) i)) ∙ known)
 
 -- what holds of each row that passes holds of all that are left
 all_left : (P : GenRow → Type 0) (keep : GenRow → Bool) (rows : List GenRow) → AllByRecursion (λ (r : GenRow). keep r ≡ true → P r) rows → AllByRecursion P (filter keep rows)
@@ -100,7 +100,7 @@ all_left P keep (row ∷ rows) all = by (keep row) all.0 (all_left P keep rows a
 module _ (changed : List ℕ) (clusters : State) (name : List ℕ) (host : Host) (healthy : Bool) (world : World)
     (of_clusters : clusters.table.rows ≡ rows_of_kind Cds world.rows) (apart : IsDistinct nat_eq (numbers_of world.rows))
     (told : (n : ℕ) → is_one_of changed n ≡ false
-        → (is_one_of (numbers_where (serves name) clusters.table.rows) n ≡ false) ⊎ (is_healthy world.results n host ≡ healthy)) where
+    → (is_one_of (numbers_where (serves name) clusters.table.rows) n ≡ false) ⊎ (is_healthy world.results n host ≡ healthy)) where
   name_of : (kind named live checked assigned : Bool) → (kind && named && live && checked && assigned) ≡ true → named ≡ true
   name_of true true live checked assigned h = refl
   name_of true false live checked assigned h = absurd (false≢true h)
@@ -135,10 +135,10 @@ module _ (changed : List ℕ) (clusters : State) (name : List ℕ) (host : Host)
           (all_then (λ (r : GenRow). row_in r.number world.rows ≡ Some r) (λ (r : GenRow). is_meant world.arrivals name host r ≡ true → nat_eq r.number row.number ≡ false) world.rows
           (λ r own meant. not_meant n row isnt at r own meant) (own-rows world.rows apart)))
           (assignment_by world.arrivals row.content)
-      | inr as ↦
+      | inr known ↦
           let served = served-is Cds (row_in n world.rows) row at in
           still_as row.number host healthy world.results (rows_meant world.arrivals name host world.rows)
-          ((λ i. is_healthy world.results (number-row_in n row world.rows served.at i) host) ∙ as)
+          ((λ i. is_healthy world.results (number-row_in n row world.rows served.at i) host) ∙ known)
           (assignment_by world.arrivals row.content)
     ];
     phase = refl;
