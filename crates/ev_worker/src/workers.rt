@@ -114,7 +114,7 @@ impl Worker {
         ensures picture { self.new.picture ≡ self.old.picture }
         ensures made { (begun : List OpenMember) → IsMadeFrom begun self.old → IsMadeFrom begun self.new }
     {
-        let answer = self.answer_to(ask.get());
+        let answer = self.answer_to(&ask);
         open_on(&mut self.members, ask.get().conn, on_of(&answer));
         self.batch.push(BatchLine {
             at,
@@ -125,9 +125,10 @@ impl Worker {
     }
 
     // How a connection is answered.
-    fn answer_to(&self, ask: &Ask) -> Accepted
+    fn answer_to(&self, ask: &Shared<Ask>) -> Accepted
         ensures { result ≡ accepted_as self.now.picture ask.now (is_open self.now.opened self.now.number ask.now.conn) }
     {
+        let ask = ask.get();
         if self.members.contains_key(&ask.conn) {
             Accepted::InUse
         } else {

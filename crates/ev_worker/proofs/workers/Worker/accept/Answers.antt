@@ -14,8 +14,9 @@ open_on-requires-clause-absent c some =
     let closed = opens_apart c.args.self.now.picture c.args.ask (is_open c.args.self.now.opened c.args.self.now.number c.args.ask.conn)
     (sym (ap is_some (c.on_of.ensures ∙ ap on_of c.answer_to-answer.ensures)) ∙ some) in
     absent _
-    (found_open c.self.inside.batch.worker c.args.ask.conn c.self.inside.members.entries
-    ∙ ap (λ (w : WorkerParts). is_open w.opened w.number c.args.ask.conn) c.self.view_is ∙ closed)
+    (found_open c.self.inside.batch.worker c.get.result.now.conn c.self.inside.members.entries
+    ∙ ap (λ (w : WorkerParts). is_open w.opened w.number c.get.result.now.conn) c.self.view_is
+    ∙ (λ i. is_open c.args.self.now.opened c.args.self.now.number (c.get.ensures.value i).conn) ∙ closed)
 
 -- what is open afterwards is what the machine opens
 opened : goal.returns-clause-opened
@@ -24,6 +25,7 @@ opened c =
     let es = c.self.inside.members.entries in
     ap (λ (b : BatchParts). stored_members b.worker c.open_on.new.members.entries) c.push.ensures
     ∙ ap (stored_members worker) c.open_on.ensures.entries
+    ∙ (λ i. stored_members worker (es ++ map (λ (o : ℕ × Option ℕ). ((c.get.ensures.value i).conn, o)) (option_to_list c.on_of.result)))
     ∙ ap (λ (on : Option (ℕ × Option ℕ)). stored_members worker (es ++ map (λ (o : ℕ × Option ℕ). (c.args.ask.conn, o)) (option_to_list on))) (c.on_of.ensures ∙ ap on_of c.answer_to-answer.ensures)
     ∙ ap (λ (v : WorkerParts). stored_members worker (es ++ map (λ (o : ℕ × Option ℕ). (c.args.ask.conn, o)) (option_to_list (on_of (accepted_as v.picture c.args.ask (is_open v.opened v.number c.args.ask.conn)))))) (sym c.self.view_is)
     ∙ accept_opens (arc_value c.self.inside.snapshot) c.args.ask worker es
