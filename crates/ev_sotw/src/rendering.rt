@@ -1,14 +1,14 @@
 ghost use Rattle.std.specs.Prelude.{◌≡◌, List, [], ◌∷◌, ◌++◌, map, IfOk, OnOk};
-ghost use Rattle.serde_json.specs.View.{view};
+ghost use Rattle.ev_script.specs.Members.{tree_told};
 ghost use Rattle.ev_sotw.specs.Follows.{FollowsEntries, GoesOnBy};
 ghost use Rattle.ev_sotw.specs.Stated.{Stated, sotw_line};
 ghost use Rattle.ev_sotw.specs.Text.{is_response, version_at, stated_in, sotw_text};
 
 use crate::state::SotwState;
 use ev_journal::{write_end_line, write_first_line};
+use ev_script::LineTree;
 use ev_sotw_lines::version_in;
 use ev_types::{Entry, Event, Format, Text};
-use serde_json::Value;
 use std::alloc::{AllocError, Global};
 
 /// Writes the text of a journal in format 2, for this many workers, with the requests of the state of the world: the first line,
@@ -19,11 +19,11 @@ use std::alloc::{AllocError, Global};
 /// `AllocError` where there is no memory for it.
 pub fn render_sotw(
     alloc: Global,
-    lines: &[Value],
+    lines: &[LineTree],
     workers: u32,
     journal: &[Entry],
 ) -> Result<Vec<u8>, AllocError>
-    ensures { IfOk result (λ text. text.items ≡ sotw_text workers (map (stated_in (map view lines.now)) journal.now)) }
+    ensures { IfOk result (λ text. text.items ≡ sotw_text workers (map (stated_in (map tree_told lines.now)) journal.now)) }
 {
     let mut text = write_first_line(alloc, Format::Two, workers)?;
     let mut state = SotwState::new(alloc);
@@ -39,12 +39,12 @@ fn push_entry(
     alloc: Global,
     text: &mut Vec<u8>,
     state: &mut SotwState,
-    lines: &[Value],
+    lines: &[LineTree],
     entry: &Entry,
 ) -> Result<(), AllocError>
-    ensures follows { OnOk result (GoesOnBy (stated_in (map view lines.now) entry.now) state.old state.new) }
+    ensures follows { OnOk result (GoesOnBy (stated_in (map tree_told lines.now) entry.now) state.old state.new) }
     ensures line { OnOk result ((entries : List Stated) → FollowsEntries entries state.old
-        → text.new.items ≡ text.old.items ++ sotw_line entries (stated_in (map view lines.now) entry.now)) }
+        → text.new.items ≡ text.old.items ++ sotw_line entries (stated_in (map tree_told lines.now) entry.now)) }
 {
     let version = version_at(alloc, lines, entry)?;
     let line = state.line(alloc, entry, &version)?;
@@ -52,16 +52,24 @@ fn push_entry(
 }
 
 // The version of the response that an entry answers, and the empty text where it answers none.
-fn version_at(alloc: Global, lines: &[Value], entry: &Entry) -> Result<Text, AllocError>
-    ensures { IfOk result (λ version. version ≡ version_at (map view lines.now) entry.now) }
+fn version_at(alloc: Global, lines: &[LineTree], entry: &Entry) -> Result<Text, AllocError>
+    ensures { IfOk result (λ version. version ≡ version_at (map tree_told lines.now) entry.now) }
 {
     if !is_response(&entry.event) {
         return Text::new(alloc, "");
     }
     match lines.get((entry.at as usize).saturating_sub(2)) {
-        Some(line) => Text::new(alloc, version_in(alloc, line)?),
+        Some(line) => version_of(alloc, line),
         None => Text::new(alloc, ""),
     }
+}
+
+// The version of the response that a line brings.
+fn version_of(alloc: Global, line: &LineTree) -> Result<Text, AllocError>
+    ensures { IfOk result (λ version. version ≡ version_in (tree_told line.now)) }
+{
+    let tree = line.read(alloc)?;
+    Text::new(alloc, version_in(alloc, &tree)?)
 }
 
 fn is_response(event: &Event) -> bool

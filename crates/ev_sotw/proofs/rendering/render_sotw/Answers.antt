@@ -1,6 +1,6 @@
 use Rattle.std.proofs.Common.{◌≡◌, ◌∙◌, ◌++◌, ◌∷◌, [], ℕ, ◌+◌, List, map, take, sym, ap, subst}
 use Rattle.serde_json.specs.Data.{Data}
-use Rattle.serde_json.specs.View.{view}
+use Rattle.ev_script.specs.Members.{tree_told}
 use Rattle.ev_types.specs.declared.events.Entry.{Entry}
 use Rattle.ev_sotw.specs.Follows.{FollowsEntries}
 use Rattle.ev_sotw.specs.Stated.{Stated}
@@ -10,7 +10,7 @@ use Rattle.ev_sotw.proofs.rendering.render_sotw.Goals as goal
 
 pub loop-entry-preserved : goal.loop-entry-preserved
 loop-entry-preserved c =
-    let lines : List Data = map view c.args.lines.now in
+    let lines : List Data = map tree_told c.args.lines.now in
     let journal : List Entry = c.args.journal.now in
     let i : ℕ = c.loop-entry.entry-index in
     let first : List ℕ = c.in_ok-text.text.items in
