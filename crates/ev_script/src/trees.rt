@@ -1,6 +1,5 @@
 ghost use Rattle.std.specs.Prelude.{◌≡◌, ◌+◌, ◌≤◌, ◌⊎◌, List, ℕ, None, Err, IsTrue, false, OnOk, IfOk, length};
 ghost use Rattle.std.specs.Io.KnownBytes.{IsAtEnd};
-ghost use Rattle.serde_json.specs.View.{view};
 ghost use Rattle.ev_io.specs.Outside.{Rose, Takes};
 ghost use Rattle.ev_io.specs.LinesState.{IsFresh, HasTaken, IsWithin};
 ghost use Rattle.ev_io.specs.ReadLine.{LeavesOpen};
@@ -27,7 +26,7 @@ pub struct HeadTree {
     pub tree: Value,
 }
 
-/// The lines of a script, each kept as its tree.
+/// The lines of a script, each kept as its tree, in the memory of its text.
 #[derive(Clone, Copy, Debug)]
 pub struct LineTrees;
 

@@ -4,9 +4,7 @@ ghost use Rattle.ev_delta.specs.Discovery.{seen};
 ghost use Rattle.ev_sotw_lines.specs.Lines.{response_in, version_in};
 
 use ev_delta::{Discovery, read_discovery};
-use ev_script::{
-    FormedHead, FormedLine, Forms, HeadTree, LineTree, LineTrees, has_only, is_op,
-};
+use ev_script::{FormedHead, FormedLine, Forms, HeadTree, LineTree, LineTrees, has_only, is_op};
 use ev_types::Profile;
 use serde_json::Value;
 use std::alloc::{AllocError, Global};
