@@ -15,10 +15,10 @@ ghost use Rattle.ev_sotw_delta.specs.SameWorld.{RunsAreSameWorld};
 ghost use Rattle.ev_sotw_delta.specs.DeltaText.{FitsInput, IsWritten, WritesOn, IsTooLargeFor, IsRefusal, written_of, delta_script};
 
 use crate::outcome::DeltaError;
-use ev_delta::nests_within;
 use ev_expand::TextSoFar;
 use ev_script::{LineTree, ScriptTrees};
 use ev_sotw_lines::NamesSoFar;
+use ev_trees::nests_within;
 use serde_json::Value;
 use std::alloc::{AllocError, Global};
 
