@@ -1,4 +1,4 @@
-use Rattle.std.proofs.Common.{◌≡◌, ℕ, List, map, None, sym, ap, ◌∙◌}
+use Rattle.std.proofs.Common.{ℕ, List, map, sym, ap, ◌∙◌}
 use Rattle.serde_json.specs.Data.{Data}
 use Rattle.ev_types.specs.declared.events.Profile.{Profile}
 use Rattle.ev_script.specs.Members.{tree_told}
