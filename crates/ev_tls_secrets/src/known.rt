@@ -154,16 +154,16 @@ impl Values {
         let mut names = IndexSet::with_hasher(alloc, *self.by_name.hasher());
         for (name, value) in values {
             insert(&mut names, name.copy(alloc)?)?;
-            self.put(alloc, name, &value)?;
+            self.put(alloc, name, value)?;
         }
         Ok(names)
     }
 
     // Takes a value in place of the one before.
-    fn put(&mut self, alloc: Global, name: Name, value: &Value) -> Result<(), AllocError>
-        ensures { OnOk result (PutsValue name (view value.now) self.old self.new) }
+    fn put(&mut self, alloc: Global, name: Name, value: Value) -> Result<(), AllocError>
+        ensures { OnOk result (PutsValue name (view value) self.old self.new) }
     {
-        let kept = KeptTree::of(alloc, value)?;
+        let kept = KeptTree::of(alloc, &value)?;
         let Ok(_) = self.by_name.insert(name, kept) else {
             return Err(AllocError);
         };
