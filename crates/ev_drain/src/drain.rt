@@ -170,15 +170,6 @@ impl Drain {
     }
 }
 
-impl TryCopy for Drain {
-    fn copy(&self, alloc: Global) -> Result<Drain, AllocError> {
-        Ok(Drain {
-            notes: self.notes.clone()?,
-            waiters: self.waiters.copy(alloc)?,
-        })
-    }
-}
-
 // What is noted of a row that is retired now.
 fn new_note(alloc: Global, kind: Kind, name: &Name, dropped: bool) -> Result<Note, AllocError>
     ensures { IfOk result (λ note. (number : ℕ) → row_of (number, note) ≡ newly_retired kind number name.now dropped) }

@@ -129,33 +129,3 @@ fn take_out(map: &mut Numbers, name: &Name)
 {
     map.swap_remove(name);
 }
-
-impl TryCopy for Waiters {
-    fn copy(&self, alloc: Global) -> Result<Waiters, AllocError> {
-        Ok(Waiters {
-            numbers: copy_numbers(alloc, &self.numbers)?,
-        })
-    }
-}
-
-// The same entries in the same order, in memory of their own. Names hash by the same keys.
-fn copy_numbers(alloc: Global, map: &Numbers) -> Result<Numbers, AllocError>
-    ensures { IfOk result (λ copied. copied.entries ≡ map.now.entries) }
-{
-    let mut copied = IndexMap::with_hasher(alloc, *map.hasher());
-    for (name, numbers) in map {
-        put(&mut copied, name.copy(alloc)?, numbers.copy(alloc)?)?;
-    }
-    Ok(copied)
-}
-
-// Appends the numbers of a name that has none yet to the others.
-fn put(map: &mut Numbers, name: Name, numbers: Seq<Gen>) -> Result<(), AllocError>
-    requires { get bytes_eq map.old name ≡ None }
-    ensures { OnOk result (map.new.entries ≡ map.old.entries ++ (name, numbers) ∷ []) }
-{
-    let Ok(_) = map.insert(name, numbers) else {
-        return Err(AllocError);
-    };
-    Ok(())
-}

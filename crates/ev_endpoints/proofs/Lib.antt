@@ -1,3 +1,3 @@
 pub mod ResultLemmas
-pub mod CopyLemmas
 pub mod RoundLemmas
+pub mod MarkLemmas

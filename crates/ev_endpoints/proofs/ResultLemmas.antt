@@ -10,7 +10,7 @@ use Rattle.std.proofs.lemmas.List.{take_more}
 use Rattle.ev_types.specs.SameHosts.{host_same, has_host}
 use Rattle.ev_types.specs.Hosts.{HostRowParts}
 use Rattle.ev_types.specs.declared.hosts.Host.{Host}
-use Rattle.ev_endpoints.specs.Results.{ResultsKept, HasNoEmpty, results_of, hosts_in, result_in, Notes, Trims}
+use Rattle.ev_endpoints.specs.Results.{HostResults, HasNoEmpty, results_of, hosts_among, result_among, NotesAmong, TrimsAmong}
 
 module _ {S : Type 0} where
   -- the result of a host in a map that may be there
@@ -28,8 +28,8 @@ module _ {S : Type 0} where
       by false o h = h
 
   -- a look-up goes by the map of the number
-  pub result_in-results_of : (es : List (ℕ × HashMap Host Bool S)) (n : ℕ) (h : Host) → result_in (results_of es) n h ≡ inner (lookup (nat_eq n) es) h
-  result_in-results_of es n h =
+  pub result_among-results_of : (es : List (ℕ × HashMap Host Bool S)) (n : ℕ) (h : Host) → result_among (results_of es) n h ≡ inner (lookup (nat_eq n) es) h
+  result_among-results_of es n h =
       ap (λ o. lookup (host_same h) (unwrap_or o [])) (lookup-results_of (nat_eq n) es) ∙ by (lookup (nat_eq n) es)
     where
       by : (o : Option (HashMap Host Bool S)) → lookup (host_same h) (unwrap_or (option_map (λ (m : HashMap Host Bool S). m.entries) o) []) ≡ inner o h
@@ -38,18 +38,18 @@ module _ {S : Type 0} where
 
   -- so do the hosts of a number with their results
   pub hosts_found : (es : List (ℕ × HashMap Host Bool S)) (n : ℕ) (o : Option (HashMap Host Bool S)) → lookup (nat_eq n) es ≡ o
-      → hosts_in (results_of es) n ≡ unwrap_or (option_map (λ (m : HashMap Host Bool S). m.entries) o) []
+      → hosts_among (results_of es) n ≡ unwrap_or (option_map (λ (m : HashMap Host Bool S). m.entries) o) []
   hosts_found es n o e = ap (λ r. unwrap_or r []) (lookup-results_of (nat_eq n) es ∙ ap (option_map (λ (m : HashMap Host Bool S). m.entries)) e)
 
   -- another map for one number
   module _ (es fs : List (ℕ × HashMap Host Bool S)) (number : ℕ) (u : Option (HashMap Host Bool S))
       (updates : (n : ℕ) → lookup (nat_eq n) fs ≡ cond (nat_eq number n) u (lookup (nat_eq n) es)) where
-    pub changed : (n : ℕ) (h : Host) → result_in (results_of fs) n h ≡ cond (nat_eq number n) (inner u h) (result_in (results_of es) n h)
+    pub changed : (n : ℕ) (h : Host) → result_among (results_of fs) n h ≡ cond (nat_eq number n) (inner u h) (result_among (results_of es) n h)
     changed n h =
-        result_in-results_of fs n h ∙ (λ i. inner (updates n i) h) ∙ by (nat_eq number n) (result_in-results_of es n h)
+        result_among-results_of fs n h ∙ (λ i. inner (updates n i) h) ∙ by (nat_eq number n) (result_among-results_of es n h)
       where
-        by : (b : Bool) → result_in (results_of es) n h ≡ inner (lookup (nat_eq n) es) h
-            → inner (cond b u (lookup (nat_eq n) es)) h ≡ cond b (inner u h) (result_in (results_of es) n h)
+        by : (b : Bool) → result_among (results_of es) n h ≡ inner (lookup (nat_eq n) es) h
+            → inner (cond b u (lookup (nat_eq n) es)) h ≡ cond b (inner u h) (result_among (results_of es) n h)
         by true e = refl
         by false e = sym e
 
@@ -66,36 +66,36 @@ module _ {S : Type 0} where
         by false o is h = kept n (lookup-results_of (nat_eq n) es ∙ h)
 
     -- what the new map says of the number, by what the old one said
-    pub changed_by : (f : Host → Option Bool → Option Bool) → ((h : Host) → inner u h ≡ f h (result_in (results_of es) number h))
-        → (n : ℕ) (h : Host) → result_in (results_of fs) n h ≡ cond (nat_eq number n) (f h (result_in (results_of es) n h)) (result_in (results_of es) n h)
+    pub changed_by : (f : Host → Option Bool → Option Bool) → ((h : Host) → inner u h ≡ f h (result_among (results_of es) number h))
+        → (n : ℕ) (h : Host) → result_among (results_of fs) n h ≡ cond (nat_eq number n) (f h (result_among (results_of es) n h)) (result_among (results_of es) n h)
     changed_by f says n h = changed n h ∙ by (nat_eq number n) refl
       where
-        by : (b : Bool) → nat_eq number n ≡ b → cond b (inner u h) (result_in (results_of es) n h) ≡ cond b (f h (result_in (results_of es) n h)) (result_in (results_of es) n h)
-        by true same = says h ∙ (λ i. f h (result_in (results_of es) (eqb-true number n same i) h))
+        by : (b : Bool) → nat_eq number n ≡ b → cond b (inner u h) (result_among (results_of es) n h) ≡ cond b (f h (result_among (results_of es) n h)) (result_among (results_of es) n h)
+        by true same = says h ∙ (λ i. f h (result_among (results_of es) (eqb-true number n same i) h))
         by false other = refl
 
-    pub notes_by : (host : Host) (healthy : Bool) → ((h : Host) → inner u h ≡ cond (host_same host h) (Some healthy) (result_in (results_of es) number h))
-        → Notes (results_of es) (results_of fs) number host healthy
+    pub notes_by : (host : Host) (healthy : Bool) → ((h : Host) → inner u h ≡ cond (host_same host h) (Some healthy) (result_among (results_of es) number h))
+        → NotesAmong (results_of es) (results_of fs) number host healthy
     notes_by host healthy says n h = changed_by (λ h r. cond (host_same host h) (Some healthy) r) says n h ∙ by (nat_eq number n)
       where
-        by : (b : Bool) → cond b (cond (host_same host h) (Some healthy) (result_in (results_of es) n h)) (result_in (results_of es) n h)
-            ≡ cond (b && host_same host h) (Some healthy) (result_in (results_of es) n h)
+        by : (b : Bool) → cond b (cond (host_same host h) (Some healthy) (result_among (results_of es) n h)) (result_among (results_of es) n h)
+            ≡ cond (b && host_same host h) (Some healthy) (result_among (results_of es) n h)
         by true = refl
         by false = refl
 
-    pub trims_by : (rows : List HostRowParts) → ((h : Host) → inner u h ≡ cond (not (has_host h rows)) None (result_in (results_of es) number h))
-        → Trims (results_of es) (results_of fs) number rows
+    pub trims_by : (rows : List HostRowParts) → ((h : Host) → inner u h ≡ cond (not (has_host h rows)) None (result_among (results_of es) number h))
+        → TrimsAmong (results_of es) (results_of fs) number rows
     trims_by rows says n h = changed_by (λ h r. cond (not (has_host h rows)) None r) says n h ∙ by (nat_eq number n)
       where
-        by : (b : Bool) → cond b (cond (not (has_host h rows)) None (result_in (results_of es) n h)) (result_in (results_of es) n h)
-            ≡ cond (b && not (has_host h rows)) None (result_in (results_of es) n h)
+        by : (b : Bool) → cond b (cond (not (has_host h rows)) None (result_among (results_of es) n h)) (result_among (results_of es) n h)
+            ≡ cond (b && not (has_host h rows)) None (result_among (results_of es) n h)
         by true = refl
         by false = refl
 
   -- the map of a number was found
   pub found : (es : List (ℕ × HashMap Host Bool S)) (number : ℕ) (o : Option (HashMap Host Bool S)) → lookup (nat_eq number) es ≡ o → (h : Host)
-      → result_in (results_of es) number h ≡ inner o h
-  found es number o e h = result_in-results_of es number h ∙ (λ i. inner (e i) h)
+      → result_among (results_of es) number h ≡ inner o h
+  found es number o e h = result_among-results_of es number h ∙ (λ i. inner (e i) h)
 
   -- a map with the same entries in place of one changes nothing
   pub results_of-set_value : (test : ℕ → Bool) (es : List (ℕ × HashMap Host Bool S)) (m w : HashMap Host Bool S) → lookup test es ≡ Some m → w.entries ≡ m.entries
@@ -108,7 +108,7 @@ module _ {S : Type 0} where
       by true here rest =
           let own : e.1 ≡ m = cc in
           λ i. (e.0, (same ∙ (λ j. (sym own j).entries)) i) ∷ results_of es
-      by false there rest = ap (λ (rs : ResultsKept). (e.0, e.1.entries) ∷ rs) (rest there same)
+      by false there rest = ap (λ (rs : HostResults). (e.0, e.1.entries) ∷ rs) (rest there same)
 
   -- a number without a map keeps it so
   none_updates : (es : List (ℕ × HashMap Host Bool S)) (number : ℕ) → lookup (nat_eq number) es ≡ None
@@ -121,7 +121,7 @@ module _ {S : Type 0} where
 
   -- a number without results has none to trim
   pub trims_nothing : (es : List (ℕ × HashMap Host Bool S)) (number : ℕ) (rows : List HostRowParts) → lookup (nat_eq number) es ≡ None
-      → Trims (results_of es) (results_of es) number rows
+      → TrimsAmong (results_of es) (results_of es) number rows
   trims_nothing es number rows none =
       trims_by es es number None (none_updates es number none) rows (λ h. by (not (has_host h rows)) (found es number None none h))
     where

@@ -9,7 +9,7 @@ use Rattle.std.proofs.lemmas.Map.Made.{is_some-lookup}
 use Rattle.ev_types.specs.SameHosts.{host_same, host_decides, has_host, NeedsHosts}
 use Rattle.ev_types.specs.Hosts.{HostRowParts}
 use Rattle.ev_types.specs.declared.hosts.Host.{Host}
-use Rattle.ev_endpoints.specs.Results.{ResultsKept, hosts_in, result_in}
+use Rattle.ev_endpoints.specs.Results.{HostResults, hosts_among, result_among}
 
 -- where the test holds of all rows' hosts, it holds of a host that is among them
 holds : (test : Host → Bool) (host : Host) (rows : List HostRowParts) → list_all (λ (row : HostRowParts). test row.host) rows ≡ true → has_host host rows ≡ true → test host ≡ true
@@ -27,17 +27,17 @@ holds test host (row ∷ rows) all among = by (host_same row.host host) refl (te
     by same is false here more all among = absurd (true≢false (sym all))
 
 -- with fewer results than hosts some row's host has none
-pub round_open : (kept : ResultsKept) (number : ℕ) (rows : List HostRowParts) (count : ℕ) → NeedsHosts rows count → length (hosts_in kept number) < count
-    → list_all (λ (row : HostRowParts). is_some (result_in kept number row.host)) rows ≡ false
-round_open kept number rows count needs fewer = by (list_all (λ (row : HostRowParts). is_some (result_in kept number row.host)) rows) refl
+pub round_open : (kept : HostResults) (number : ℕ) (rows : List HostRowParts) (count : ℕ) → NeedsHosts rows count → length (hosts_among kept number) < count
+    → list_all (λ (row : HostRowParts). is_some (result_among kept number row.host)) rows ≡ false
+round_open kept number rows count needs fewer = by (list_all (λ (row : HostRowParts). is_some (result_among kept number row.host)) rows) refl
   where
     results : List (Host × Bool)
-    results = hosts_in kept number
+    results = hosts_among kept number
 
-    by : (b : Bool) → list_all (λ (row : HostRowParts). is_some (result_in kept number row.host)) rows ≡ b → b ≡ false
+    by : (b : Bool) → list_all (λ (row : HostRowParts). is_some (result_among kept number row.host)) rows ≡ b → b ≡ false
     by false undone = refl
     by true done =
         let many : count ≤ length (keys_of results) =
-        needs (keys_of results) (λ host among. sym (is_some-lookup (host_same host) results) ∙ holds (λ h. is_some (result_in kept number h)) host rows done among) in
+        needs (keys_of results) (λ host among. sym (is_some-lookup (host_same host) results) ∙ holds (λ h. is_some (result_among kept number h)) host rows done among) in
         let enough : count ≤ length results = subst (λ n. count ≤ n) (length-keys_of results) many in
         absurd (omega (arith, fewer, enough))

@@ -8,32 +8,28 @@ use Rattle.ev_types.specs.Hosts.{HostRowParts}
 use Rattle.ev_types.specs.declared.hosts.Host.{Host}
 
 -- each number with its hosts, each host with its last result
-abbrev pub ResultsKept : Type 0
-ResultsKept = List (ℕ × List (Host × Bool))
+abbrev pub HostResults : Type 0
+HostResults = List (ℕ × List (Host × Bool))
 
 -- the results of stored maps of maps
-abbrev pub results_of : {S : Type 0} → List (ℕ × HashMap Host Bool S) → ResultsKept
+abbrev pub results_of : {S : Type 0} → List (ℕ × HashMap Host Bool S) → HostResults
 results_of es = map (λ e. (e.0, e.1.entries)) es
 
 -- the hosts of a number with their results
-abbrev pub hosts_in : ResultsKept → ℕ → List (Host × Bool)
-hosts_in kept number = unwrap_or (lookup (nat_eq number) kept) []
+abbrev pub hosts_among : HostResults → ℕ → List (Host × Bool)
+hosts_among kept number = unwrap_or (lookup (nat_eq number) kept) []
 
 -- the result of a host for the generation of this number
-abbrev pub result_in : ResultsKept → ℕ → Host → Option Bool
-result_in kept number host = lookup (host_same host) (hosts_in kept number)
+abbrev pub result_among : HostResults → ℕ → Host → Option Bool
+result_among kept number host = lookup (host_same host) (hosts_among kept number)
 
 -- the row's host may be chosen for the generation of this number: it is usable, and healthy where its hosts are health checked
-abbrev pub is_eligible : ResultsKept → ℕ → Bool → HostRowParts → Bool
-is_eligible kept number checked row = row.usable && (not checked || unwrap_or (result_in kept number row.host) false)
+abbrev pub is_eligible_among : HostResults → ℕ → Bool → HostRowParts → Bool
+is_eligible_among kept number checked row = row.usable && (not checked || unwrap_or (result_among kept number row.host) false)
 
 -- no number has a list without a result: without one it has no entry
-abbrev pub HasNoEmpty : ResultsKept → Type 0
+abbrev pub HasNoEmpty : HostResults → Type 0
 HasNoEmpty kept = (number : ℕ) → lookup (nat_eq number) kept ≢ Some []
-
--- the number with these results comes after the others
-abbrev pub Appends : {S : Type 0} → List (ℕ × HashMap Host Bool S) → List (ℕ × HashMap Host Bool S) → ℕ → List (Host × Bool) → Type 0
-Appends old new number hosts = results_of new ≡ results_of old ++ (number, hosts) ∷ []
 
 -- the host has this result, and of each other host the map has what it had
 abbrev pub Keeps : {S : Type 0} → HashMap Host Bool S → HashMap Host Bool S → Host → Bool → Type 0
@@ -44,15 +40,15 @@ abbrev pub KeepsAmong : {S : Type 0} → HashMap Host Bool S → HashMap Host Bo
 KeepsAmong old new rows = (h : Host) → get host_same new h ≡ (if has_host h rows then get host_same old h else None)
 
 -- the host has this result for this number, and every other result stays
-abbrev pub Notes : ResultsKept → ResultsKept → ℕ → Host → Bool → Type 0
-Notes old new number host healthy =
-    (n : ℕ) (h : Host) → result_in new n h ≡ (if nat_eq number n && host_same host h then Some healthy else result_in old n h)
+abbrev pub NotesAmong : HostResults → HostResults → ℕ → Host → Bool → Type 0
+NotesAmong old new number host healthy =
+    (n : ℕ) (h : Host) → result_among new n h ≡ (if nat_eq number n && host_same host h then Some healthy else result_among old n h)
 
 -- the number has no results any more, and every other result stays
-abbrev pub Forgets : ResultsKept → ResultsKept → ℕ → Type 0
-Forgets old new number = (n : ℕ) (h : Host) → result_in new n h ≡ (if nat_eq number n then None else result_in old n h)
+abbrev pub ForgetsAmong : HostResults → HostResults → ℕ → Type 0
+ForgetsAmong old new number = (n : ℕ) (h : Host) → result_among new n h ≡ (if nat_eq number n then None else result_among old n h)
 
 -- the number has no results of hosts that aren't among these rows, and every other result stays
-abbrev pub Trims : ResultsKept → ResultsKept → ℕ → List HostRowParts → Type 0
-Trims old new number rows =
-    (n : ℕ) (h : Host) → result_in new n h ≡ (if nat_eq number n && not (has_host h rows) then None else result_in old n h)
+abbrev pub TrimsAmong : HostResults → HostResults → ℕ → List HostRowParts → Type 0
+TrimsAmong old new number rows =
+    (n : ℕ) (h : Host) → result_among new n h ≡ (if nat_eq number n && not (has_host h rows) then None else result_among old n h)

@@ -1,11 +1,9 @@
 -- The rows of a table as the values of a map by number: what each change of the map does to the rows.
-use Rattle.std.proofs.Common.{◌≡◌, ◌∙◌, ℕ, Bool, true, false, cond, not, nat_eq, ◌<◌, ◌≤◌, ◌+◌, nat_lt, filter, List, [], ◌∷◌, ◌++◌, Option, None, Some, IsSome, refl, sym, ap, subst, arith, is_some}
+use Rattle.std.proofs.Common.{◌≡◌, ◌∙◌, ℕ, Bool, true, false, cond, not, nat_eq, ◌<◌, ◌≤◌, ◌+◌, List, [], ◌∷◌, ◌++◌, Option, None, Some, IsSome, refl, sym, ap, subst, arith, is_some}
 use Rattle.std.specs.List.{IsDistinct, AllByRecursion}
 use Rattle.std.specs.Map.{keys_of, values_of, lookup, set_value, remove_entry}
 use Rattle.std.specs.Cmp.{nat_eq_equiv}
 use Rattle.std.specs.BTreeMap.{insert_entry, is_at}
-use Rattle.std.specs.BTreeMap.Range.{entries_between, range_contains}
-use Rattle.std.specs.declared.ops.Bound.TheVariants.{Excluded, Unbounded}
 use Rattle.std.specs.List.Sorted.{IsStrictlySortedBy}
 use Rattle.std.specs.Ordering.{match_ordering, nat_cmp}
 use Rattle.std.specs.declared.cmp.Ordering.{Ordering}
@@ -19,7 +17,7 @@ use Rattle.std.proofs.lemmas.Map.Entries.{none_past_head}
 use Rattle.std.proofs.lemmas.Map.Keys.{IsDistinct-tail, IsDistinct-from_sorted, sorted_head, sorted_tail}
 use Rattle.ev_types.specs.declared.rows.RowStatus.{RowStatus}
 use Rattle.ev_types.specs.declared.rows.GenRow.{GenRow}
-use Rattle.ev_generations.specs.Tables.{is_number, by_number, is_after, row_in, numbers_of, with_status, without_row, IsTable, IsStored}
+use Rattle.ev_generations.specs.Tables.{is_number, row_in, numbers_of, with_status, without_row, IsTable, IsStored}
 use Rattle.ev_generations.proofs.TableLemmas.{below_next, with_status-absent, without_row-absent, number-row_in, table-with_status}
 
 -- an order finds a number where equality does
@@ -236,20 +234,3 @@ module _ (es : List (ℕ × GenRow)) (number : ℕ) (row : GenRow) (own : row.nu
       subst (λ gs. IsStored gs drawn) (sym (inserted fs e))
       (stored-push row es made drawn s more (omega arith)
       (subst (λ (gs : List (ℕ × GenRow)). IsDistinct nat_eq (keys_of gs)) (inserted fs e) (apart_from_sorted (keys_of fs) sorted)))
-
--- the entries after a number are the rows of higher numbers
-pub entries-after : (made : ℕ) (es : List (ℕ × GenRow)) → AreNumbered es → entries_between nat_cmp (Excluded made) Unbounded es ≡ by_number (filter (is_after made) (values_of es))
-entries-after made [] h = refl
-entries-after made (e ∷ es) h =
-    by (range_contains nat_cmp (Excluded made) Unbounded e.0) (is_after made e.1) (in_range (first_numbered e es h)) (entries-after made es (rest_numbered e es h))
-  where
-    in_range : e.0 ≡ e.1.number → range_contains nat_cmp (Excluded made) Unbounded e.0 ≡ nat_lt made e.1.number
-    in_range same = grind (arith, nat_tests, same)
-
-    by : (t u : Bool) → t ≡ u → entries_between nat_cmp (Excluded made) Unbounded es ≡ by_number (filter (is_after made) (values_of es))
-        → cond t (e ∷ entries_between nat_cmp (Excluded made) Unbounded es) (entries_between nat_cmp (Excluded made) Unbounded es)
-        ≡ by_number (cond u (e.1 ∷ filter (is_after made) (values_of es)) (filter (is_after made) (values_of es)))
-    by true true same rest = λ i. (first_numbered e es h i, e.1) ∷ rest i
-    by true false same rest = cc
-    by false true same rest = cc
-    by false false same rest = rest

@@ -1,5 +1,5 @@
 -- The table of generations, seen as the list of its rows. This project's own: a generation is found by its number.
-use Rattle.std.specs.Prelude.{◌≡◌, ℕ, Bool, not, ◌==◌, ◌<◌, nat_eq, nat_lt, if◌then◌else◌, List, Option, None, filter, find, map}
+use Rattle.std.specs.Prelude.{◌≡◌, ℕ, Bool, not, ◌==◌, ◌<◌, nat_eq, if◌then◌else◌, List, Option, None, filter, find, map}
 use Rattle.std.specs.List.{IsDistinct}
 use Rattle.ev_types.specs.declared.rows.RowStatus.{RowStatus}
 use Rattle.ev_types.specs.declared.rows.GenRow.{GenRow}
@@ -17,14 +17,6 @@ is_number number row = number == row.number
 -- the row of this number
 abbrev pub row_in : ℕ → List GenRow → Option GenRow
 row_in number rows = find (is_number number) rows
-
--- the row's number was drawn after this one
-abbrev pub is_after : ℕ → GenRow → Bool
-is_after made row = nat_lt made row.number
-
--- these rows, each beside its number
-abbrev pub by_number : List GenRow → List (ℕ × GenRow)
-by_number rows = map (λ (row : GenRow). (row.number, row)) rows
 
 -- the numbers of these rows
 abbrev pub numbers_of : List GenRow → List ℕ

@@ -1,20 +1,19 @@
 ghost use Rattle.std.specs.Prelude.{◌≡◌, ◌+◌, ◌<◌, ◌≤◌, ◌^◌, [], ◌∷◌, ◌++◌, Some, IsSome, OnOk, OnErr, IfOk, if◌then◌else◌, ℕ, filter};
 ghost use Rattle.std.specs.BTreeMap.{keys};
 ghost use Rattle.std.specs.List.{AllByRecursion};
-ghost use Rattle.std.specs.Map.Iter.{ShowsInOrder, deref, deref_pair};
+ghost use Rattle.std.specs.Map.Iter.{ShowsInOrder, deref};
 ghost use Rattle.std.specs.Option.{option_copied};
 ghost use Rattle.ev_types.specs.declared.rows.GenRow as declared;
 ghost use Rattle.ev_types.specs.declared.rows.RowStatus.TheVariants.{Active, Draining, Dropped};
 ghost use Rattle.ev_model.specs.Rows.{new_row};
-ghost use Rattle.ev_generations.specs.Tables.{IsTable, by_number, is_after, row_in, with_status, without_row};
+ghost use Rattle.ev_generations.specs.Tables.{IsTable, row_in, with_status, without_row};
 
 use crate::Steps;
-use ev_types::{Content, Gen, GenRow, Kind, Name, RowStatus, TryCopy};
+use ev_types::{Content, Gen, GenRow, Kind, Name, RowStatus};
 use std::alloc::{AllocError, Global};
 use std::collections::BTreeMap;
-use std::collections::btree_map::{Range, Values};
+use std::collections::btree_map::Values;
 use std::marker::Model;
-use std::ops::Bound;
 use std::sync::ledger::Ledger;
 
 type Rows = BTreeMap<u32, GenRow>;
@@ -164,45 +163,4 @@ impl Generations {
     {
         self.rows.values()
     }
-
-    /// The rows whose numbers were drawn after this one, in order, each beside its number. It costs one look-up by number, and then
-    /// what these rows cost: none of the others is gone over. It counts no look-up.
-    pub fn rows_after(&self, made: u32) -> Range<'_, u32, GenRow>
-        ensures rows { result ≡ by_number (filter (is_after made) self.now.rows) }
-        ensures runs { ShowsInOrder (deref_pair {K = ℕ} {X = declared.GenRow}) }
-    {
-        self.rows.range((Bound::Excluded(made), Bound::Unbounded))
-    }
-}
-
-impl TryCopy for Generations {
-    // It goes over the whole table.
-    fn copy(&self, alloc: Global) -> Result<Generations, AllocError> {
-        Ok(Generations {
-            rows: copy_rows(alloc, &self.rows)?,
-            made: self.made,
-        })
-    }
-}
-
-// The same rows, each under its number, in memory of their own.
-fn copy_rows(alloc: Global, rows: &Rows) -> Result<Rows, AllocError>
-    ensures { IfOk result (λ copied. copied.entries ≡ rows.now.entries) }
-{
-    let mut copied = BTreeMap::new(alloc);
-    for (number, row) in rows {
-        put(&mut copied, *number, row.copy(alloc)?)?;
-    }
-    Ok(copied)
-}
-
-// Appends a row to the others, whose numbers are below its own.
-fn put(rows: &mut Rows, number: u32, row: GenRow) -> Result<(), AllocError>
-    requires { AllByRecursion (λ n. n < number) (keys rows.old) }
-    ensures { OnOk result (rows.new.entries ≡ rows.old.entries ++ (number, row) ∷ []) }
-{
-    let Ok(_) = rows.insert(number, row) else {
-        return Err(AllocError);
-    };
-    Ok(())
 }

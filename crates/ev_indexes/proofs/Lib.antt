@@ -16,4 +16,5 @@ pub mod NewestLemmas
 pub mod SeenLemmas
 pub mod MovedLemmas
 pub mod RowLemmas
+pub mod HealthyLemmas
 pub mod HolderLemmas

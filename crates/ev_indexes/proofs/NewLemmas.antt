@@ -3,7 +3,7 @@ use Rattle.std.proofs.Common.{◌≡◌, ◌∙◌, ℕ, true, false, List, [], 
 use Rattle.std.specs.List.{IsDistinct, AllByRecursion}
 use Rattle.ev_types.specs.declared.rows.GenRow.{GenRow}
 use Rattle.ev_model.specs.World.{opening}
-use Rattle.ev_endpoints.specs.Results.{result_in}
+use Rattle.ev_endpoints.specs.Kept.{result_in, marked_in}
 use Rattle.ev_generations.specs.Tables.{IsTable, row_in}
 use Rattle.ev_indexes.specs.declared.state.State.{State}
 use Rattle.ev_indexes.specs.Addresses.{numbers_at}
@@ -18,7 +18,7 @@ empty_table : (made : ℕ) → IsTable (record { rows = []; made = made })
 unfolding IsDistinct
 empty_table made = record { apart = tt; drawn = λ number above. refl }
 
-module _ (s : State) (rows : s.table.rows ≡ []) (names : s.names ≡ []) (watches : s.watches ≡ []) (addresses : s.addresses ≡ []) (results : s.results ≡ []) (due : s.due ≡ []) where
+module _ (s : State) (rows : s.table.rows ≡ []) (names : s.names ≡ []) (watches : s.watches ≡ []) (addresses : s.addresses ≡ []) (results : s.results ≡ record { hosts = []; marked = [] }) (due : s.due ≡ []) where
   pub indexed-new : IsIndexed s
   indexed-new = record {
     table =
@@ -32,6 +32,7 @@ module _ (s : State) (rows : s.table.rows ≡ []) (names : s.names ≡ []) (watc
     holders = λ a. (λ i. numbers_at (addresses i) a) ∙ (λ i. numbers_where (holds a) (sym rows i));
     due = λ n. (λ i. is_one_of (due i) n) ∙ (λ i. is_due_at s.watches s.results n (sym rows i));
     drawn = λ n h above. (λ i. result_in (results i) n h);
+    unmarked = λ n above. (λ i. marked_in (results i) n);
   }
 
   pub stands-new : (workers : ℕ) (node : List ℕ) → HasRows s (opening workers node)

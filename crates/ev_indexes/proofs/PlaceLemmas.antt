@@ -19,8 +19,8 @@ use Rattle.ev_types.specs.declared.contents.Kind.TheVariants.{Eds, Rds}
 use Rattle.ev_types.specs.declared.listeners.FilterChain.{FilterChain}
 use Rattle.ev_types.specs.declared.listeners.Serve.{Serve}
 use Rattle.ev_types.specs.declared.listeners.Serve.TheVariants.{Rds as by_rds, Inline, Tcp, Other}
-use Rattle.ev_model.specs.Watching.{Dependency, dependency_same, each_once, dependencies_of, serve_dependencies, serves_of}
-use Rattle.ev_indexes.specs.Needs.{discovery_need, serve_need, listener_places, places_of, need_at, needs_at, names_of}
+use Rattle.ev_model.specs.Watching.{Dependency, dependency_same, each_once, dependencies_of, serve_dependencies}
+use Rattle.ev_indexes.specs.Needs.{discovery_need, serve_need, places_of, need_at, needs_at, names_of}
 use Rattle.ev_indexes.specs.Worlds.{needs_of}
 
 -- one place more

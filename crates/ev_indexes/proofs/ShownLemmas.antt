@@ -1,16 +1,14 @@
 -- What is shown of a state that stands for a world is what the machine shows of the world.
-use Rattle.std.proofs.Common.{◌≡◌, ◌∙◌, ℕ, ◌≤◌, Bool, true, false, cond, not, ◌&&◌, ◌||◌, List, [], ◌∷◌, ◌++◌, ◌⊎◌, inl, inr, Option, None, Some, IsSome, option_map, option_to_list, map, filter, length, refl, sym, ap, subst, true≢false, arith}
-use Rattle.std.specs.List.{IsDistinct, AllByRecursion, flat_map}
+use Rattle.std.proofs.Common.{◌≡◌, ◌∙◌, ℕ, ◌≤◌, Bool, true, false, cond, not, ◌&&◌, ◌||◌, List, [], ◌∷◌, Option, None, Some, IsSome, option_map, option_to_list, map, filter, length, refl, sym, ap, subst, true≢false, arith}
+use Rattle.std.specs.List.{IsDistinct, AllByRecursion}
 use Rattle.std.specs.Str.{bytes_eq}
-use Rattle.std.proofs.lemmas.Cmp.{nat_list_cmp_total}
 use Rattle.std.proofs.lemmas.Bool.{cond_both}
-use Rattle.std.specs.Cmp.{both_ways, on_total}
+use Rattle.std.specs.Cmp.{both_ways}
 use Rattle.ev_types.specs.Hosts.{HostRowParts}
 use Rattle.ev_types.specs.Items.{content_kind}
-use Rattle.ev_types.specs.Kinds.{kind_same, kind_decides}
 use Rattle.ev_types.specs.Same.{bytes_decide}
 use Rattle.ev_types.specs.Statuses.{is_active}
-use Rattle.ev_types.specs.declared.contents.Kind.TheVariants.{Cds, Lds}
+use Rattle.ev_types.specs.declared.contents.Kind.TheVariants.{Lds}
 use Rattle.ev_types.specs.declared.contents.Content.{Content}
 use Rattle.ev_types.specs.declared.contents.Content.TheVariants.{Cluster as a_cluster, Assignment as an_assignment, Listener as a_listener, Routes as routes}
 use Rattle.ev_types.specs.declared.listeners.FilterChain.{FilterChain}
@@ -18,30 +16,20 @@ use Rattle.ev_types.specs.declared.listeners.Serve.{Serve}
 use Rattle.ev_types.specs.declared.listeners.Serve.TheVariants.{Rds as by_rds, Inline, Tcp as by_tcp, Other as by_other}
 use Rattle.ev_types.specs.declared.rows.GenRow.{GenRow}
 use Rattle.ev_model.specs.declared.pictures.Routing.TheVariants.{Table}
-use Rattle.ev_model.specs.declared.pictures.ServedListener.{ServedListener}
 use Rattle.ev_model.specs.World.{World}
-use Rattle.ev_model.specs.Picture.{by_name, active_rows, is_elsewhere, served_chain, served_cluster, served_clusters, served_listener, served_listeners, routing_of, table_in}
+use Rattle.ev_model.specs.Picture.{is_elsewhere, served_chain, served_cluster, served_listener, routing_of, table_in}
 use Rattle.ev_model.specs.Warming.{is_checked, value_by}
 use Rattle.ev_generations.specs.Tables.{row_in, numbers_of}
 use Rattle.ev_indexes.specs.declared.state.State.{State}
 use Rattle.ev_indexes.specs.Standings.{standing_in}
 use Rattle.ev_indexes.specs.Indexes.{IsIndexed, serves, numbers_where}
-use Rattle.ev_indexes.specs.Reads.{active_by_name, chain_in, cluster_in, clusters_in, listener_in, listeners_in, routing_in}
-use Rattle.ev_indexes.specs.Watched.{WatchesKept}
+use Rattle.ev_indexes.specs.Reads.{chain_in, cluster_in, listener_in, routing_in}
 use Rattle.ev_indexes.specs.Worlds.{HasRows, needs_of}
-use Rattle.ev_indexes.proofs.RowLemmas.{filter-rows_of_kind, filter_agrees, all_then, both_all}
-use Rattle.ev_indexes.proofs.SortLemmas.{by_key, sorted_by-same}
-use Rattle.ev_indexes.proofs.SoundLemmas.{contents-of}
-use Rattle.ev_indexes.proofs.WhereLemmas.{own-rows}
 use Rattle.ev_indexes.proofs.WorldLemmas.{hosts}
 
 pub all_left : (P : GenRow → Type 0) (q : GenRow → Bool) (rows : List GenRow) → AllByRecursion P rows → AllByRecursion P (filter q rows)
 all_left P q [] all = tt
 all_left P q (row ∷ rows) all = cond_both (q row) (row ∷ filter q rows) (filter q rows) (AllByRecursion P) (λ e. (all.0, all_left P q rows all.1)) (λ e. all_left P q rows all.1)
-
-map_agrees : {A : Type 0} (f g : GenRow → A) (rows : List GenRow) → AllByRecursion (λ (r : GenRow). f r ≡ g r) rows → map f rows ≡ map g rows
-map_agrees f g [] all = refl
-map_agrees f g (row ∷ rows) all = λ i. all.0 i ∷ map_agrees f g rows all.1 i
 
 -- no row passes
 none-pass : (test : GenRow → Bool) (rows : List GenRow) → length (numbers_where test rows) ≤ 0 → AllByRecursion (λ (r : GenRow). test r ≡ false) rows
@@ -95,32 +83,7 @@ names-differ s x = names-apart s.table.rows (λ q. subst (λ ns. length ns ≤ 1
     few None = omega arith
     few (Some n) = omega arith
 
--- what is seen of rows keeps their names
-pub names-map : {A : Type 0} (f : GenRow → A) (name : A → List ℕ) → ((r : GenRow) → name (f r) ≡ r.name) → (rows : List GenRow) → map name (map f rows) ≡ map (λ (r : GenRow). r.name) rows
-names-map f name same [] = refl
-names-map f name same (row ∷ rows) = λ i. same row i ∷ names-map f name same rows i
-
 module _ (s : State) (world : World) (stands : HasRows s world) (x : IsIndexed s) where
-  -- the active rows of the state are the active rows of its kind
-  pub active-world : active_by_name s.table.rows ≡ active_rows world.rows s.kind
-  active-world =
-      ap by_name
-      (filter_agrees (λ (r : GenRow). is_active r.status) (λ (r : GenRow). kind_same r.kind s.kind && is_active r.status) s.table.rows
-      (all_then (λ (r : GenRow). r.kind ≡ s.kind) (λ (r : GenRow). is_active r.status ≡ (kind_same r.kind s.kind && is_active r.status)) s.table.rows
-      (λ r k. λ i. sym ((kind_decides r.kind s.kind).1 k) i && is_active r.status) x.kinds)
-      ∙ ap (filter (λ (r : GenRow). kind_same r.kind s.kind && is_active r.status)) stands.rows
-      ∙ filter-rows_of_kind s.kind (λ (r : GenRow). kind_same r.kind s.kind && is_active r.status) (λ r h. first (kind_same r.kind s.kind) (is_active r.status) h) world.rows)
-    where
-      first : (a b : Bool) → (a && b) ≡ true → a ≡ true
-      first true b h = refl
-      first false b h = h
-
-  -- what holds of each row of the state holds of each that is shown
-  pub all-shown : (P : GenRow → Type 0) → AllByRecursion P s.table.rows → AllByRecursion P (active_by_name s.table.rows)
-  all-shown P all =
-      (sorted_by-same (by_key (λ (r : GenRow). r.name)) (on_total (λ (r : GenRow). r.name) nat_list_cmp_total) (filter (λ (r : GenRow). is_active r.status) s.table.rows)).there P
-      (all_left P (λ (r : GenRow). is_active r.status) s.table.rows all)
-
   pub cluster-world : (r : GenRow) → content_kind r.content ≡ s.kind → IsSome (row_in r.number s.table.rows) → cluster_in s.watches s.results r ≡ served_cluster world.arrivals world.results r
   cluster-world r k there = λ i. record {
     number = r.number;
@@ -128,41 +91,6 @@ module _ (s : State) (world : World) (stands : HasRows s world) (x : IsIndexed s
     hosts = filter (λ (h : HostRowParts). h.usable && (not (is_checked r.content) || stands.healthy r.number h.host there i)) (hosts s world stands r.content k i);
     elsewhere = is_elsewhere r.content;
   }
-
-  pub clusters-world : s.kind ≡ Cds → clusters_in s.watches s.results s.table.rows ≡ served_clusters world.arrivals world.results world.rows
-  clusters-world cds =
-      map_agrees (cluster_in s.watches s.results) (served_cluster world.arrivals world.results) (active_by_name s.table.rows)
-      (all-shown (λ (r : GenRow). cluster_in s.watches s.results r ≡ served_cluster world.arrivals world.results r)
-      (all_then (λ (r : GenRow). (content_kind r.content ≡ s.kind) × (row_in r.number s.table.rows ≡ Some r)) (λ (r : GenRow). cluster_in s.watches s.results r ≡ served_cluster world.arrivals world.results r)
-      s.table.rows (λ r (k, own). cluster-world r k (subst IsSome (sym own) refl))
-      (both_all (λ (r : GenRow). content_kind r.content ≡ s.kind) (λ (r : GenRow). row_in r.number s.table.rows ≡ Some r) s.table.rows (contents-of s world stands) (own-rows s.table.rows x.table.apart))))
-      ∙ ap (map (served_cluster world.arrivals world.results)) active-world
-      ∙ (λ i. map (served_cluster world.arrivals world.results) (active_rows world.rows (cds i)))
-
--- a listener is shown once, with its name
-pub listener-shape : (watches : WatchesKept) (r : GenRow) → (listener_in watches r r.content ≡ []) ⊎ ((l : ServedListener) × (listener_in watches r r.content ≡ l ∷ []) × (l.name ≡ r.name))
-listener-shape watches r = by r.content
-  where
-    by : (content : Content) → (listener_in watches r content ≡ []) ⊎ ((l : ServedListener) × (listener_in watches r content ≡ l ∷ []) × (l.name ≡ r.name))
-    by (a_cluster cluster) = inl refl
-    by (an_assignment rows) = inl refl
-    by (a_listener listener) = inr (
-      record {
-        number = r.number;
-        name = r.name;
-        address = listener.address;
-        takes_every_address = listener.takes_every_address;
-        filter_chains = map (chain_in watches) listener.filter_chains;
-        default_filter_chain = option_map (routing_in watches) listener.default_filter_chain;
-      },
-      refl,
-      refl,
-    )
-    by (routes table) = inl refl
-
-flat_map_agrees : {A : Type 0} (f g : GenRow → List A) (rows : List GenRow) → AllByRecursion (λ (r : GenRow). f r ≡ g r) rows → flat_map f rows ≡ flat_map g rows
-flat_map_agrees f g [] all = refl
-flat_map_agrees f g (row ∷ rows) all = λ i. all.0 i ++ flat_map_agrees f g rows all.1 i
 
 module _ (s : State) (world : World) (stands : HasRows s world) (x : IsIndexed s) (lds : s.kind ≡ Lds) where
   pub listener-world : (r : GenRow) → listener_in s.watches r r.content ≡ served_listener world.arrivals r r.content
@@ -194,13 +122,3 @@ module _ (s : State) (world : World) (stands : HasRows s world) (x : IsIndexed s
         default_filter_chain = other listener.default_filter_chain i;
       } ∷ []
       by (routes table) = refl
-
-  pub listeners-world : listeners_in s.watches s.table.rows ≡ served_listeners world.arrivals world.rows
-  listeners-world =
-      flat_map_agrees (λ (r : GenRow). listener_in s.watches r r.content) (λ (r : GenRow). served_listener world.arrivals r r.content) (active_by_name s.table.rows) (every (active_by_name s.table.rows))
-      ∙ ap (flat_map (λ (r : GenRow). served_listener world.arrivals r r.content)) (active-world s world stands x)
-      ∙ (λ i. flat_map (λ (r : GenRow). served_listener world.arrivals r r.content) (active_rows world.rows (lds i)))
-    where
-      every : (rows : List GenRow) → AllByRecursion (λ (r : GenRow). listener_in s.watches r r.content ≡ served_listener world.arrivals r r.content) rows
-      every [] = tt
-      every (row ∷ rows) = (listener-world row, every rows)

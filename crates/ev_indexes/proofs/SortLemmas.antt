@@ -1,9 +1,9 @@
 -- Sorted lists by a key that is a text: what a sort of the machine's leaves, and two strictly sorted lists of the same elements are equal.
-use Rattle.std.proofs.Common.{◌≡◌, ◌∙◌, ℕ, ◌+◌, Bool, true, false, cond, List, [], ◌∷◌, ◌++◌, ◌⊎◌, inl, inr, Ordering, refl, sym, ap, subst, true≢false, map, get_or, arith}
+use Rattle.std.proofs.Common.{◌≡◌, ◌∙◌, ℕ, ◌+◌, Bool, true, false, List, [], ◌∷◌, ◌⊎◌, inl, inr, Ordering, refl, sym, ap, subst, true≢false, get_or, arith}
 use Rattle.std.specs.declared.cmp.Ordering.TheVariants.{Less, Equal, Greater}
-use Rattle.std.specs.Cmp.{IsTotalOrder, tied_itself, alike_right, both_ways, on_total}
+use Rattle.std.specs.Cmp.{IsTotalOrder, tied_itself, alike_right}
 use Rattle.std.specs.Cmp.Lexicographic.{slice_cmp}
-use Rattle.std.specs.List.{AllByRecursion, IsDistinct, dedup, dedup_from, flat_map}
+use Rattle.std.specs.List.{AllByRecursion, IsDistinct, dedup, dedup_from}
 use Rattle.std.specs.List.Sorted.{IsPermutation, IsSorted, IsStrictlySortedBy}
 use Rattle.std.specs.Ordering.{nat_cmp, is_lt, is_eq, ordering_reverse, eq_by_cmp}
 use Rattle.std.specs.Str.{bytes_eq}
@@ -12,7 +12,7 @@ use Rattle.std.proofs.lemmas.Cmp.{nat_list_cmp_total}
 use Rattle.std.proofs.lemmas.List.Elements.{All-from_recursion, recursion_from_All}
 use Rattle.std.proofs.lemmas.List.Kept.{IsStrictlySortedBy-dedup}
 use Rattle.std.proofs.lemmas.List.Sorted.{All-permutation, IsPermutation-sym}
-use Rattle.std.proofs.lemmas.Map.Keys.{IsDistinct-IsPermutation, apart_from_distinct, sorted_from_all_adjacent}
+use Rattle.std.proofs.lemmas.Map.Keys.{apart_from_distinct, sorted_from_all_adjacent}
 use Rattle.std.proofs.lemmas.Map.Text.{is_eq-slice_cmp}
 use Rattle.ev_types.specs.Same.{bytes_decide}
 use Rattle.ev_model.specs.Sorted.{put_by, sorted_by}
@@ -227,123 +227,3 @@ names-sorted xs ys moved sorted =
     (same_elements-then (dedup bytes_eq ys) ys (dedup bytes_eq (sorted_by is_before xs)) (same_elements-back ys (dedup bytes_eq ys) (dedup-same c o bytes_eq ties same ys))
     (same_elements-then ys xs (dedup bytes_eq (sorted_by is_before xs)) (same_elements-back xs ys (permuted-same c o xs ys moved))
     (same_elements-then xs (sorted_by is_before xs) (dedup bytes_eq (sorted_by is_before xs)) (sorted_by-same c o xs) (dedup-same c o bytes_eq ties same (sorted_by is_before xs)))))
-
--- what differs by its key, sorted by it
-module _ {X : Type 0} (key : X → List ℕ) where
-  abbrev pub by_key : X → X → Ordering
-  by_key x y = slice_cmp nat_cmp (key x) (key y)
-
-  keys_apart : (xs : List X) → IsDistinct bytes_eq (map key xs) → IsDistinct (eq_by_cmp by_key) xs
-  unfolding IsDistinct
-  keys_apart [] apart = tt
-  keys_apart (x ∷ xs) apart = (by xs apart.0, keys_apart xs apart.1)
-    where
-      by : (ys : List X) → AllByRecursion (λ k. bytes_eq (key x) k ≡ false) (map key ys) → AllByRecursion (λ y. eq_by_cmp by_key x y ≡ false) ys
-      by [] all = tt
-      by (y ∷ ys) all = (is_eq-slice_cmp (key x) (key y) ∙ all.0, by ys all.1)
-
-  pub key-sorted : (xs ys : List X) → IsDistinct bytes_eq (map key xs) → IsPermutation xs ys → IsSorted by_key ys → ys ≡ sorted_by (λ x y. is_before (key x) (key y)) xs
-  key-sorted xs ys apart moved sorted =
-      let o : IsTotalOrder by_key = on_total key nat_list_cmp_total in
-      let distinct = keys_apart xs apart in
-      let flips : (x y : X) → eq_by_cmp by_key x y ≡ eq_by_cmp by_key y x = λ x y. is_eq-slice_cmp (key x) (key y) ∙ turned (key x) (key y) ∙ sym (is_eq-slice_cmp (key y) (key x)) in
-      sorted-unique by_key o ys (sorted_by (λ x y. is_before (key x) (key y)) xs)
-      (distinct-strict by_key o ys (IsDistinct-IsPermutation (eq_by_cmp by_key) flips xs ys moved distinct) sorted)
-      (sorted_by-strict by_key o xs distinct)
-      (same_elements-then ys xs (sorted_by (λ x y. is_before (key x) (key y)) xs) (same_elements-back xs ys (permuted-same by_key o xs ys moved)) (sorted_by-same by_key o xs))
-    where
-      turned : (a b : List ℕ) → bytes_eq a b ≡ bytes_eq b a
-      turned a b = both_ways (bytes_eq a b) (bytes_eq b a) (λ h. (bytes_decide b a).1 (sym ((bytes_decide a b).0 h))) (λ h. (bytes_decide a b).1 (sym ((bytes_decide b a).0 h)))
-
--- what keeps the key of each element may come before the sort or after it
-module _ {X Y : Type 0} (f : X → Y) (lt : X → X → Bool) (mt : Y → Y → Bool) (keeps : (x y : X) → mt (f x) (f y) ≡ lt x y) where
-  put_by-map : (x : X) (ys : List X) → put_by mt (f x) (map f ys) ≡ map f (put_by lt x ys)
-  put_by-map x [] = refl
-  put_by-map x (y ∷ ys) = (λ i. cond (keeps x y i) (f x ∷ f y ∷ map f ys) (f y ∷ put_by mt (f x) (map f ys))) ∙ by (lt x y) (put_by-map x ys)
-    where
-      by : (b : Bool) → put_by mt (f x) (map f ys) ≡ map f (put_by lt x ys) → cond b (f x ∷ f y ∷ map f ys) (f y ∷ put_by mt (f x) (map f ys)) ≡ map f (cond b (x ∷ y ∷ ys) (y ∷ put_by lt x ys))
-      by true h = refl
-      by false h = ap (λ zs. f y ∷ zs) h
-
-  pub sorted_by-map : (xs : List X) → sorted_by mt (map f xs) ≡ map f (sorted_by lt xs)
-  sorted_by-map [] = refl
-  sorted_by-map (x ∷ xs) = ap (put_by mt (f x)) (sorted_by-map xs) ∙ put_by-map x (sorted_by lt xs)
-
--- what is made of each element, one or none, with its key
-module _ {X Y : Type 0} (key : X → List ℕ) (name : Y → List ℕ) (f : X → List Y) (shape : (x : X) → (f x ≡ []) ⊎ ((y : Y) × (f x ≡ y ∷ []) × (name y ≡ key x))) where
-  every_append : (P : Y → Type 0) (xs ys : List Y) → AllByRecursion P xs → AllByRecursion P ys → AllByRecursion P (xs ++ ys)
-  every_append P [] ys p q = q
-  every_append P (x ∷ xs) ys p q = (p.0, every_append P xs ys p.1 q)
-
-  every_front : (P : Y → Type 0) (xs ys : List Y) → AllByRecursion P (xs ++ ys) → AllByRecursion P xs × AllByRecursion P ys
-  every_front P [] ys p = (tt, p)
-  every_front P (x ∷ xs) ys p = let rest = every_front P xs ys p.1 in ((p.0, rest.0), rest.1)
-
-  flat_there : (P : Y → Type 0) (xs : List X) → AllByRecursion (λ x. AllByRecursion P (f x)) xs → AllByRecursion P (flat_map f xs)
-  flat_there P [] all = tt
-  flat_there P (x ∷ xs) all = every_append P (f x) (flat_map f xs) all.0 (flat_there P xs all.1)
-
-  flat_back : (P : Y → Type 0) (xs : List X) → AllByRecursion P (flat_map f xs) → AllByRecursion (λ x. AllByRecursion P (f x)) xs
-  flat_back P [] all = tt
-  flat_back P (x ∷ xs) all = let parts = every_front P (f x) (flat_map f xs) all in (parts.0, flat_back P xs parts.1)
-
-  flat-same : (xs ys : List X) → SameElements xs ys → SameElements (flat_map f xs) (flat_map f ys)
-  flat-same xs ys same = record {
-    there = λ P h. flat_there P ys (same.there (λ x. AllByRecursion P (f x)) (flat_back P xs h));
-    back = λ P h. flat_there P xs (same.back (λ x. AllByRecursion P (f x)) (flat_back P ys h));
-  }
-
-  -- a fact of keys
-  by_keys : (Q : List ℕ → Type 0) (x : X) → Q (key x) → AllByRecursion (λ y. Q (name y)) (f x)
-  by_keys Q x q = over (shape x)
-    where
-      over : (f x ≡ []) ⊎ ((y : Y) × (f x ≡ y ∷ []) × (name y ≡ key x)) → AllByRecursion (λ y. Q (name y)) (f x)
-      over (inl e) = subst (AllByRecursion (λ y. Q (name y))) (sym e) tt
-      over (inr (y, e, k)) = subst (AllByRecursion (λ y. Q (name y))) (sym e) (subst Q (sym k) q, tt)
-
-  flat-strict : (xs : List X) → IsStrictlySortedBy (by_key key) xs → IsStrictlySortedBy (by_key name) (flat_map f xs)
-  unfolding IsStrictlySortedBy
-  flat-strict [] s = tt
-  flat-strict (x ∷ xs) s = over (flat-strict xs s.1) (shape x)
-    where
-      over : IsStrictlySortedBy (by_key name) (flat_map f xs) → (f x ≡ []) ⊎ ((y : Y) × (f x ≡ y ∷ []) × (name y ≡ key x)) → IsStrictlySortedBy (by_key name) (f x ++ flat_map f xs)
-      over rest (inl e) = subst (λ ys. IsStrictlySortedBy (by_key name) (ys ++ flat_map f xs)) (sym e) rest
-      over rest (inr (y, e, k)) =
-          subst (λ ys. IsStrictlySortedBy (by_key name) (ys ++ flat_map f xs)) (sym e) (
-            flat_there (λ w. slice_cmp nat_cmp (name y) (name w) ≡ Less) xs (all_so (λ z. by_key key x z ≡ Less) (λ z. AllByRecursion (λ w. slice_cmp nat_cmp (name y) (name w) ≡ Less) (f z)) xs
-                (λ z less. by_keys (λ q. slice_cmp nat_cmp (name y) q ≡ Less) z ((λ i. slice_cmp nat_cmp (k i) (key z)) ∙ less)) s.0),
-            rest,
-          )
-
-  pub flat-apart : (xs : List X) → IsDistinct bytes_eq (map key xs) → IsDistinct bytes_eq (map name (flat_map f xs))
-  unfolding IsDistinct
-  flat-apart [] apart = tt
-  flat-apart (x ∷ xs) apart = over (flat-apart xs apart.1) (shape x)
-    where
-      mapped : (Q : List ℕ → Type 0) (ys : List Y) → AllByRecursion (λ y. Q (name y)) ys → AllByRecursion Q (map name ys)
-      mapped Q [] all = tt
-      mapped Q (y ∷ ys) all = (all.0, mapped Q ys all.1)
-
-      far : (y : Y) → name y ≡ key x → (zs : List X) → AllByRecursion (λ q. bytes_eq (key x) q ≡ false) (map key zs) → AllByRecursion (λ w. bytes_eq (name y) (name w) ≡ false) (flat_map f zs)
-      far y k [] all = tt
-      far y k (z ∷ zs) all =
-          every_append (λ w. bytes_eq (name y) (name w) ≡ false) (f z) (flat_map f zs)
-          (by_keys (λ q. bytes_eq (name y) q ≡ false) z ((λ i. bytes_eq (k i) (key z)) ∙ all.0)) (far y k zs all.1)
-
-      over : IsDistinct bytes_eq (map name (flat_map f xs)) → (f x ≡ []) ⊎ ((y : Y) × (f x ≡ y ∷ []) × (name y ≡ key x)) → IsDistinct bytes_eq (map name (f x ++ flat_map f xs))
-      over rest (inl e) = subst (λ ys. IsDistinct bytes_eq (map name (ys ++ flat_map f xs))) (sym e) rest
-      over rest (inr (y, e, k)) =
-          subst (λ ys. IsDistinct bytes_eq (map name (ys ++ flat_map f xs))) (sym e)
-          (mapped (λ q. bytes_eq (name y) q ≡ false) (flat_map f xs) (far y k xs apart.0), rest)
-
-  pub flat-sorted : (xs : List X) → IsDistinct bytes_eq (map key xs)
-      → sorted_by (λ x y. is_before (name x) (name y)) (flat_map f xs) ≡ flat_map f (sorted_by (λ x y. is_before (key x) (key y)) xs)
-  flat-sorted xs apart =
-      let o : IsTotalOrder (by_key key) = on_total key nat_list_cmp_total in
-      let p : IsTotalOrder (by_key name) = on_total name nat_list_cmp_total in
-      sorted-unique (by_key name) p (sorted_by (λ x y. is_before (name x) (name y)) (flat_map f xs)) (flat_map f (sorted_by (λ x y. is_before (key x) (key y)) xs))
-      (sorted_by-strict (by_key name) p (flat_map f xs) (keys_apart name (flat_map f xs) (flat-apart xs apart)))
-      (flat-strict (sorted_by (λ x y. is_before (key x) (key y)) xs) (sorted_by-strict (by_key key) o xs (keys_apart key xs apart)))
-      (same_elements-then (sorted_by (λ x y. is_before (name x) (name y)) (flat_map f xs)) (flat_map f xs) (flat_map f (sorted_by (λ x y. is_before (key x) (key y)) xs))
-      (same_elements-back (flat_map f xs) (sorted_by (λ x y. is_before (name x) (name y)) (flat_map f xs)) (sorted_by-same (by_key name) p (flat_map f xs)))
-      (flat-same xs (sorted_by (λ x y. is_before (key x) (key y)) xs) (sorted_by-same (by_key key) o xs)))

@@ -1,5 +1,5 @@
 -- Rows of a kind under changes of statuses, and what a state that stands for a world has of it: the same hosts, and the same rows are ready.
-use Rattle.std.proofs.Common.{◌≡◌, ◌∙◌, ℕ, Bool, true, false, cond, not, ◌&&◌, ◌||◌, List, [], ◌∷◌, Option, IsSome, is_some, refl, sym, ap, true≢false}
+use Rattle.std.proofs.Common.{◌≡◌, ◌∙◌, ℕ, Bool, true, false, cond, not, ◌&&◌, ◌||◌, List, [], ◌∷◌, IsSome, is_some, refl, sym, ap, true≢false}
 use Rattle.std.specs.List.{list_any}
 use Rattle.ev_types.specs.Hosts.{HostRowParts}
 use Rattle.ev_types.specs.Items.{content_kind}
@@ -16,7 +16,7 @@ use Rattle.ev_model.specs.World.{World, Arrived, HealthResult}
 use Rattle.ev_model.specs.Watching.{Dependency, dependencies_of}
 use Rattle.ev_model.specs.Warming.{counts_for, last_told, last_timed, has_answer, discovered, assignment_by, rows_in, has_result, has_all_results, value_by, is_answered_by, is_ready_by, is_checked}
 use Rattle.ev_model.specs.Rows.{with_statuses}
-use Rattle.ev_endpoints.specs.Results.{ResultsKept, result_in}
+use Rattle.ev_endpoints.specs.Kept.{ResultsKept, result_in}
 use Rattle.ev_generations.specs.Tables.{row_in}
 use Rattle.ev_indexes.specs.declared.state.State.{State}
 use Rattle.ev_indexes.specs.Watched.{WatchesKept, watch_in}

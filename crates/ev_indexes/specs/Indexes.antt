@@ -1,5 +1,5 @@
 -- What the indexes of the table say: each look-up is a search of the rows.
-use Rattle.std.specs.Prelude.{◌≡◌, ◌<◌, ℕ, Bool, true, false, ◌&&◌, List, [], ◌++◌, Option, Some, None, filter, option_to_list}
+use Rattle.std.specs.Prelude.{◌≡◌, ◌<◌, ℕ, Bool, true, false, ◌&&◌, List, [], ◌++◌, Option, Some, None, IfSome, filter, option_to_list}
 use Rattle.std.specs.List.{AllByRecursion}
 use Rattle.std.specs.Str.{bytes_eq}
 use Rattle.ev_types.specs.Statuses.{is_warming, is_active, is_live}
@@ -7,15 +7,18 @@ use Rattle.ev_types.specs.declared.rows.RowStatus.{RowStatus}
 use Rattle.ev_types.specs.declared.rows.RowStatus.TheVariants.{Dropped}
 use Rattle.ev_types.specs.declared.rows.GenRow.{GenRow}
 use Rattle.ev_types.specs.declared.hosts.Host.{Host}
+use Rattle.ev_types.specs.declared.contents.Content.{Content}
+use Rattle.ev_types.specs.Hosts.{HostRowParts}
+use Rattle.ev_model.specs.Warming.{is_checked}
 use Rattle.ev_model.specs.Watching.{dependencies_of}
-use Rattle.ev_endpoints.specs.Results.{result_in}
-use Rattle.ev_generations.specs.Tables.{IsTable, numbers_of}
+use Rattle.ev_endpoints.specs.Kept.{result_in, marked_in}
+use Rattle.ev_generations.specs.Tables.{IsTable, numbers_of, row_in}
 use Rattle.ev_indexes.specs.Addresses.{numbers_at, listens_at}
 use Rattle.ev_indexes.specs.Due.{is_one_of}
 use Rattle.ev_indexes.specs.Standings.{standing_in}
 use Rattle.ev_indexes.specs.Watched.{WatchesKept, watch_in}
 use Rattle.ev_indexes.specs.Needs.{is_needed, is_needed_so}
-use Rattle.ev_indexes.specs.Ready.{is_due_at}
+use Rattle.ev_indexes.specs.Ready.{assignment_in, is_due_at}
 use Rattle.ev_indexes.specs.declared.state.State.{State}
 
 -- a live row depends on the name
@@ -66,7 +69,16 @@ abbrev pub SameMarks : WatchesKept → WatchesKept → Type 0
 SameMarks old new = (name : List ℕ) →
     ((watch_in new name).told ≡ (watch_in old name).told) × ((watch_in new name).timed ≡ (watch_in old name).timed) × ((watch_in new name).value ≡ (watch_in old name).value)
 
--- each index is a search of the rows, and no result is of a number that wasn't drawn
+-- hosts of a generation of this content are health checked, and these rows are its assignment
+abbrev pub IsAssignmentOf : WatchesKept → Content → List HostRowParts → Type 0
+IsAssignmentOf watches content rows = (is_checked content ≡ true) × (rows ≡ assignment_in watches content)
+
+-- rows that are marked for the live generation of this number are its assignment
+abbrev pub MarksAssignment : State → ℕ → Type 0
+MarksAssignment s number = (row : GenRow) → row_in number s.table.rows ≡ Some row → is_live row.status ≡ true
+    → IfSome (marked_in s.results number) (IsAssignmentOf s.watches row.content)
+
+-- each index is a search of the rows, and of no number that wasn't drawn there are results or marks
 pub record IsIndexed (s : State) : Type 0 where
   pub table : IsTable s.table
   pub kinds : AllByRecursion (λ (row : GenRow). row.kind ≡ s.kind) s.table.rows
@@ -77,3 +89,4 @@ pub record IsIndexed (s : State) : Type 0 where
   pub holders : (address : Host) → numbers_at s.addresses address ≡ numbers_where (holds address) s.table.rows
   pub due : (number : ℕ) → is_one_of s.due number ≡ is_due_at s.watches s.results number s.table.rows
   pub drawn : (number : ℕ) (host : Host) → s.table.made < number → result_in s.results number host ≡ None
+  pub unmarked : (number : ℕ) → s.table.made < number → marked_in s.results number ≡ None

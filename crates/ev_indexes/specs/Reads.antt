@@ -1,10 +1,11 @@
 -- What is read of a state, by searches of its rows: the machine's words, where what came is looked up.
 use Rattle.std.specs.Prelude.{ℕ, Bool, false, not, ◌&&◌, ◌||◌, List, [], ◌∷◌, filter, map, option_map, unwrap_or}
-use Rattle.std.specs.List.{list_any, flat_map}
+use Rattle.std.specs.List.{list_all, list_any, flat_map}
 use Rattle.std.specs.Str.{bytes_eq}
 use Rattle.ev_types.specs.Hosts.{HostRowParts}
 use Rattle.ev_types.specs.Kinds.{kind_same}
-use Rattle.ev_types.specs.Statuses.{is_live, is_active}
+use Rattle.ev_types.specs.Same.{bool_same}
+use Rattle.ev_types.specs.Statuses.{is_live}
 use Rattle.ev_types.specs.declared.contents.Content.{Content}
 use Rattle.ev_types.specs.declared.contents.Content.TheVariants.{Cluster as a_cluster, Assignment as an_assignment, Listener as a_listener, Routes as routes}
 use Rattle.ev_types.specs.declared.contents.Kind.{Kind}
@@ -20,19 +21,20 @@ use Rattle.ev_model.specs.declared.pictures.ServedCluster.{ServedCluster}
 use Rattle.ev_model.specs.declared.pictures.ServedListener.{ServedListener}
 use Rattle.ev_types.specs.declared.hosts.Host.{Host}
 use Rattle.ev_model.specs.Live.{live_of, lives_of}
-use Rattle.ev_model.specs.Picture.{by_name, is_elsewhere, table_in}
+use Rattle.ev_model.specs.Picture.{is_elsewhere, table_in}
 use Rattle.ev_model.specs.Signals.{is_awaited}
 use Rattle.ev_model.specs.Warming.{counts_for, is_checked}
 use Rattle.ev_model.specs.Watching.{Dependency, dependencies_of, sorted_names}
 use Rattle.ev_model.specs.World.{World}
-use Rattle.ev_endpoints.specs.Results.{ResultsKept, result_in}
+use Rattle.ev_endpoints.specs.Kept.{ResultsKept, result_in}
 use Rattle.ev_generations.specs.Tables.{row_in}
 use Rattle.ev_mentions.specs.Lives.{is_at}
 use Rattle.ev_indexes.specs.declared.watches.Watch.{Watch}
 use Rattle.ev_indexes.specs.Needs.{names_of, needs_at, places_of}
 use Rattle.ev_indexes.specs.Watched.{WatchesKept, watch_in}
 use Rattle.ev_indexes.specs.Ready.{assignment_in}
-use Rattle.ev_indexes.specs.Indexes.{passes, serves, warms, holds}
+use Rattle.ev_indexes.specs.Indexes.{numbers_where, passes, serves, warms, holds}
+use Rattle.ev_indexes.specs.declared.state.State.{State}
 
 -- the live ones of these rows
 abbrev pub live_rows : List GenRow → List GenRow
@@ -68,14 +70,6 @@ is_one_waiting name watch rows numbers = list_any (λ number. passes (is_waiting
 abbrev pub has_come_in : List GenRow → List ℕ → Bool
 has_come_in rows name = list_any (serves name) rows || not (list_any (warms name) rows)
 
--- the active ones of these rows
-abbrev pub serving_rows : List GenRow → List GenRow
-serving_rows rows = filter (λ (row : GenRow). is_active row.status) rows
-
--- the active rows, in the order of their names
-abbrev pub active_by_name : List GenRow → List GenRow
-active_by_name rows = by_name (serving_rows rows)
-
 -- the host may be chosen for the row
 abbrev pub is_eligible_in : ResultsKept → GenRow → HostRowParts → Bool
 is_eligible_in results row h = h.usable && (not (is_checked row.content) || unwrap_or (result_in results row.number h.host) false)
@@ -92,18 +86,6 @@ cluster_in watches results row = record {
   hosts = eligible_in watches results row;
   elsewhere = is_elsewhere row.content;
 }
-
--- the active clusters, in the order of the rows
-abbrev pub clusters_found : WatchesKept → ResultsKept → List GenRow → List ServedCluster
-clusters_found watches results rows = map (cluster_in watches results) (serving_rows rows)
-
--- a row's cluster, where the row is active
-abbrev pub cluster_found : WatchesKept → ResultsKept → GenRow → List ServedCluster
-cluster_found watches results row = clusters_found watches results (row ∷ [])
-
--- the active clusters, in the order of their names
-abbrev pub clusters_in : WatchesKept → ResultsKept → List GenRow → List ServedCluster
-clusters_in watches results rows = map (cluster_in watches results) (active_by_name rows)
 
 -- where a chain's connections go
 abbrev pub routing_in : WatchesKept → Serve → Routing
@@ -130,14 +112,6 @@ listener_in watches row (a_listener listener) = record {
 } ∷ []
 listener_in watches row (routes table) = []
 
--- the active listeners, in the order of the rows
-abbrev pub listeners_found : WatchesKept → List GenRow → List ServedListener
-listeners_found watches rows = flat_map (λ (row : GenRow). listener_in watches row row.content) (serving_rows rows)
-
--- the active listeners, in the order of their names
-abbrev pub listeners_in : WatchesKept → List GenRow → List ServedListener
-listeners_in watches rows = flat_map (λ (row : GenRow). listener_in watches row row.content) (active_by_name rows)
-
 -- a live row of the world waits for the name of this kind within a limit: it was neither told of it, nor has the wait timed out
 abbrev pub is_awaited_at : World → Kind → List ℕ → Bool
 is_awaited_at world kind name = is_awaited world.arrivals world.rows kind name
@@ -153,3 +127,8 @@ holders_in rows address = map live_of (filter (holds address) rows)
 -- what is seen in a world of the live generations that listen at the address
 abbrev pub holders_of : World → Host → List Live
 holders_of world address = filter (is_at address) (lives_of world)
+
+-- a host is as healthy as a result says for each row that serves the name
+abbrev pub is_as_healthy : State → List ℕ → Host → Bool → Bool
+is_as_healthy s name host healthy =
+    list_all (λ n. bool_same (unwrap_or (result_in s.results n host) false) healthy) (numbers_where (serves name) s.table.rows)

@@ -8,11 +8,11 @@ use Rattle.ev_model.specs.declared.pictures.ServedCluster.{ServedCluster}
 use Rattle.ev_model.specs.declared.pictures.ServedListener.{ServedListener}
 use Rattle.ev_model.specs.World.{World, Arrived, HealthResult}
 use Rattle.ev_model.specs.Phase.{is_serving}
-use Rattle.ev_model.specs.Picture.{served_cluster, served_clusters, served_listener, served_listeners}
-use Rattle.ev_endpoints.specs.Results.{ResultsKept}
+use Rattle.ev_model.specs.Picture.{served_cluster, served_listener}
+use Rattle.ev_endpoints.specs.Kept.{ResultsKept}
 use Rattle.ev_generations.specs.Tables.{row_in}
 use Rattle.ev_indexes.specs.declared.state.State.{State}
-use Rattle.ev_indexes.specs.Reads.{cluster_in, clusters_in, listener_in, listeners_in}
+use Rattle.ev_indexes.specs.Reads.{cluster_in, listener_in}
 use Rattle.ev_indexes.specs.Watched.{WatchesKept}
 
 -- what a picture shows of a row that is found: an active cluster
@@ -24,10 +24,6 @@ cluster_shown arrivals results (Some row) =
 -- what it shows of the cluster of this number
 abbrev pub cluster_at : World → ℕ → Option ServedCluster
 cluster_at world number = cluster_shown world.arrivals world.results (row_in number world.rows)
-
--- what it shows of all clusters
-abbrev pub clusters_at : World → List ServedCluster
-clusters_at world = served_clusters world.arrivals world.results world.rows
 
 -- the first of these, where there is one
 abbrev pub first_of : List ServedListener → Option ServedListener
@@ -44,10 +40,6 @@ listener_shown arrivals (Some row) =
 abbrev pub routed_at : World → ℕ → Option ServedListener
 routed_at world number = listener_shown world.arrivals (row_in number world.rows)
 
--- what it shows of all listeners once they serve
-abbrev pub all_routed_at : World → List ServedListener
-all_routed_at world = served_listeners world.arrivals world.rows
-
 -- what it shows of the listener of this number: nothing before listeners serve
 abbrev pub listener_at : World → ℕ → Option ServedListener
 listener_at world number = if is_serving world.phase then routed_at world number else None
@@ -62,17 +54,9 @@ abbrev pub listener_shown_in : WatchesKept → Option GenRow → Option ServedLi
 listener_shown_in watches None = None
 listener_shown_in watches (Some row) = if is_active row.status then first_of (listener_in watches row row.content) else None
 
--- a state's active clusters with what is known of them, in the order of their names
-abbrev pub clusters_by : State → List ServedCluster
-clusters_by s = clusters_in s.watches s.results s.table.rows
-
 -- the same of the cluster of this number
 abbrev pub cluster_by : State → ℕ → Option ServedCluster
 cluster_by s number = cluster_shown_in s.watches s.results (row_in number s.table.rows)
-
--- a state's active listeners with what is known of them, in the order of their names
-abbrev pub listeners_by : State → List ServedListener
-listeners_by s = listeners_in s.watches s.table.rows
 
 -- the same of the listener of this number
 abbrev pub listener_by : State → ℕ → Option ServedListener

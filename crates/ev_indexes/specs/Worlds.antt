@@ -11,7 +11,7 @@ use Rattle.ev_types.specs.declared.rows.GenRow.{GenRow}
 use Rattle.ev_model.specs.World.{World}
 use Rattle.ev_model.specs.Watching.{is_by_name}
 use Rattle.ev_model.specs.Warming.{value_by, last_told, last_timed, has_result, is_healthy}
-use Rattle.ev_endpoints.specs.Results.{result_in}
+use Rattle.ev_endpoints.specs.Kept.{result_in}
 use Rattle.ev_generations.specs.Tables.{IsTable, row_in}
 use Rattle.ev_indexes.specs.declared.state.State.{State}
 use Rattle.ev_indexes.specs.Watched.{watch_in}

@@ -143,33 +143,3 @@ fn take_out(map: &mut Numbers, address: &Host)
 {
     map.swap_remove(address);
 }
-
-impl TryCopy for Addresses {
-    fn copy(&self, alloc: Global) -> Result<Addresses, AllocError> {
-        Ok(Addresses {
-            numbers: copy_numbers(alloc, &self.numbers)?,
-        })
-    }
-}
-
-// The same entries in the same order, in memory of their own.
-fn copy_numbers(alloc: Global, map: &Numbers) -> Result<Numbers, AllocError>
-    ensures { IfOk result (λ copied. copied.entries ≡ map.now.entries) }
-{
-    let mut copied = IndexMap::with_hasher(alloc, *map.hasher());
-    for (address, numbers) in map {
-        put(&mut copied, address.copy(alloc)?, numbers.copy(alloc)?)?;
-    }
-    Ok(copied)
-}
-
-// Appends the numbers of an address that has none yet to the others.
-fn put(map: &mut Numbers, address: Host, numbers: Seq<Gen>) -> Result<(), AllocError>
-    requires { get host_same map.old address ≡ None }
-    ensures { OnOk result (map.new.entries ≡ map.old.entries ++ (address, numbers) ∷ []) }
-{
-    let Ok(_) = map.insert(address, numbers) else {
-        return Err(AllocError);
-    };
-    Ok(())
-}

@@ -4,7 +4,7 @@
 ghost use Rattle.std.specs.Prelude.{◌≡◌, ◌||◌, ◌&&◌, not, true, if◌then◌else◌, ◌+◌, length, ℕ, [], nat_eq, IfSome, IfNone, OnOk, OnErr};
 ghost use Rattle.ev_indexes.specs.Due.{is_one_of};
 
-use ev_types::{Gen, TryCopy};
+use ev_types::Gen;
 use indexmap::IndexSet;
 use std::alloc::{AllocError, Global};
 use std::marker::Model;
@@ -58,13 +58,5 @@ impl Due {
         ensures count { length self.new + (if is_one_of self.old number then 1 else 0) ≡ length self.old }
     {
         self.numbers.swap_remove(&number);
-    }
-}
-
-impl TryCopy for Due {
-    fn copy(&self, _alloc: Global) -> Result<Due, AllocError> {
-        Ok(Due {
-            numbers: self.numbers.clone()?,
-        })
     }
 }

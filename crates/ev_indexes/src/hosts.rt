@@ -6,7 +6,7 @@ ghost use Rattle.ev_indexes.specs.Ready.{assignment_in};
 ghost use Rattle.ev_indexes.specs.Ready.{takes_result};
 
 use crate::Watches;
-use ev_types::{Assignment, Content, Discovery, Host, Name};
+use ev_types::{Assignment, Content, Discovery, Host, Name, Shared};
 
 /// Whether the hosts of a generation of this content are health checked.
 pub(crate) fn is_checked(content: &Content) -> bool
@@ -19,25 +19,25 @@ pub(crate) fn is_checked(content: &Content) -> bool
 }
 
 /// The hosts of a generation of this content: those given in a cluster, or the value of its service.
-pub(crate) fn assignment<'a>(watches: &'a Watches, content: &'a Content) -> Option<&'a Assignment>
+pub fn assignment<'a>(watches: &'a Watches, content: &'a Content) -> Option<&'a Shared<Assignment>>
     ensures { unwrap_or (option_copied result) [] ≡ assignment_in watches.now content.now }
 {
     let Content::Cluster(cluster) = content else {
         return None;
     };
     match &cluster.get().discovery {
-        Discovery::Static(rows) => Some(rows.get()),
+        Discovery::Static(rows) => Some(rows),
         Discovery::Eds { service, .. } => value(watches, service),
         Discovery::Elsewhere => None,
     }
 }
 
 // The hosts that are the value of a service.
-fn value<'a>(watches: &'a Watches, service: &Name) -> Option<&'a Assignment>
+fn value<'a>(watches: &'a Watches, service: &Name) -> Option<&'a Shared<Assignment>>
     ensures { unwrap_or (option_copied result) [] ≡ rows_in (watch_in watches.now service.now).value }
 {
     match &watches.get(service)?.value {
-        Some(Content::Assignment(rows)) => Some(rows.get()),
+        Some(Content::Assignment(rows)) => Some(rows),
         _ => None,
     }
 }
@@ -50,7 +50,7 @@ pub fn takes_result(watches: &Watches, host: &Host, content: &Content) -> bool
         return false;
     }
     match assignment(watches, content) {
-        Some(rows) => rows.has(host),
+        Some(rows) => rows.get().has(host),
         None => false,
     }
 }

@@ -8,7 +8,6 @@
 #![tactic(auto)]
 
 mod addresses;
-mod copies;
 mod due;
 mod holders;
 mod hosts;
@@ -27,7 +26,7 @@ mod watches;
 
 pub use addresses::Addresses;
 pub use due::Due;
-pub use hosts::takes_result;
+pub use hosts::{assignment, takes_result};
 pub use names::{Names, Standing};
 pub use needs::{Need, need_at, place_count};
 pub use numbers::Numbers;

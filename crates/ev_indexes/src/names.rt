@@ -4,10 +4,9 @@ ghost use Rattle.std.specs.Str.{bytes_eq};
 ghost use Rattle.ev_indexes.specs.Kept.{Sets};
 ghost use Rattle.ev_indexes.specs.Standings.{nobody, standing_in};
 
-use crate::copies::copy_map;
 use ev_keys::Keys;
 use ev_mentions::NameKey;
-use ev_types::{Gen, Name, TryCopy};
+use ev_types::{Gen, Name};
 use indexmap::IndexMap;
 use std::alloc::{AllocError, Global};
 use std::marker::Model;
@@ -102,12 +101,4 @@ fn is_nobody(standing: &Standing) -> bool
     ensures { Decides result (standing.now ≡ nobody) }
 {
     standing.active.is_none() && standing.warming.is_none()
-}
-
-impl TryCopy for Names {
-    fn copy(&self, alloc: Global) -> Result<Names, AllocError> {
-        Ok(Names {
-            names: copy_map(alloc, &self.names)?,
-        })
-    }
 }

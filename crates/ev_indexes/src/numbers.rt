@@ -9,7 +9,7 @@ ghost use Rattle.std.specs.List.{list_any};
 ghost use Rattle.ev_indexes.specs.Numbers.{is_above_other, is_first_up_to};
 ghost use Rattle.ev_indexes.specs.Watched.{is_last, numbers_without, with_last};
 
-use ev_types::{Gen, TryCopy};
+use ev_types::Gen;
 use std::alloc::{AllocError, Global};
 use std::marker::Model;
 
@@ -119,16 +119,6 @@ impl Numbers {
         } else {
             numbers.iter().any(|number| number.number() <= made)
         }
-    }
-}
-
-impl TryCopy for Numbers {
-    fn copy(&self, _alloc: Global) -> Result<Numbers, AllocError> {
-        Ok(Numbers {
-            numbers: self.numbers.clone()?,
-            gone: self.gone,
-            rise: self.rise,
-        })
     }
 }
 

@@ -7,14 +7,14 @@ ghost use Rattle.ev_model.specs.Watching.{dependencies_of, is_watched};
 ghost use Rattle.ev_generations.specs.Tables.{numbers_of};
 ghost use Rattle.ev_indexes.specs.Indexes.{IsIndexed, depends_on, waits, numbers_waiting, numbers_where};
 ghost use Rattle.ev_indexes.specs.Needs.{need_at, places_of};
-ghost use Rattle.ev_indexes.specs.Reads.{live_rows, awaits_in, is_waiting_in, is_one_waiting, is_timeout_due, is_awaited_at, seen_at};
+ghost use Rattle.ev_indexes.specs.Reads.{is_as_healthy, live_rows, awaits_in, is_waiting_in, is_one_waiting, is_timeout_due, is_awaited_at, seen_at};
 ghost use Rattle.ev_indexes.specs.Worlds.{InWorlds, InWorldsWatching};
 
 use crate::ready::counts_for;
 use crate::{Need, State, Watch, need_at, place_count};
 use ev_generations::{Generations, Steps};
 use ev_mentions::LiveRow;
-use ev_types::{Content, Gen, GenRow, Name, Seq};
+use ev_types::{Content, Gen, GenRow, Host, Name, Seq};
 use std::alloc::{AllocError, Global};
 use std::sync::ledger::Ledger;
 
@@ -40,6 +40,18 @@ impl State {
         match self.watches.get_text(name) {
             Some(watch) => watch.put_watchers(numbers),
             None => Ok(()),
+        }
+    }
+
+    /// Whether a host is as healthy for the generation that serves this name as a result says, or none serves it: then the result
+    /// changes nothing that a picture shows. It costs a look-up of the name, of its generation and of the host.
+    pub fn is_as_healthy(&self, name: &Name, host: &Host, healthy: bool) -> bool
+        requires indexed { IsIndexed self.now }
+        ensures { result ≡ is_as_healthy self.now name.now host.now healthy }
+    {
+        match self.names.standing(name).active {
+            Some(number) => self.results.result(number, host).unwrap_or(false) == healthy,
+            None => true,
         }
     }
 

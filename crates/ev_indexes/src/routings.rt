@@ -1,38 +1,20 @@
 //! What a picture shows of listeners.
 
-ghost use Rattle.std.specs.Prelude.{◌≡◌, ◌++◌, [], ◌∷◌, Some, map, option_map, option_to_list, IfOk, OnOk};
-ghost use Rattle.std.specs.Str.{bytes_eq};
-ghost use Rattle.std.specs.List.{IsDistinct};
+ghost use Rattle.std.specs.Prelude.{◌≡◌, Some, map, option_map, IfOk};
 ghost use Rattle.ev_types.specs.declared.contents.Kind.TheVariants.{Lds};
-ghost use Rattle.ev_types.specs.declared.rows.GenRow as declared;
-ghost use Rattle.ev_model.specs.Sorted.{sorted_by};
-ghost use Rattle.ev_model.specs.Versions.{is_before};
 ghost use Rattle.ev_model.specs.Picture.{table_in};
 ghost use Rattle.ev_indexes.specs.Indexes.{IsIndexed};
-ghost use Rattle.ev_indexes.specs.Reads.{chain_in, listener_in, routing_in, listeners_found};
-ghost use Rattle.ev_indexes.specs.Shown.{first_of, listener_shown_in, listener_by, listeners_by, routed_at, all_routed_at};
+ghost use Rattle.ev_indexes.specs.Reads.{chain_in, listener_in, routing_in};
+ghost use Rattle.ev_indexes.specs.Shown.{first_of, listener_shown_in, listener_by, routed_at};
 ghost use Rattle.ev_indexes.specs.Watched.{watch_in};
 ghost use Rattle.ev_indexes.specs.Worlds.{InWorldsOf};
 
 use crate::{State, Watches};
-use ev_generations::Generations;
 use ev_model::{Routing, ServedChain, ServedListener};
 use ev_types::{Content, FilterChain, Gen, GenRow, Name, RouteTable, Seq, Serve, Shared, TryCopy};
 use std::alloc::{AllocError, Global};
 
 impl State {
-    /// What a picture shows of listeners once they serve: each active one with its chains and their routes or targets, in the
-    /// order of their names; where no routes came there are none. It goes over the whole table.
-    pub fn listeners(&self, alloc: Global) -> Result<Seq<ServedListener>, AllocError>
-        requires indexed { IsIndexed self.now }
-        ensures rows { IfOk result (λ served. served ≡ listeners_by self.now) }
-        ensures world { IfOk result (λ served. InWorldsOf Lds self.now (λ world. served ≡ all_routed_at world)) }
-    {
-        let mut served = listeners(alloc, &self.watches, &self.table)?;
-        sort(&mut served);
-        Ok(Seq::from_vec(served))
-    }
-
     /// What a picture shows of the listener of this number once listeners serve: where it is active, its chains with their
     /// routes or targets. It costs a look-up of the number, and one of a name for each chain that depends on one.
     pub fn listener(&self, alloc: Global, number: Gen) -> Result<Option<ServedListener>, AllocError>
@@ -67,8 +49,7 @@ fn listener(
     watches: &Watches,
     row: &GenRow,
 ) -> Result<Option<ServedListener>, AllocError>
-    ensures first { IfOk result (λ served. served ≡ first_of (listener_in watches.now row.now row.now.content)) }
-    ensures whole { IfOk result (λ served. option_to_list served ≡ listener_in watches.now row.now row.now.content) }
+    ensures { IfOk result (λ served. served ≡ first_of (listener_in watches.now row.now row.now.content)) }
 {
     let Content::Listener(listener) = &row.content else {
         return Ok(None);
@@ -82,39 +63,6 @@ fn listener(
         filter_chains: chains(alloc, watches, listener.filter_chains.as_slice())?,
         default_filter_chain: default_chain(alloc, watches, &listener.default_filter_chain)?,
     }))
-}
-
-// The active listeners of a table, in the order of the rows.
-fn listeners(
-    alloc: Global,
-    watches: &Watches,
-    table: &Generations,
-) -> Result<Vec<ServedListener>, AllocError>
-    ensures { IfOk result (λ served. served.items ≡ listeners_found watches.now table.now.rows) }
-{
-    let mut served = Vec::new(alloc);
-    for row in table.rows() {
-        push_listener(alloc, watches, row, &mut served)?;
-    }
-    Ok(served)
-}
-
-// Adds a listener to the others, where it is active.
-fn push_listener(
-    alloc: Global,
-    watches: &Watches,
-    row: &GenRow,
-    served: &mut Vec<ServedListener>,
-) -> Result<(), AllocError>
-    ensures { OnOk result (served.new.items ≡ served.old.items ++ listeners_found watches.now (row.now ∷ [])) }
-{
-    if !row.status.is_active() {
-        return Ok(());
-    }
-    if let Some(listener) = listener(alloc, watches, row)? {
-        served.push(listener)?;
-    }
-    Ok(())
 }
 
 // These chains, each with where its connections go.
@@ -176,12 +124,4 @@ fn value(alloc: Global, watches: &Watches, name: &Name) -> Result<Shared<RouteTa
             hosts: Seq::new(alloc),
         },
     )
-}
-
-// Sorts listeners by name, where their names differ.
-fn sort(served: &mut Vec<ServedListener>)
-    requires { IsDistinct bytes_eq (map (λ l. l.name) served.old.items) }
-    ensures { served.new.items ≡ sorted_by (λ l m. is_before l.name m.name) served.old.items }
-{
-    served.sort_unstable_by(|one, other| one.name.as_str().cmp(other.name.as_str()));
 }

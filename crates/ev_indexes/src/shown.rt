@@ -1,44 +1,29 @@
 //! What a picture shows of clusters.
 
-ghost use Rattle.std.specs.Prelude.{◌≡◌, ◌<◌, ◌++◌, [], ◌∷◌, Some, map, filter, length, IfOk, OnOk};
-ghost use Rattle.std.specs.Str.{bytes_eq};
-ghost use Rattle.std.specs.List.{IsDistinct};
+ghost use Rattle.std.specs.Prelude.{◌≡◌, true, Some, filter, IfOk, IfSome};
 ghost use Rattle.ev_types.specs.declared.contents.Kind.TheVariants.{Cds};
-ghost use Rattle.ev_types.specs.declared.limits.TheConstants.{ROW_LIMIT};
-ghost use Rattle.ev_types.specs.declared.rows.GenRow as declared;
+ghost use Rattle.ev_types.specs.Statuses.{is_active};
 ghost use Rattle.ev_model.specs.Picture.{is_elsewhere};
-ghost use Rattle.ev_model.specs.Sorted.{sorted_by};
-ghost use Rattle.ev_model.specs.Versions.{is_before};
-ghost use Rattle.ev_indexes.specs.Indexes.{IsIndexed};
-ghost use Rattle.ev_indexes.specs.Reads.{is_eligible_in, cluster_in, cluster_found, clusters_found, eligible_in};
-ghost use Rattle.ev_indexes.specs.Shown.{cluster_at, cluster_shown_in, clusters_at, clusters_by, cluster_by};
+ghost use Rattle.ev_endpoints.specs.Kept.{marked_in};
+ghost use Rattle.ev_indexes.specs.Indexes.{IsIndexed, IsAssignmentOf, MarksAssignment};
+ghost use Rattle.ev_indexes.specs.Reads.{is_eligible_in, cluster_in, eligible_in};
+ghost use Rattle.ev_indexes.specs.Shown.{cluster_at, cluster_shown_in, cluster_by};
 ghost use Rattle.ev_indexes.specs.Worlds.{InWorldsOf};
 
 use crate::hosts::{assignment, is_checked};
 use crate::{State, Watches};
 use ev_endpoints::Endpoints;
-use ev_generations::Generations;
-use ev_model::ServedCluster;
-use ev_types::{Assignment, Content, Discovery, Gen, GenRow, HostRow, Seq, TryCopy};
+use ev_hosts::{ChosenHosts, ShownCluster};
+use ev_types::{Assignment, Content, Discovery, Gen, GenRow, Seq, Shared, TryCopy};
 use std::alloc::{AllocError, Global};
 
 impl State {
-    /// What a picture shows of clusters now: each active one with its hosts that may be chosen, in the order of their names. It
-    /// goes over the whole table.
-    pub fn clusters(&self, alloc: Global) -> Result<Seq<ServedCluster>, AllocError>
-        requires indexed { IsIndexed self.now }
-        ensures rows { IfOk result (λ served. served ≡ clusters_by self.now) }
-        ensures world { IfOk result (λ served. InWorldsOf Cds self.now (λ world. served ≡ clusters_at world)) }
-    {
-        let mut served = clusters(alloc, &self.watches, &self.results, &self.table)?;
-        sort(&mut served);
-        Ok(Seq::from_vec(served))
-    }
-
     /// What a picture shows of the cluster of this number now: where it is active, its hosts that may be chosen. It costs a
-    /// look-up of the number and of the name that the cluster depends on, and one of each of its hosts.
-    pub fn cluster(&self, alloc: Global, number: Gen) -> Result<Option<ServedCluster>, AllocError>
+    /// look-up of the number; and where its rows are marked, a copy of the marks, else a look-up of the name that the cluster
+    /// depends on, and of each of its hosts.
+    pub fn cluster(&self, alloc: Global, number: Gen) -> Result<Option<ShownCluster>, AllocError>
         requires indexed { IsIndexed self.now }
+        requires marked { MarksAssignment self.now number }
         ensures rows { IfOk result (λ served. served ≡ cluster_by self.now number) }
         ensures world { IfOk result (λ served. InWorldsOf Cds self.now (λ world. served ≡ cluster_at world number)) }
     {
@@ -55,7 +40,9 @@ fn active_cluster(
     watches: &Watches,
     results: &Endpoints,
     row: &GenRow,
-) -> Result<Option<ServedCluster>, AllocError>
+) -> Result<Option<ShownCluster>, AllocError>
+    requires marked { is_active row.now.status ≡ true
+        → IfSome (marked_in results.now row.now.number) (IsAssignmentOf watches.now row.now.content) }
     ensures { IfOk result (λ served. served ≡ cluster_shown_in watches.now results.now (Some row.now)) }
 {
     if !row.status.is_active() {
@@ -70,10 +57,11 @@ fn cluster(
     watches: &Watches,
     results: &Endpoints,
     row: &GenRow,
-) -> Result<ServedCluster, AllocError>
+) -> Result<ShownCluster, AllocError>
+    requires marked { IfSome (marked_in results.now row.now.number) (IsAssignmentOf watches.now row.now.content) }
     ensures { IfOk result (λ served. served ≡ cluster_in watches.now results.now row.now) }
 {
-    Ok(ServedCluster {
+    Ok(ShownCluster {
         number: row.number,
         name: row.name.copy(alloc)?,
         hosts: eligible(alloc, watches, results, row)?,
@@ -91,78 +79,36 @@ fn is_elsewhere(content: &Content) -> bool
     }
 }
 
-// The active clusters of a table, in the order of the rows.
-fn clusters(
-    alloc: Global,
-    watches: &Watches,
-    results: &Endpoints,
-    table: &Generations,
-) -> Result<Vec<ServedCluster>, AllocError>
-    ensures { IfOk result (λ served. served.items ≡ clusters_found watches.now results.now table.now.rows) }
-{
-    let mut served = Vec::new(alloc);
-    for row in table.rows() {
-        push_cluster(alloc, watches, results, row, &mut served)?;
-    }
-    Ok(served)
-}
-
-// Adds a cluster to the others, where it is active.
-fn push_cluster(
-    alloc: Global,
-    watches: &Watches,
-    results: &Endpoints,
-    row: &GenRow,
-    served: &mut Vec<ServedCluster>,
-) -> Result<(), AllocError>
-    ensures { OnOk result (served.new.items ≡ served.old.items ++ cluster_found watches.now results.now row.now) }
-{
-    if row.status.is_active() {
-        served.push(cluster(alloc, watches, results, row)?)?;
-    }
-    Ok(())
-}
-
-// The hosts of a cluster that may be chosen.
+// The hosts of a cluster that may be chosen: of marked rows what is marked, else each is looked at.
 fn eligible(
     alloc: Global,
     watches: &Watches,
     results: &Endpoints,
     row: &GenRow,
-) -> Result<Assignment, AllocError>
+) -> Result<ChosenHosts, AllocError>
+    requires marked { IfSome (marked_in results.now row.now.number) (IsAssignmentOf watches.now row.now.content) }
     ensures { IfOk result (λ hosts. hosts ≡ eligible_in watches.now results.now row.now) }
 {
+    if let Some(chosen) = results.chosen(alloc, row.number)? {
+        return Ok(chosen);
+    }
     match assignment(watches, &row.content) {
-        Some(hosts) => Ok(Assignment::new(choose(alloc, results, row, hosts.rows())?)),
-        None => Ok(Assignment::new(Seq::new(alloc))),
+        Some(hosts) => choose(alloc, results, row, hosts),
+        None => ChosenHosts::listed(alloc, Seq::new(alloc)),
     }
 }
 
 // Those of these hosts that may be chosen.
+#[tactic(auto, using(ev_hosts::proofs::ChosenLemmas::chosen_map))]
 fn choose(
     alloc: Global,
     results: &Endpoints,
     row: &GenRow,
-    hosts: &[HostRow],
-) -> Result<Seq<HostRow>, AllocError>
-    requires { length hosts.now < ROW_LIMIT }
-    ensures chosen { IfOk result (λ chosen. chosen ≡ filter (is_eligible_in results.now row.now) hosts.now) }
-    ensures few { IfOk result (λ chosen. length chosen < ROW_LIMIT) }
+    hosts: &Shared<Assignment>,
+) -> Result<ChosenHosts, AllocError>
+    ensures { IfOk result (λ chosen. chosen ≡ filter (is_eligible_in results.now row.now) hosts.now) }
 {
     let checked = is_checked(&row.content);
-    let mut chosen = Vec::new(alloc);
-    for host in hosts {
-        if results.eligible(row.number, checked, host) {
-            chosen.push(host.copy(alloc)?)?;
-        }
-    }
-    Ok(Seq::from_vec(chosen))
-}
-
-// Sorts clusters by name, where their names differ.
-fn sort(served: &mut Vec<ServedCluster>)
-    requires { IsDistinct bytes_eq (map (λ c. c.name) served.old.items) }
-    ensures { served.new.items ≡ sorted_by (λ c d. is_before c.name d.name) served.old.items }
-{
-    served.sort_unstable_by(|one, other| one.name.as_str().cmp(other.name.as_str()));
+    let marks = results.marks_of(alloc, row.number, checked, hosts.get())?;
+    Ok(ChosenHosts::new(hosts.share()?, marks))
 }

@@ -7,8 +7,8 @@ use crate::{Addresses, Due, Names, Watches};
 use ev_endpoints::Endpoints;
 use ev_generations::Generations;
 use ev_keys::Keys;
-use ev_types::{Kind, TryCopy};
-use std::alloc::{AllocError, Global};
+use ev_types::Kind;
+use std::alloc::Global;
 
 /// The table of the generations of one kind, with its indexes.
 #[derive(Drop)]
@@ -40,19 +40,5 @@ impl State {
             results: Endpoints::new(alloc, keys),
             due: Due::new(alloc),
         }
-    }
-}
-
-impl TryCopy for State {
-    fn copy(&self, alloc: Global) -> Result<State, AllocError> {
-        Ok(State {
-            kind: self.kind,
-            table: self.table.copy(alloc)?,
-            names: self.names.copy(alloc)?,
-            watches: self.watches.copy(alloc)?,
-            addresses: self.addresses.copy(alloc)?,
-            results: self.results.copy(alloc)?,
-            due: self.due.copy(alloc)?,
-        })
     }
 }

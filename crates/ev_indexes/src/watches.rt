@@ -10,7 +10,6 @@ ghost use Rattle.ev_indexes.specs.Due.{has_number};
 ghost use Rattle.ev_indexes.specs.Watched.{Turns, unwatched, has_watcher, watchers_of, watched_too, watched_less, with_arrival};
 
 use crate::Numbers;
-use crate::copies::copy_map;
 use ev_keys::Keys;
 use ev_mentions::NameKey;
 use ev_types::{Arrival, Content, Gen, Name, Seq, TryCopy};
@@ -163,14 +162,6 @@ impl Watches {
         ensures { Sets unwatched self.old self.new name.now unwatched }
     {
         self.watches.swap_remove(name);
-    }
-}
-
-impl TryCopy for Watches {
-    fn copy(&self, alloc: Global) -> Result<Watches, AllocError> {
-        Ok(Watches {
-            watches: copy_map(alloc, &self.watches)?,
-        })
     }
 }
 

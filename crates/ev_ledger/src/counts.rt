@@ -82,10 +82,3 @@ pub(crate) fn lower_on(counts: &mut IndexMap<u32, u64>, on: (Gen, Option<Gen>))
         None => {}
     }
 }
-
-/// The same counts, in memory of their own.
-pub(crate) fn copy_counts(counts: &IndexMap<u32, u64>) -> Result<IndexMap<u32, u64>, AllocError>
-    ensures { IfOk result (λ copied. copied.entries ≡ counts.now.entries) }
-{
-    counts.clone()
-}

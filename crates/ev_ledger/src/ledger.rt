@@ -3,10 +3,10 @@ ghost use Rattle.ev_model.specs.Connections.{is_open, member_on, closed};
 ghost use Rattle.std.specs.List.{list_any};
 ghost use Rattle.ev_ledger.specs.Members.{is_of_worker, with_member, AreApart, AreInOrder, ArePlacesOn, IsAnswerOf, Opens, HasOpenedAfter, HasOpened, count_of, held_in, held_of, on_in};
 
-use crate::counts::{copy_counts, count_in, lower_on, raise_on};
-use crate::members::{Members, copy_members, found, has_any, held, is_there, put, take};
-use crate::places::{Places, copy_places, enter, leave, places_on};
-use ev_types::{Gen, TryCopy};
+use crate::counts::{count_in, lower_on, raise_on};
+use crate::members::{Members, found, has_any, held, is_there, put, take};
+use crate::places::{Places, enter, leave, places_on};
+use ev_types::Gen;
 use indexmap::IndexMap;
 use std::alloc::{AllocError, Global};
 use std::collections::{BTreeMap, BTreeSet};
@@ -144,15 +144,5 @@ impl Ledger {
         ensures world { IfOk result (λ held. IsAnswerOf (held_in worker) self.now held.items) }
     {
         held(alloc, &self.members, worker as u64)
-    }
-}
-
-impl TryCopy for Ledger {
-    fn copy(&self, _alloc: Global) -> Result<Ledger, AllocError> {
-        Ok(Ledger {
-            members: copy_members(&self.members)?,
-            counts: copy_counts(&self.counts)?,
-            places: copy_places(&self.places)?,
-        })
     }
 }

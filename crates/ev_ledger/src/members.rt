@@ -86,10 +86,3 @@ pub(crate) fn held(
         .map(|(place, on)| (place.1, on.0))
         .collect(alloc)
 }
-
-/// The same connections, in memory of their own.
-pub(crate) fn copy_members(members: &Members) -> Result<Members, AllocError>
-    ensures { IfOk result (λ copied. copied.entries ≡ members.now.entries) }
-{
-    members.clone()
-}

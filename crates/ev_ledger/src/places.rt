@@ -40,10 +40,3 @@ pub(crate) fn places_on(
         .map(|key| key.1)
         .collect(alloc)
 }
-
-/// The same connections, in memory of their own.
-pub(crate) fn copy_places(places: &Places) -> Result<Places, AllocError>
-    ensures { IfOk result (λ copied. copied.keys ≡ places.now.keys) }
-{
-    places.clone()
-}

@@ -1,7 +1,6 @@
 pub mod Fronts
 pub mod Firsts
 pub mod Places
-pub mod Priorities
 pub mod Numbered
 pub mod Patterns
 pub mod Stars

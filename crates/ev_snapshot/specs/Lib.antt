@@ -5,7 +5,6 @@ pub mod Wanted
 pub mod Requests
 pub mod Tables
 pub mod Chosen
-pub mod Weighed
 pub mod Changes
 pub mod Layers
 pub mod Rows

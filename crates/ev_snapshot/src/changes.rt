@@ -1,11 +1,12 @@
-use ev_model::{ServedCluster, ServedListener};
+use ev_hosts::ShownCluster;
+use ev_model::ServedListener;
 use ev_types::{Gen, Seq};
 
 /// What a picture shows of the generation of this number from now on: a cluster, or nothing.
 #[derive(Drop)]
 pub struct ClusterChange {
     pub number: Gen,
-    pub served: Option<ServedCluster>,
+    pub served: Option<ShownCluster>,
 }
 
 /// What a picture shows of the generation of this number from now on: a listener, or nothing.

@@ -61,18 +61,17 @@
 //! - Each domain as lower case is kept once a routing, and shared by list and table. A route table that several
 //!   listeners share is turned into lower case, and its virtual hosts indexed, once for each; so it is for chains of
 //!   one listener that don't follow each other.
-//! - What serves now comes as data, and not as a shared part, so a cluster whose number is in the last picture is
-//!   compared with it first, and is taken over from there where it is equal, and of a listener the tables of its
-//!   chains. Routes are shared with the resource that brought them and never copied.
+//! - A cluster whose number is in the last picture is compared with it first, and is taken over from there where it is
+//!   equal, and of a listener the tables of its chains. A cluster's hosts are shared with its assignment, and routes
+//!   with the resource that brought them: they are never copied.
 //! - That a chosen host is eligible is said of worlds that show what the picture shows: a picture has no ineligible
 //!   hosts, and doesn't say why.
-//! - The lowest priority of a cluster's hosts and the sum of the weights at it are kept with the cluster, so an ask
-//!   goes over its hosts once, up to the one that is picked.
 #![tactic(auto)]
 
 mod address_texts;
 mod addresses;
 mod changes;
+mod clusters;
 mod conditions;
 mod criteria;
 mod criterion;
@@ -82,7 +81,6 @@ mod domains;
 mod folded_paths;
 mod groups;
 mod host_texts;
-mod hosts;
 mod lengths;
 mod listeners;
 mod names;
@@ -100,7 +98,6 @@ mod table;
 mod targets;
 mod texts;
 mod texts_in_case;
-mod weighed;
 
 pub use changes::{Changes, ClusterChange, ListenerChange};
 pub use snapshot::Snapshot;

@@ -7,16 +7,16 @@ use crate::changes::{Changes, ClusterChange, ListenerChange};
 use crate::listeners::Listeners;
 use crate::routed::RoutedListener;
 use crate::rows::Rows;
-use crate::weighed::WeighedCluster;
+use ev_hosts::ShownCluster;
 use ev_keys::Keys;
-use ev_model::{ServedCluster, ServedListener};
-use ev_types::Shared;
+use ev_model::ServedListener;
+use ev_types::{Shared, TryCopy};
 use std::alloc::{AllocError, Global};
 
 /// The clusters and the listeners of a picture.
 #[derive(Drop)]
 pub(crate) struct Parts {
-    pub(crate) clusters: Rows<WeighedCluster>,
+    pub(crate) clusters: Rows<ShownCluster>,
     pub(crate) listeners: Listeners,
 }
 
@@ -45,7 +45,7 @@ impl Parts {
 /// The clusters and the listeners after these changes. Each that is as before is shared with those before.
 pub(crate) fn parts_with(
     alloc: Global,
-    clusters: &Rows<WeighedCluster>,
+    clusters: &Rows<ShownCluster>,
     listeners: &Listeners,
     changes: &Changes,
 ) -> Result<Parts, AllocError>
@@ -63,9 +63,9 @@ pub(crate) fn parts_with(
 // The clusters after these changes.
 fn clusters_with(
     alloc: Global,
-    before: &Rows<WeighedCluster>,
+    before: &Rows<ShownCluster>,
     changes: &[ClusterChange],
-) -> Result<Rows<WeighedCluster>, AllocError>
+) -> Result<Rows<ShownCluster>, AllocError>
     ensures { IfOk result (λ clusters. clusters ≡ clusters_with changes.now before.now) }
 {
     let clusters = without_clusters(before.copy(alloc)?, changes)?;
@@ -74,9 +74,9 @@ fn clusters_with(
 
 // The clusters without those of the numbers that changed.
 fn without_clusters(
-    clusters: Rows<WeighedCluster>,
+    clusters: Rows<ShownCluster>,
     changes: &[ClusterChange],
-) -> Result<Rows<WeighedCluster>, AllocError>
+) -> Result<Rows<ShownCluster>, AllocError>
     ensures { IfOk result (λ new. new ≡ clusters_without changes.now clusters) }
 {
     let mut left = clusters;
@@ -89,10 +89,10 @@ fn without_clusters(
 // The clusters with those that changed and serve now.
 fn put_clusters(
     alloc: Global,
-    clusters: Rows<WeighedCluster>,
-    before: &Rows<WeighedCluster>,
+    clusters: Rows<ShownCluster>,
+    before: &Rows<ShownCluster>,
     changes: &[ClusterChange],
-) -> Result<Rows<WeighedCluster>, AllocError>
+) -> Result<Rows<ShownCluster>, AllocError>
     ensures { IfOk result (λ new. new ≡ put_clusters changes.now clusters) }
 {
     let mut all = clusters;
@@ -105,10 +105,10 @@ fn put_clusters(
 // The clusters with that of a change, if it serves now.
 fn put_cluster(
     alloc: Global,
-    clusters: Rows<WeighedCluster>,
-    before: &Rows<WeighedCluster>,
+    clusters: Rows<ShownCluster>,
+    before: &Rows<ShownCluster>,
     change: &ClusterChange,
-) -> Result<Rows<WeighedCluster>, AllocError>
+) -> Result<Rows<ShownCluster>, AllocError>
     ensures { IfOk result (λ new. new ≡ put_cluster change.now.served clusters) }
 {
     match &change.served {
@@ -120,23 +120,23 @@ fn put_cluster(
 // The cluster, shared with those before where that of its number is the same.
 fn shared_cluster(
     alloc: Global,
-    cluster: &ServedCluster,
-    before: &Rows<WeighedCluster>,
-) -> Result<Shared<WeighedCluster>, AllocError>
+    cluster: &ShownCluster,
+    before: &Rows<ShownCluster>,
+) -> Result<Shared<ShownCluster>, AllocError>
     ensures { IfOk result (λ shared. shared ≡ cluster.now) }
 {
     if let Some(held) = before.numbered(cluster.number) {
-        if *held.get().served() == *cluster {
+        if *held.get() == *cluster {
             return held.share();
         }
     }
-    Shared::new(alloc, WeighedCluster::new(alloc, cluster)?)
+    Shared::new(alloc, cluster.copy(alloc)?)
 }
 
 // Whether these changes leave the clusters under each name that they touch.
 fn keep_clusters(
-    before: &Rows<WeighedCluster>,
-    after: &Rows<WeighedCluster>,
+    before: &Rows<ShownCluster>,
+    after: &Rows<ShownCluster>,
     changes: &[ClusterChange],
 ) -> bool
     ensures { result ≡ list_all (clusters_keep before.now after.now) changes.now }
@@ -148,8 +148,8 @@ fn keep_clusters(
 
 // Whether a change leaves the clusters under each name that it touches.
 fn keeps_cluster(
-    before: &Rows<WeighedCluster>,
-    after: &Rows<WeighedCluster>,
+    before: &Rows<ShownCluster>,
+    after: &Rows<ShownCluster>,
     change: &ClusterChange,
 ) -> bool
     ensures { result ≡ clusters_keep before.now after.now change.now }
@@ -159,8 +159,8 @@ fn keeps_cluster(
 
 // Whether the cluster of a change leaves the clusters under each name that it touches.
 fn keeps_served_cluster(
-    before: &Rows<WeighedCluster>,
-    after: &Rows<WeighedCluster>,
+    before: &Rows<ShownCluster>,
+    after: &Rows<ShownCluster>,
     change: &ClusterChange,
 ) -> bool
     ensures { result ≡ served_cluster_keeps before.now after.now change.now.served }
@@ -276,7 +276,7 @@ fn keeps_served_listener(before: &Listeners, after: &Listeners, change: &Listene
 
 /// Whether changes leave the clusters and the listeners under each name that they touch.
 pub(crate) fn keep_all(
-    clusters: &Rows<WeighedCluster>,
+    clusters: &Rows<ShownCluster>,
     listeners: &Listeners,
     after: &Parts,
     changes: &Changes,

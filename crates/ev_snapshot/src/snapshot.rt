@@ -18,7 +18,7 @@ use crate::routed::RoutedListener;
 use crate::routed_chain::IndexedRouting;
 use crate::routed_host::RoutedHost;
 use crate::targets::{name_picked, weight_sum};
-use crate::weighed::WeighedCluster;
+use ev_hosts::ShownCluster;
 use ev_keys::Keys;
 use ev_model::{Choice, Routing, Taken};
 use ev_types::{Action, Ask, Gen, Host, Route, Target};
@@ -111,10 +111,7 @@ impl Snapshot {
         let Some(served) = self.parts.clusters.numbered(cluster) else {
             return None;
         };
-        match served.get().served().hosts.rows().get(place as usize) {
-            Some(row) => Some(&row.host),
-            None => None,
-        }
+        served.get().hosts.host(place)
     }
 
     /// Where a connection goes: by its listener, the filter chain that is left for it, the virtual host and the first route that
@@ -262,7 +259,7 @@ fn version_after(version: u64) -> Result<u64, AllocError>
 }
 
 // The choice with the cluster.
-fn choose_host(listener: Gen, cluster: Option<&WeighedCluster>, pick: u64) -> Choice
+fn choose_host(listener: Gen, cluster: Option<&ShownCluster>, pick: u64) -> Choice
     ensures { result ≡ choice_in listener (option_copied cluster.entry) pick }
 {
     match cluster {
@@ -272,17 +269,17 @@ fn choose_host(listener: Gen, cluster: Option<&WeighedCluster>, pick: u64) -> Ch
 }
 
 // The choice in a cluster: one of its hosts, or where Envoy finds one by itself.
-fn choose_in(listener: Gen, cluster: &WeighedCluster, pick: u64) -> Choice
+fn choose_in(listener: Gen, cluster: &ShownCluster, pick: u64) -> Choice
     ensures { result ≡ in_cluster listener cluster.now pick }
 {
-    let number = cluster.served().number;
-    if cluster.served().elsewhere {
+    let number = cluster.number;
+    if cluster.elsewhere {
         return Choice::Elsewhere {
             listener,
             cluster: Some(number),
         };
     }
-    match cluster.host_place(pick) {
+    match cluster.hosts.host_place(pick) {
         Some(host) => Choice::Served {
             listener,
             cluster: number,

@@ -1,13 +1,14 @@
 -- A health result changes what a picture shows of the cluster alone that serves the name.
-use Rattle.std.proofs.Common.{◌≡◌, ◌∙◌, ℕ, Bool, true, false, cond, ◌&&◌, nat_eq, List, [], ◌∷◌, ◌++◌, None, Some, map, filter, refl, sym, ap}
+use Rattle.std.proofs.Common.{◌≡◌, ◌∙◌, ℕ, Bool, true, false, cond, ◌&&◌, nat_eq, List, [], ◌∷◌, ◌++◌, ◌⊎◌, inl, inr, Option, None, Some, map, filter, refl, sym, ap}
 use Rattle.std.specs.Prelude.{unwrap_or}
 use Rattle.std.specs.List.{AllByRecursion, IsDistinct, last_or}
 use Rattle.std.specs.Str.{bytes_eq}
 use Rattle.std.proofs.lemmas.Bool.{false≢true, eqb-true}
+use Rattle.std.proofs.lemmas.List.{map-append}
 use Rattle.std.proofs.lemmas.List.Elements.{filter-append}
 use Rattle.ev_types.specs.Hosts.{HostRowParts}
 use Rattle.ev_types.specs.Kinds.{kind_same}
-use Rattle.ev_types.specs.SameHosts.{host_same, has_host}
+use Rattle.ev_types.specs.SameHosts.{host_same, host_decides, has_host}
 use Rattle.ev_types.specs.Statuses.{is_live}
 use Rattle.ev_types.specs.declared.contents.Kind.TheVariants.{Cds}
 use Rattle.ev_types.specs.declared.hosts.Host.{Host}
@@ -22,6 +23,7 @@ use Rattle.ev_indexes.specs.Due.{is_one_of}
 use Rattle.ev_indexes.specs.Indexes.{serves, numbers_where}
 use Rattle.ev_indexes.specs.Worlds.{rows_of_kind}
 use Rattle.ev_indexes.proofs.RowLemmas.{all_then}
+use Rattle.ev_warming.proofs.ArrivalLemmas.{last_or-append}
 use Rattle.ev_indexes.proofs.WhereLemmas.{among-where, own-rows}
 use Rattle.ev_state.proofs.StillLemmas.{serving}
 use Rattle.ev_state.proofs.SameLemmas.{AreSame, SameResults}
@@ -54,6 +56,38 @@ results_same n given healthy results rows others [] = tt
 results_same n given healthy results rows others (h ∷ hosts) =
     (healthy_same n h.host given healthy results rows others, results_same n given healthy results rows others hosts)
 
+-- results that say of a host what was known of it change nothing
+last_as : (n : ℕ) (h given : Host) (healthy : Bool) (rows : List GenRow) (o : Option Bool) → (host_same given h ≡ true → unwrap_or o false ≡ healthy)
+    → unwrap_or (last_or o (map (λ (r : HealthResult). r.healthy) (filter (is_result_of n h) (map (result_for given healthy) rows)))) false ≡ unwrap_or o false
+last_as n h given healthy [] o as = refl
+last_as n h given healthy (row ∷ rows) o as = by (nat_eq row.number n) (host_same given h) refl (λ (p : Option Bool) q. last_as n h given healthy rows p q)
+  where
+    by : (a b : Bool) → host_same given h ≡ b
+        → ((p : Option Bool) → (host_same given h ≡ true → unwrap_or p false ≡ healthy)
+        → unwrap_or (last_or p (map (λ (r : HealthResult). r.healthy) (filter (is_result_of n h) (map (result_for given healthy) rows)))) false ≡ unwrap_or p false)
+        → unwrap_or (last_or o (map (λ (r : HealthResult). r.healthy)
+        (cond (a && b) (result_for given healthy row ∷ filter (is_result_of n h) (map (result_for given healthy) rows)) (filter (is_result_of n h) (map (result_for given healthy) rows))))) false
+        ≡ unwrap_or o false
+    by true true e rest = rest (Some healthy) (λ same. refl) ∙ sym (as e)
+    by true false e rest = rest o as
+    by false b e rest = rest o as
+
+still_as : (n : ℕ) (given : Host) (healthy : Bool) (results : List HealthResult) (rows : List GenRow) → is_healthy results n given ≡ healthy
+    → (hosts : List HostRowParts) → SameResults results (results ++ map (result_for given healthy) rows) n hosts
+still_as n given healthy results rows as [] = tt
+still_as n given healthy results rows as (h ∷ hosts) = (one h.host, still_as n given healthy results rows as hosts)
+  where
+    one : (k : Host) → is_healthy (results ++ map (result_for given healthy) rows) n k ≡ is_healthy results n k
+    one k =
+        ap (λ (rs : List HealthResult). unwrap_or (last_or None (map (λ (r : HealthResult). r.healthy) rs)) false)
+        (filter-append (is_result_of n k) results (map (result_for given healthy) rows))
+        ∙ ap (λ (bs : List Bool). unwrap_or (last_or None bs) false)
+        (map-append (λ (r : HealthResult). r.healthy) (filter (is_result_of n k) results) (filter (is_result_of n k) (map (result_for given healthy) rows)))
+        ∙ ap (λ o. unwrap_or o false)
+        (last_or-append None (map (λ (r : HealthResult). r.healthy) (filter (is_result_of n k) results)) (map (λ (r : HealthResult). r.healthy) (filter (is_result_of n k) (map (result_for given healthy) rows))))
+        ∙ last_as n k given healthy rows (last_or None (map (λ (r : HealthResult). r.healthy) (filter (is_result_of n k) results)))
+        (λ same. (λ i. is_healthy results n (sym ((host_decides given k).0 same) i)) ∙ as)
+
 -- what holds of each row that passes holds of all that are left
 all_left : (P : GenRow → Type 0) (keep : GenRow → Bool) (rows : List GenRow) → AllByRecursion (λ (r : GenRow). keep r ≡ true → P r) rows → AllByRecursion P (filter keep rows)
 all_left P keep [] all = tt
@@ -65,14 +99,15 @@ all_left P keep (row ∷ rows) all = by (keep row) all.0 (all_left P keep rows a
 
 module _ (changed : List ℕ) (clusters : State) (name : List ℕ) (host : Host) (healthy : Bool) (world : World)
     (of_clusters : clusters.table.rows ≡ rows_of_kind Cds world.rows) (apart : IsDistinct nat_eq (numbers_of world.rows))
-    (told : (n : ℕ) → is_one_of changed n ≡ false → is_one_of (numbers_where (serves name) clusters.table.rows) n ≡ false) where
+    (told : (n : ℕ) → is_one_of changed n ≡ false
+        → (is_one_of (numbers_where (serves name) clusters.table.rows) n ≡ false) ⊎ (is_healthy world.results n host ≡ healthy)) where
   name_of : (kind named live checked assigned : Bool) → (kind && named && live && checked && assigned) ≡ true → named ≡ true
   name_of true true live checked assigned h = refl
   name_of true false live checked assigned h = absurd (false≢true h)
   name_of false named live checked assigned h = absurd (false≢true h)
 
   -- a cluster that serves another name is none of those that the result is for
-  not_meant : (n : ℕ) (row : GenRow) → is_one_of changed n ≡ false → serving Cds (row_in n world.rows) ≡ Some row
+  not_meant : (n : ℕ) (row : GenRow) → is_one_of (numbers_where (serves name) clusters.table.rows) n ≡ false → serving Cds (row_in n world.rows) ≡ Some row
       → (r : GenRow) → row_in r.number world.rows ≡ Some r → is_meant world.arrivals name host r ≡ true → nat_eq r.number row.number ≡ false
   not_meant n row other at r own meant = by (nat_eq r.number row.number) refl
     where
@@ -86,18 +121,25 @@ module _ (changed : List ℕ) (clusters : State) (name : List ℕ) (host : Host)
           let named : bytes_eq row.name name ≡ true =
           (λ i. bytes_eq (sym same i).name name)
           ∙ name_of (kind_same r.kind Cds) (bytes_eq r.name name) (is_live r.status) (is_checked r.content) (has_host host (assignment_by world.arrivals r.content)) meant in
-          absurd (false≢true (sym (told n other)
+          absurd (false≢true (sym other
           ∙ among-where (serves name) n row clusters.table.rows (served-at Cds n row world.rows clusters.table.rows apart of_clusters at) (λ i. served.active i && named i)))
 
   pub resulted-same : AreSame changed world (with_results host healthy (rows_meant world.arrivals name host world.rows) world)
   resulted-same = record {
     clusters = record { rows = λ n other. refl; values = λ n row other at q needs. refl };
     listeners = record { rows = λ n other. refl; values = λ n row other at q needs. refl };
-    results = λ n row other at.
-        results_same row.number host healthy world.results (rows_meant world.arrivals name host world.rows)
-        (all_left (λ (r : GenRow). nat_eq r.number row.number ≡ false) (is_meant world.arrivals name host) world.rows
-        (all_then (λ (r : GenRow). row_in r.number world.rows ≡ Some r) (λ (r : GenRow). is_meant world.arrivals name host r ≡ true → nat_eq r.number row.number ≡ false) world.rows
-        (λ r own meant. not_meant n row other at r own meant) (own-rows world.rows apart)))
-        (assignment_by world.arrivals row.content);
+    results = λ n row other at. elim (told n other) [
+      | inl isnt ↦
+          results_same row.number host healthy world.results (rows_meant world.arrivals name host world.rows)
+          (all_left (λ (r : GenRow). nat_eq r.number row.number ≡ false) (is_meant world.arrivals name host) world.rows
+          (all_then (λ (r : GenRow). row_in r.number world.rows ≡ Some r) (λ (r : GenRow). is_meant world.arrivals name host r ≡ true → nat_eq r.number row.number ≡ false) world.rows
+          (λ r own meant. not_meant n row isnt at r own meant) (own-rows world.rows apart)))
+          (assignment_by world.arrivals row.content)
+      | inr as ↦
+          let served = served-is Cds (row_in n world.rows) row at in
+          still_as row.number host healthy world.results (rows_meant world.arrivals name host world.rows)
+          ((λ i. is_healthy world.results (number-row_in n row world.rows served.at i) host) ∙ as)
+          (assignment_by world.arrivals row.content)
+    ];
     phase = refl;
   }

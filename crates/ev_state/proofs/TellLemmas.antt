@@ -1,5 +1,5 @@
 -- What is reported of changes is so: a picture shows the same of each number that isn't reported.
-use Rattle.std.proofs.Common.{◌≡◌, ◌∙◌, ℕ, Bool, true, false, cond, not, ◌&&◌, ◌||◌, nat_eq, List, [], ◌∷◌, ◌++◌, Option, None, Some, refl, sym, ap, subst}
+use Rattle.std.proofs.Common.{◌≡◌, ◌∙◌, ◌⊎◌, ℕ, Bool, true, false, cond, not, ◌&&◌, ◌||◌, nat_eq, List, [], ◌∷◌, ◌++◌, Option, None, Some, refl, sym, ap, subst}
 use Rattle.std.proofs.lemmas.Bool.{false≢true, eqb-true}
 use Rattle.ev_types.specs.Items.{ResponseParts}
 use Rattle.ev_types.specs.Kinds.{kind_same}
@@ -16,7 +16,7 @@ use Rattle.ev_model.specs.Phase.{is_serving, phase_after}
 use Rattle.ev_model.specs.Rows.{arrived, with_removals, add_items, with_first}
 use Rattle.ev_model.specs.Signals.{rows_meant, with_results, with_end, forget_version}
 use Rattle.ev_model.specs.Tidy.{tidy, promoted, without_unwatched, without_old_results}
-use Rattle.ev_model.specs.Warming.{value_by, assignment_by}
+use Rattle.ev_model.specs.Warming.{value_by, assignment_by, is_healthy}
 use Rattle.ev_types.specs.declared.rows.Arrival.TheVariants.{TimedOut}
 use Rattle.ev_generations.specs.Tables.{row_in}
 use Rattle.ev_indexes.specs.Due.{is_one_of}
@@ -124,15 +124,16 @@ module _ (changed put retired : List ℕ) (m : Managers) (before after : World) 
       (λ n other. (parts n other).1) (λ n other. (parts n other).2)
       kind name leads (λ n other. (λ i. is_one_of (sym told i) n) ∙ (parts n other).0))
 
--- after a health result, the cluster that serves the name
+-- after a health result, the cluster that serves the name, where the host was not as healthy before
 pub resulted-changed : (changed : List ℕ) (m : Managers) (name : List ℕ) (host : Host) (healthy : Bool) (world : World) → AreManagersKept m
     → StandFor m (with_results host healthy (rows_meant world.arrivals name host world.rows) world)
-    → changed ≡ numbers_where (serves name) m.clusters.state.table.rows
+    → ((n : ℕ) → is_one_of changed n ≡ false
+    → (is_one_of (numbers_where (serves name) m.clusters.state.table.rows) n ≡ false) ⊎ (is_healthy world.results n host ≡ healthy))
     → HaveChanged changed world (with_results host healthy (rows_meant world.arrivals name host world.rows) world)
 resulted-changed changed m name host healthy world kept stand are =
     same-changed changed world (with_results host healthy (rows_meant world.arrivals name host world.rows) world)
     (resulted-same changed m.clusters.state name host healthy world (rows-are m Cds (with_results host healthy (rows_meant world.arrivals name host world.rows) world) kept stand) stand.clusters.sound.table.apart
-    (λ n other. (λ i. is_one_of (sym are i) n) ∙ other))
+    are)
 
 -- what was reported, what came to serve or began to drain, and the listeners that come to serve together
 module _ (old more all : List ℕ) (m after last : Managers) (before world : World) (kept : AreManagersKept m) (kept_after : AreManagersKept after) (kept_last : AreManagersKept last)

@@ -2,10 +2,11 @@ ghost use Rattle.std.specs.Prelude.{◌≡◌, option_copied, IfOk};
 ghost use Rattle.ev_model.specs.World.{World};
 ghost use Rattle.ev_generations.specs.Tables.{row_in};
 ghost use Rattle.ev_indexes.specs.Shown.{cluster_at, listener_at};
-ghost use Rattle.ev_managers.specs.Managers.{AreManagersKept};
+ghost use Rattle.ev_managers.specs.Managers.{AreForgotten, AreManagersKept};
 
 use crate::state::State;
-use ev_model::{ServedCluster, ServedListener};
+use ev_hosts::ShownCluster;
+use ev_model::ServedListener;
 use ev_types::{Gen, GenRow, Phase};
 use std::alloc::{AllocError, Global};
 
@@ -37,9 +38,11 @@ impl State {
     }
 
     /// What a picture shows of the cluster of this number now: where it is active, its hosts that may be chosen. It costs a look-up of
-    /// the number and of the name that the cluster depends on, and one of each of its hosts.
-    pub fn cluster(&self, alloc: Global, number: Gen) -> Result<Option<ServedCluster>, AllocError>
+    /// the number; and where its rows are marked, a copy of the marks, else a look-up of the name that the cluster depends on, and of
+    /// each of its hosts.
+    pub fn cluster(&self, alloc: Global, number: Gen) -> Result<Option<ShownCluster>, AllocError>
         requires kept { AreManagersKept self.now.managers }
+        requires forgotten { AreForgotten self.now.managers }
         ensures { IfOk result (λ served. (world : World) → ManagesAt self.now world
             → served ≡ cluster_at world number) }
     {

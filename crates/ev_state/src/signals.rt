@@ -30,7 +30,8 @@ impl State {
         Ok((Answer::Moved { requests }, moved))
     }
 
-    /// A health result of a cluster's host; where it is for no generation, nothing is done.
+    /// A health result of a cluster's host; where it is for no generation, nothing is done. A picture may show something else only
+    /// where the host was not as healthy before.
     pub fn health<L: Ledger>(
         &mut self,
         alloc: Global,
@@ -43,11 +44,15 @@ impl State {
         requires forgotten { AreForgotten self.old.managers }
         ensures { IfOk result (λ told. StepBy (health cluster.now host.now healthy) self.old self.new told.0 told.1) }
     {
+        let clusters = &self.managers.clusters.state;
+        let same = clusters.is_as_healthy(cluster, host, healthy);
         if !self.managers.health(alloc, cluster, host, healthy, steps)? {
             return Ok((Answer::Ignored, Moved::none(alloc)));
         }
         let mut changed = Seq::new(alloc);
-        self.put_active(cluster, &mut changed)?;
+        if !same {
+            self.put_active(cluster, &mut changed)?;
+        }
         let moved = Moved::of(Seq::new(alloc), changed)?;
         let told = self.finish(alloc, moved, steps)?;
         Ok(told)

@@ -10,7 +10,7 @@ ghost use Rattle.ev_subscription.specs.Subscriptions.{InWorlds, StandsAfter, Sta
 use crate::names::VersionName;
 use crate::versions::{self, Held, Versions};
 use ev_mentions::Mentions;
-use ev_types::{Kind, Name, Seq, Shared, Text, TryCopy};
+use ev_types::{Kind, Name, Seq, Shared, Text};
 use std::alloc::{AllocError, Global};
 use std::collections::BTreeMap;
 use std::marker::Model;
@@ -232,20 +232,6 @@ impl Subscription {
         ensures stands { IfOk result (λ list. InWorlds self.now (λ world. list ≡ versions_of kind world.versions)) }
     {
         versions::list(alloc, self.of(kind))
-    }
-}
-
-impl TryCopy for Subscription {
-    fn copy(&self, alloc: Global) -> Result<Subscription, AllocError> {
-        Ok(Subscription {
-            alloc: self.alloc,
-            node: self.node.copy(alloc)?,
-            stream: self.stream,
-            clusters: self.clusters.clone()?,
-            endpoints: self.endpoints.clone()?,
-            listeners: self.listeners.clone()?,
-            routes: self.routes.clone()?,
-        })
     }
 }
 

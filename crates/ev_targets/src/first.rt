@@ -147,13 +147,3 @@ fn push_made(
     }
     Ok(())
 }
-
-impl TryCopy for First {
-    fn copy(&self, alloc: Global) -> Result<First, AllocError> {
-        Ok(First {
-            names: self.names.copy(alloc)?,
-            late: self.late,
-            place: self.place,
-        })
-    }
-}

@@ -14,7 +14,7 @@ mod first;
 
 use crate::first::First;
 use ev_indexes::State;
-use ev_types::{Kind, Phase, Response, TryCopy, Verdict};
+use ev_types::{Kind, Phase, Response, Verdict};
 use std::alloc::{AllocError, Global};
 use std::marker::Model;
 
@@ -166,14 +166,4 @@ fn is_clusters(phase: Phase) -> bool
     ensures { result ≡ is_clusters phase }
 {
     matches!(phase, Phase::Clusters)
-}
-
-impl TryCopy for Targets {
-    fn copy(&self, alloc: Global) -> Result<Targets, AllocError> {
-        Ok(Targets {
-            phase: self.phase,
-            clusters: self.clusters.copy(alloc)?,
-            listeners: self.listeners.copy(alloc)?,
-        })
-    }
 }

@@ -176,4 +176,5 @@ module _ (s : State) (x : IsIndexed s) (name : List ℕ) (content : Content) (al
     holders = λ a. held a ∙ (λ i. x.holders a i ++ cond (listens_at a content) ((s.table.made + 1) ∷ []) []) ∙ sym (pushed (holds a));
     due = λ n. looked n ∙ due_too n (nat_eq n (s.table.made + 1)) refl;
     drawn = λ n h above. x.drawn n h (omega (arith, made, above));
+    unmarked = λ n above. x.unmarked n (omega (arith, made, above));
   }

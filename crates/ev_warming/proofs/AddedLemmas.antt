@@ -15,7 +15,7 @@ use Rattle.ev_types.specs.declared.rows.GenRow.{GenRow}
 use Rattle.ev_model.specs.World.{World, HealthResult}
 use Rattle.ev_model.specs.Warming.{last_told, last_timed, value_by, has_result, is_healthy, is_result_of}
 use Rattle.ev_model.specs.Rows.{with_statuses, replaced_status, new_row, rows_with_new}
-use Rattle.ev_endpoints.specs.Results.{result_in}
+use Rattle.ev_endpoints.specs.Kept.{result_in}
 use Rattle.ev_generations.specs.Tables.{is_number, row_in}
 use Rattle.ev_indexes.specs.declared.state.State.{State}
 use Rattle.ev_indexes.specs.Indexes.{IsIndexed, SameMarks}

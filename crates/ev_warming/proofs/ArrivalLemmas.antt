@@ -17,7 +17,7 @@ use Rattle.ev_model.specs.World.{World, Arrived}
 use Rattle.ev_model.specs.Warming.{content_in, is_word, is_timeout, last_told, last_timed, value_by, is_for, last_made}
 use Rattle.ev_model.specs.Rows.{arrived, with_statuses, replaced_status, removed_status}
 use Rattle.ev_model.specs.Signals.{ended_status}
-use Rattle.ev_endpoints.specs.Results.{result_in}
+use Rattle.ev_endpoints.specs.Kept.{result_in}
 use Rattle.ev_generations.specs.Tables.{row_in}
 use Rattle.ev_indexes.specs.declared.watches.Watch.{Watch}
 use Rattle.ev_indexes.specs.declared.state.State.{State}

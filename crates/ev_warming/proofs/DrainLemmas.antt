@@ -11,7 +11,7 @@ use Rattle.ev_types.specs.declared.rows.GenRow.{GenRow}
 use Rattle.ev_model.specs.Rows.{with_statuses}
 use Rattle.ev_model.specs.Signals.{is_draining}
 use Rattle.ev_model.specs.Tidy.{status_by}
-use Rattle.ev_endpoints.specs.Results.{ResultsKept}
+use Rattle.ev_endpoints.specs.Kept.{ResultsKept}
 use Rattle.ev_generations.specs.Tables.{row_in, status_with, with_status, numbers_of}
 use Rattle.ev_generations.proofs.TableLemmas.{row_in-with_statuses, number-row_in}
 use Rattle.ev_indexes.specs.Due.{is_one_of}

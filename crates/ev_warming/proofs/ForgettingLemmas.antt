@@ -1,5 +1,5 @@
 -- What forgetting does to a state: no live row looks at what goes, so the indexes stay searches of the rows.
-use Rattle.std.proofs.Common.{◌≡◌, ◌∙◌, ◌<◌, ℕ, Bool, true, false, cond, not, ◌&&◌, ◌||◌, nat_eq, List, [], ◌∷◌, Option, None, Some, is_some, filter, refl, sym, ap, subst, true≢false, ◌+◌, take, get_or, length, ◌++◌}
+use Rattle.std.proofs.Common.{◌≡◌, ◌∙◌, ◌<◌, ℕ, Bool, true, false, cond, not, ◌&&◌, ◌||◌, nat_eq, List, [], ◌∷◌, Option, None, Some, IfSome, is_some, filter, refl, sym, ap, subst, true≢false, ◌+◌, take, get_or, length, ◌++◌}
 use Rattle.std.specs.List.{list_any, AllByRecursion}
 use Rattle.std.specs.Str.{bytes_eq}
 use Rattle.std.proofs.lemmas.Bool.{eqb-true, not-true, or_right}
@@ -11,14 +11,14 @@ use Rattle.ev_types.specs.declared.hosts.Host.{Host}
 use Rattle.ev_types.specs.declared.rows.GenRow.{GenRow}
 use Rattle.ev_model.specs.Warming.{is_checked}
 use Rattle.ev_model.specs.Watching.{dependencies_of, Dependency}
-use Rattle.ev_endpoints.specs.Results.{ResultsKept, result_in}
+use Rattle.ev_endpoints.specs.Kept.{ResultsKept, marked_in, result_in}
 use Rattle.ev_generations.specs.Tables.{row_in, numbers_of}
 use Rattle.ev_generations.proofs.TableLemmas.{number-row_in}
 use Rattle.ev_indexes.specs.declared.watches.Watch.{Watch}
 use Rattle.ev_indexes.specs.declared.state.State.{State}
 use Rattle.ev_indexes.specs.Watched.{WatchesKept, unwatched, watch_in, has_watcher}
 use Rattle.ev_indexes.specs.Ready.{assignment_in, are_results_in, is_answered_in, is_ready_in, is_due_found, is_due_at}
-use Rattle.ev_indexes.specs.Indexes.{IsIndexed, depends_on, waits, numbers_where}
+use Rattle.ev_indexes.specs.Indexes.{IsAssignmentOf, IsIndexed, depends_on, waits, numbers_where}
 use Rattle.ev_indexes.specs.Due.{is_one_of}
 use Rattle.ev_indexes.specs.Needs.{is_needed}
 use Rattle.ev_warming.specs.Forgetting.{needs_in, is_need_of, is_idle, keeps_result, loses_result, IsUnheard, IsTidyBut}
@@ -102,7 +102,8 @@ module _ (s : State) (number : ℕ) (row : GenRow) (x : IsIndexed s) (found : ro
     (watches : WatchesKept)
     (forgot : (q : List ℕ) → watch_in watches q ≡ cond (is_needed q (dependencies_of row.content) && is_idle s.table.rows q) unwatched (watch_in s.watches q))
     (results : ResultsKept)
-    (trimmed : (n : ℕ) (h : Host) → result_in results n h ≡ cond (nat_eq number n && not (keeps_result s.watches h row)) None (result_in s.results n h)) where
+    (trimmed : (n : ℕ) (h : Host) → result_in results n h ≡ cond (nat_eq number n && not (keeps_result s.watches h row)) None (result_in s.results n h))
+    (unmarks : (n : ℕ) → marked_in results n ≡ cond (nat_eq number n) None (marked_in s.results n)) where
   own_row : (n : ℕ) (r : GenRow) → row_in n s.table.rows ≡ Some r → nat_eq number r.number ≡ true → r ≡ row
   own_row n r at e =
       let same : n ≡ number = sym (number-row_in n r s.table.rows at) ∙ sym (eqb-true number r.number e) in
@@ -146,7 +147,7 @@ module _ (s : State) (number : ℕ) (row : GenRow) (x : IsIndexed s) (found : ro
       by true true e = index
       by true false e = empty ∙ sym (where-none test s.table.rows (any-less (depends_on q) test narrower s.table.rows e))
 
-  undrawn : (b : Bool) (o : Option Bool) → o ≡ None → cond b None o ≡ None
+  undrawn : {A : Type 0} (b : Bool) (o : Option A) → o ≡ None → cond b None o ≡ None
   undrawn true o e = refl
   undrawn false o e = e
 
@@ -161,6 +162,7 @@ module _ (s : State) (number : ℕ) (row : GenRow) (x : IsIndexed s) (found : ro
     holders = x.holders;
     due = λ n. x.due n ∙ sym (due_same n);
     drawn = λ n h above. trimmed n h ∙ undrawn (nat_eq number n && not (keeps_result s.watches h row)) (result_in s.results n h) (x.drawn n h above);
+    unmarked = λ n above. unmarks n ∙ undrawn (nat_eq number n) (marked_in s.results n) (x.unmarked n above);
   }
 
 -- one more of the rows was looked at
@@ -178,10 +180,26 @@ cond_more false false false u v = refl
 module _ (s : State) (stale : List ℕ) (tidy : IsTidyBut s stale) (watches : WatchesKept)
     (forgot : (q : List ℕ) → watch_in watches q ≡ cond (is_need_of s.table.rows stale q && is_idle s.table.rows q) unwatched (watch_in s.watches q))
     (results : ResultsKept)
-    (trimmed : (n : ℕ) (h : Host) → result_in results n h ≡ cond (is_one_of stale n && loses_result s.watches h (row_in n s.table.rows)) None (result_in s.results n h)) where
+    (trimmed : (n : ℕ) (h : Host) → result_in results n h ≡ cond (is_one_of stale n && loses_result s.watches h (row_in n s.table.rows)) None (result_in s.results n h))
+    (unmarks : (n : ℕ) → marked_in results n ≡ cond (is_one_of stale n && is_some (row_in n s.table.rows)) None (marked_in s.results n)) where
   pub tidy-forgot : IsTidyBut (record s { watches = watches; results = results }) []
-  tidy-forgot = record { marks = λ q none no. marks q none (is_need_of s.table.rows stale q) refl; results = λ n row h at no lost. gone n row h at lost (is_one_of stale n) refl }
+  tidy-forgot = record {
+    marks = λ q none no. marks q none (is_need_of s.table.rows stale q) refl;
+    results = λ n row h at no lost. gone n row h at lost (is_one_of stale n) refl;
+    marked = λ n no row at live.
+        subst (λ (o : Option (List HostRowParts)). IfSome o (IsAssignmentOf watches row.content))
+        (sym (unmarks n ∙ (λ i. cond (is_one_of stale n && is_some (at i)) None (marked_in s.results n)))) (still n row at live (is_one_of stale n) refl);
+  }
     where
+      still : (n : ℕ) (row : GenRow) → row_in n s.table.rows ≡ Some row → is_live row.status ≡ true → (b : Bool) → is_one_of stale n ≡ b
+          → IfSome (cond (b && true) None (marked_in s.results n)) (IsAssignmentOf watches row.content)
+      still n row at live true e = tt
+      still n row at live false e =
+          subst (λ (rows : List HostRowParts → Type 0). IfSome (marked_in s.results n) rows)
+          (λ i. λ (rows : List HostRowParts). (is_checked row.content ≡ true)
+          × (rows ≡ sym (assignment_in-agrees s.watches watches row.content (need-same s.table.rows s.watches watches (is_need_of s.table.rows stale) forgot n row at live)) i))
+          (tidy.marked n e row at live)
+
       marks : (q : List ℕ) → list_any (depends_on q) s.table.rows ≡ false → (b : Bool) → is_need_of s.table.rows stale q ≡ b → IsUnheard (watch_in watches q)
       marks q none true e =
           subst IsUnheard (sym (forgot q ∙ (λ i. cond (e i && not (none i)) unwatched (watch_in s.watches q)))) (record { told = refl; timed = refl; value = refl })
@@ -264,3 +282,19 @@ loses-at rows watches number row found n h = by (nat_eq number n) refl
     by : (b : Bool) → nat_eq number n ≡ b → (b && not (keeps_result watches h row)) ≡ (b && loses_result watches h (row_in n rows))
     by true e = (λ i. loses_result watches h (sym found i)) ∙ (λ i. loses_result watches h (row_in (eqb-true number n e i) rows))
     by false e = refl
+
+pub mark-more : (rows : List GenRow) (old mid new : ResultsKept) (stale : List ℕ) (i number : ℕ) → i < length stale → number ≡ get_or stale i number
+    → ((n : ℕ) → marked_in mid n ≡ cond (is_one_of (take i stale) n && is_some (row_in n rows)) None (marked_in old n))
+    → ((n : ℕ) → marked_in new n ≡ cond (nat_eq number n && is_some (row_in n rows)) None (marked_in mid n))
+    → (n : ℕ) → marked_in new n ≡ cond (is_one_of (take (i + 1) stale) n && is_some (row_in n rows)) None (marked_in old n)
+mark-more rows old mid new stale i number within is before step n =
+    step n
+    ∙ (λ j. cond (nat_eq number n && is_some (row_in n rows)) None (before n j))
+    ∙ cond_more (is_one_of (take i stale) n) (nat_eq number n) (is_some (row_in n rows)) None (marked_in old n)
+    ∙ (λ j. cond (sym one j && is_some (row_in n rows)) None (marked_in old n))
+  where
+    one : is_one_of (take (i + 1) stale) n ≡ (is_one_of (take i stale) n || nat_eq number n)
+    one =
+        list_any_more (nat_eq n) stale i number within
+        ∙ (λ j. is_one_of (take i stale) n || nat_eq n (sym is j))
+        ∙ ap (λ b. is_one_of (take i stale) n || b) (flipped n number)

@@ -17,7 +17,7 @@ use Rattle.ev_model.specs.Live.{live_of, lives_of}
 use Rattle.ev_model.specs.Watching.{has_dependency, is_watched, is_by_name, dependencies_of}
 use Rattle.ev_model.specs.Warming.{is_word, is_timeout, last_told, last_timed, value_by, has_result, is_healthy, is_result_of, assignment_by, is_for}
 use Rattle.ev_model.specs.Tidy.{arrivals_watched, without_unwatched, is_result_due, without_old_results}
-use Rattle.ev_endpoints.specs.Results.{ResultsKept, result_in}
+use Rattle.ev_endpoints.specs.Kept.{ResultsKept, marked_in, result_in}
 use Rattle.ev_generations.specs.Tables.{row_in, numbers_of}
 use Rattle.ev_generations.proofs.TableLemmas.{number-row_in}
 use Rattle.ev_indexes.specs.declared.state.State.{State}
@@ -181,6 +181,7 @@ module _ (s : State) (stale : List ℕ) (tidy : IsTidyBut s stale) (watches : Wa
     (forgot : (q : List ℕ) → watch_in watches q ≡ cond (is_need_of s.table.rows stale q && is_idle s.table.rows q) unwatched (watch_in s.watches q))
     (results : ResultsKept)
     (trimmed : (n : ℕ) (h : Host) → result_in results n h ≡ cond (is_one_of stale n && loses_result s.watches h (row_in n s.table.rows)) None (result_in s.results n h))
+    (unmarks : (n : ℕ) → marked_in results n ≡ cond (is_one_of stale n && is_some (row_in n s.table.rows)) None (marked_in s.results n))
     (world : World) (stands : HasRows s world) (rows : is_by_name s.kind ≡ false) where
   abbrev arrivals : List Arrived
   arrivals = arrivals_watched (lives_of world) world.arrivals
@@ -199,7 +200,7 @@ module _ (s : State) (stale : List ℕ) (tidy : IsTidyBut s stale) (watches : Wa
   busy q e = busy-same s.table.rows s.watches watches (is_need_of s.table.rows stale) forgot q e
 
   idle : (q : List ℕ) → list_any (depends_on q) s.table.rows ≡ false → IsUnheard (watch_in watches q)
-  idle q e = (tidy-forgot s stale tidy watches forgot results trimmed).marks q e refl
+  idle q e = (tidy-forgot s stale tidy watches forgot results trimmed unmarks).marks q e refl
 
   told : (q : List ℕ) → (watch_in watches q).told ≡ last_told arrivals (needs_of s.kind) q
   told q = by (list_any (depends_on q) s.table.rows) refl
@@ -249,7 +250,7 @@ module _ (s : State) (stale : List ℕ) (tidy : IsTidyBut s stale) (watches : Wa
         by false = refl
 
     lost : keeps_result watches h row ≡ false → result_in results n h ≡ None
-    lost k = (tidy-forgot s stale tidy watches forgot results trimmed).results n row h at refl k
+    lost k = (tidy-forgot s stale tidy watches forgot results trimmed unmarks).results n row h at refl k
 
     resulted : is_some (result_in results n h) ≡ has_result (filter (is_result_due arrivals world.rows) world.results) n h
     resulted =

@@ -1,10 +1,11 @@
 -- What a health result does: the indexes stay searches of the rows, and a state that stands for a world stands for it with the result.
-use Rattle.std.proofs.Common.{◌≡◌, ◌∙◌, ◌<◌, ℕ, Bool, true, false, cond, not, ◌&&◌, ◌||◌, nat_eq, List, [], ◌∷◌, ◌++◌, Option, None, Some, IsSome, is_some, option_to_list, unwrap_or, map, filter, refl, sym, ap, true≢false}
+use Rattle.std.proofs.Common.{◌≡◌, ◌∙◌, ◌<◌, ℕ, Bool, true, false, cond, not, ◌&&◌, ◌||◌, nat_eq, List, [], ◌∷◌, ◌++◌, ◌⊎◌, inl, inr, Option, None, Some, IfSome, IsSome, is_some, option_to_list, unwrap_or, map, filter, refl, sym, ap, subst, true≢false}
 use Rattle.std.specs.Option.{option_and_then}
 use Rattle.std.specs.List.{list_any, last_or}
 use Rattle.std.specs.Str.{bytes_eq}
 use Rattle.std.proofs.Math.Bool.{or-true}
 use Rattle.std.proofs.lemmas.Bool.{eqb-true, eq-eqb, and_parts}
+use Rattle.std.proofs.lemmas.Option.{none-some as not_some}
 use Rattle.std.proofs.lemmas.List.{map-append}
 use Rattle.std.proofs.lemmas.List.Elements.{filter-append}
 use Rattle.std.proofs.lemmas.List.Folds.{list_any-append}
@@ -21,7 +22,7 @@ use Rattle.ev_types.specs.declared.rows.GenRow.{GenRow}
 use Rattle.ev_model.specs.World.{World, HealthResult}
 use Rattle.ev_model.specs.Warming.{is_checked, assignment_by, is_result_of, has_result}
 use Rattle.ev_model.specs.Signals.{is_meant, rows_meant, result_for, with_results}
-use Rattle.ev_endpoints.specs.Results.{ResultsKept, result_in, Notes}
+use Rattle.ev_endpoints.specs.Kept.{ResultsKept, marked_in, result_in, Notes}
 use Rattle.ev_generations.specs.Tables.{row_in, numbers_of}
 use Rattle.ev_generations.proofs.TableLemmas.{number-row_in}
 use Rattle.ev_indexes.specs.declared.state.State.{State}
@@ -29,9 +30,9 @@ use Rattle.ev_indexes.specs.Due.{is_one_of, has_number}
 use Rattle.ev_indexes.specs.Standings.{standing_in}
 use Rattle.ev_indexes.specs.Watched.{WatchesKept}
 use Rattle.ev_indexes.specs.Ready.{are_results_in, assignment_in, is_answered_in, is_due_at, is_due_found, takes_result}
-use Rattle.ev_indexes.specs.Indexes.{IsIndexed, serves, warms, passes}
+use Rattle.ev_indexes.specs.Indexes.{IsAssignmentOf, IsIndexed, serves, warms, passes}
 use Rattle.ev_warming.specs.Forgetting.{IsTidyBut, keeps_result}
-use Rattle.ev_warming.specs.Health.{takes_at, is_meant_in, numbers_meant, NotesEach}
+use Rattle.ev_warming.specs.Health.{takes_at, is_meant_in, numbers_meant, MarksAssignments, MayMarkOwn, NotesEach}
 use Rattle.ev_indexes.specs.Worlds.{HasRows, rows_of_kind}
 use Rattle.ev_indexes.proofs.WhereLemmas.{flipped, among-row}
 use Rattle.ev_indexes.proofs.RowLemmas.{all_then, both_all, any-some, filter-rows_of_kind, filter_agrees}
@@ -61,10 +62,10 @@ is_due_at-results watches old new n rows same = by (row_in n rows) refl
 
 -- a result was noted for one number, and its row was looked at anew
 pub indexed-noted : (s : State) (number : ℕ) (row : GenRow) (host : Host) (healthy : Bool) (results : ResultsKept) (due : List ℕ) → IsIndexed s → row_in number s.table.rows ≡ Some row
-    → Notes s.results results number host healthy
+    → Notes s.results results number host healthy → MayMarkOwn s.watches row.content s.results results number
     → ((n : ℕ) → is_one_of due n ≡ cond (is_one_of (number ∷ []) n) (is_due_at s.watches results n s.table.rows) (is_one_of s.due n))
     → IsIndexed (record s { results = results; due = due })
-indexed-noted s number row host healthy results due x found notes looked = record {
+indexed-noted s number row host healthy results due x found notes marks looked = record {
   table = x.table;
   kinds = x.kinds;
   active = x.active;
@@ -74,8 +75,14 @@ indexed-noted s number row host healthy results due x found notes looked = recor
   holders = x.holders;
   due = λ n. looked n ∙ by n (is_one_of (number ∷ []) n) refl;
   drawn = λ n h above. notes n h ∙ far n h above (nat_eq number n) refl;
+  unmarked = λ n above. elim (marks n) [ inl same ↦ same ∙ x.unmarked n above | inr own ↦ other n above own.0 ];
 }
   where
+    other : {A : Type 0} (n : ℕ) → s.table.made < n → nat_eq number n ≡ true → A
+    other n above e =
+        let clash : Some row ≡ None = sym found ∙ (λ i. row_in (eqb-true number n e i) s.table.rows) ∙ x.table.drawn n above in
+        absurd (not_some row (sym clash))
+
     far : (n : ℕ) (h : Host) → s.table.made < n → (b : Bool) → nat_eq number n ≡ b → cond (b && host_same host h) (Some healthy) (result_in s.results n h) ≡ None
     far n h above true e =
         let clash : Some row ≡ None = sym found ∙ (λ i. row_in (eqb-true number n e i) s.table.rows) ∙ x.table.drawn n above in
@@ -95,6 +102,17 @@ indexed-noted s number row host healthy results due x found notes looked = recor
         x.due n
         ∙ sym (is_due_at-results s.watches s.results results n s.table.rows (λ h. (λ i. is_some (notes n h i))
         ∙ (λ i. is_some (cond (apart n e i && host_same host h) (Some healthy) (result_in s.results n h)))))
+
+-- rows that are marked for the generation of a row are its assignment
+pub marks-own : (s : State) (number : ℕ) (row : GenRow) (results : ResultsKept) (due : List ℕ) → row_in number s.table.rows ≡ Some row
+    → MayMarkOwn s.watches row.content s.results results number → MarksAssignments s (record s { results = results; due = due })
+marks-own s number row results due found marks n was r at live = elim (marks n) [
+  | inl same ↦ subst (λ (o : Option (List HostRowParts)). IfSome o (IsAssignmentOf s.watches r.content)) (sym same) (was r at live)
+  | inr own ↦
+      let one : Some r ≡ Some row = sym at ∙ (λ i. row_in (sym (eqb-true number n own.0) i) s.table.rows) ∙ found in
+      let same : r ≡ row = cc in
+      subst (λ (g : GenRow). IfSome (marked_in results n) (IsAssignmentOf s.watches g.content)) (sym same) own.1
+]
 
 -- a result was noted for one number
 pub notes-one : (old new : ResultsKept) (number : ℕ) (host : Host) (healthy : Bool) → Notes old new number host healthy → NotesEach old new (number ∷ []) host healthy
@@ -321,10 +339,12 @@ module _ (s : State) (world : World) (stands : HasRows s world) (x : IsIndexed s
 
 -- no result of a host that its row doesn't have is kept: what nobody needs is known of the same rows as before
 pub noted-tidy : (s : State) → IsIndexed s → (name : List ℕ) (host : Host) (healthy : Bool) (results : ResultsKept) (due : List ℕ) → NotesEach s.results results (numbers_meant s.watches name host s.table.rows) host healthy
+    → MarksAssignments s (record s { results = results; due = due })
     → (stale : List ℕ) → IsTidyBut s stale → IsTidyBut (record s { results = results; due = due }) stale
-noted-tidy s x name host healthy results due notes stale tidy = record {
+noted-tidy s x name host healthy results due notes marks stale tidy = record {
   marks = tidy.marks;
   results = λ n row h found fresh lost. notes n h ∙ by n row h found fresh lost (is_one_of (numbers_meant s.watches name host s.table.rows) n) refl (host_same host h) refl;
+  marked = λ n fresh. marks n (tidy.marked n fresh);
 }
   where
     by : (n : ℕ) (row : GenRow) (h : Host) → row_in n s.table.rows ≡ Some row → is_one_of stale n ≡ false → keeps_result s.watches h row ≡ false

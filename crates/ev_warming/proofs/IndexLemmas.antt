@@ -14,7 +14,7 @@ use Rattle.ev_types.specs.declared.hosts.Host.{Host}
 use Rattle.ev_types.specs.declared.rows.GenRow.{GenRow}
 use Rattle.ev_model.specs.Rows.{removed_status}
 use Rattle.ev_model.specs.Watching.{dependencies_of}
-use Rattle.ev_endpoints.specs.Results.{ResultsKept}
+use Rattle.ev_endpoints.specs.Kept.{ResultsKept}
 use Rattle.ev_generations.specs.Tables.{GenerationsParts, IsTable, row_in, status_with, with_status}
 use Rattle.ev_generations.proofs.TableLemmas.{table-with_status}
 use Rattle.ev_indexes.specs.declared.names.Standing.{Standing}
@@ -134,6 +134,7 @@ module _ (s : State) (name : List ℕ) (made : ℕ) (arrival : Arrival) (watches
     holders = x.holders;
     due = λ n. looked n ∙ by n (is_one_of (watchers_of (watch_in watches name)) n) refl;
     drawn = x.drawn;
+    unmarked = x.unmarked;
   }
     where
       by : (n : ℕ) (b : Bool) → is_one_of (watchers_of (watch_in watches name)) n ≡ b
@@ -262,6 +263,7 @@ module _ (s : State) (number : ℕ) (row : GenRow) (status : RowStatus) (x : IsI
           ∙ sym (is_due_at-agrees s.watches watches s.results agrees n (with_status number status s.table.rows))
           ∙ (λ i. is_due_at watches s.results n (sym rows i));
       drawn = λ n h above. x.drawn n h (subst (λ m. m < n) made above);
+      unmarked = λ n above. x.unmarked n (subst (λ m. m < n) made above);
     }
 
 -- a row that warms serves
@@ -299,6 +301,7 @@ module _ (s : State) (number : ℕ) (row : GenRow) (x : IsIndexed s) (found : ro
         ∙ sym (is_due_at-with_status s.watches s.results number Active refl n s.table.rows)
         ∙ (λ i. is_due_at s.watches s.results n (sym rows i));
     drawn = λ n h above. x.drawn n h (subst (λ m. m < n) made above);
+    unmarked = λ n above. x.unmarked n (subst (λ m. m < n) made above);
   }
 
 -- the status of a live row that is removed

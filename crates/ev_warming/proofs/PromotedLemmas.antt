@@ -12,7 +12,7 @@ use Rattle.ev_model.specs.World.{World}
 use Rattle.ev_model.specs.Warming.{value_by, last_told, last_timed, is_ready_by}
 use Rattle.ev_model.specs.Rows.{is_row_of, with_statuses}
 use Rattle.ev_model.specs.Tidy.{is_due, has_successor, status_by, promoted_status, promoted_rows, promoted}
-use Rattle.ev_endpoints.specs.Results.{result_in}
+use Rattle.ev_endpoints.specs.Kept.{result_in}
 use Rattle.ev_generations.specs.Tables.{row_in}
 use Rattle.ev_generations.proofs.TableLemmas.{row_in-with_statuses}
 use Rattle.ev_indexes.specs.declared.state.State.{State}

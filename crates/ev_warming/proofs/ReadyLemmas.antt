@@ -10,7 +10,7 @@ use Rattle.ev_types.specs.declared.rows.GenRow.{GenRow}
 use Rattle.ev_types.specs.Same.{bytes_decide}
 use Rattle.ev_model.specs.Watching.{Dependency, discovery_dependencies, dependencies_of}
 use Rattle.ev_model.specs.Warming.{is_checked, rows_in, counts_for}
-use Rattle.ev_endpoints.specs.Results.{ResultsKept}
+use Rattle.ev_endpoints.specs.Kept.{ResultsKept}
 use Rattle.ev_generations.specs.Tables.{row_in, status_with, with_status}
 use Rattle.ev_generations.proofs.TableLemmas.{row_in-with_statuses, number-row_in}
 use Rattle.ev_indexes.specs.Watched.{WatchesKept, watch_in}

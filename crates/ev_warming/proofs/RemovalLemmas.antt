@@ -182,12 +182,14 @@ module _ (m : Manager) (number : ℕ) (kept : IsKept m) (forgotten : m.stale ≡
       holders = λ a. kept.indexed.holders a ∙ sym (fails (holds a) (λ i. gone.2 i && listens_at a gone.0.content));
       due = λ n. kept.indexed.due n ∙ due n;
       drawn = λ n h above. kept.indexed.drawn n h (subst (λ k. k < n) made above);
+      unmarked = λ n above. kept.indexed.unmarked n (subst (λ k. k < n) made above);
     };
     needs = subst (AllByRecursion (λ (r : GenRow). HaveNames (dependencies_of r.content))) (sym rows)
         (all-filter (λ (r : GenRow). HaveNames (dependencies_of r.content)) (λ (r : GenRow). not (is_number number r)) m.state.table.rows kept.needs);
     tidy = record {
       marks = λ q none unneeded. kept.tidy.marks q (any-same q none) (λ i. is_need_of m.state.table.rows (forgotten i) q);
       results = λ n row h at absent lost. kept.tidy.results n row h (found-before (nat_eq number n) (row_in n m.state.table.rows) row (sym (found n) ∙ at)) absent lost;
+      marked = λ n absent row at. kept.tidy.marked n absent row (found-before (nat_eq number n) (row_in n m.state.table.rows) row (sym (found n) ∙ at));
     };
   }
     where

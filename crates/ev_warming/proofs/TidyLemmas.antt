@@ -1,11 +1,13 @@
 -- What a call leaves to be forgotten: what it made of nobody's need is known of the generations that it reports.
-use Rattle.std.proofs.Common.{◌≡◌, ◌∙◌, ◌+◌, ℕ, Bool, true, false, cond, ◌&&◌, ◌||◌, nat_eq, List, [], ◌∷◌, ◌++◌, Option, None, Some, option_map, option_to_list, refl, sym, ap, subst, true≢false, arith, append_assoc}
+use Rattle.std.proofs.Common.{◌≡◌, ◌∙◌, ◌+◌, ℕ, Bool, true, false, cond, ◌&&◌, ◌||◌, nat_eq, List, [], ◌∷◌, ◌++◌, Option, None, Some, IfSome, option_map, option_to_list, refl, sym, ap, subst, true≢false, arith, append_assoc}
 use Rattle.std.specs.List.{list_any, AllByRecursion, IsDistinct}
 use Rattle.std.specs.Option.{option_or}
 use Rattle.std.specs.Str.{bytes_eq}
 use Rattle.std.proofs.Math.Bool.{or-true}
 use Rattle.std.proofs.lemmas.Bool.{eqb-true, and_parts, false_from_ne_true, or_right}
+use Rattle.std.proofs.lemmas.Option.{none-some}
 use Rattle.std.proofs.lemmas.List.Folds.{list_any-append, find-append}
+use Rattle.ev_types.specs.Hosts.{HostRowParts}
 use Rattle.ev_types.specs.Kinds.{kind_same}
 use Rattle.ev_types.specs.Same.{bytes_decide}
 use Rattle.ev_types.specs.SameHosts.{has_host}
@@ -22,7 +24,7 @@ use Rattle.ev_model.specs.Rows.{is_row_of, with_statuses, replaced_status, remov
 use Rattle.ev_model.specs.Signals.{ended_status, rows_ended, is_draining}
 use Rattle.ev_model.specs.Tidy.{status_by}
 use Rattle.ev_model.specs.Watching.{dependencies_of}
-use Rattle.ev_endpoints.specs.Results.{result_in}
+use Rattle.ev_endpoints.specs.Kept.{marked_in, result_in}
 use Rattle.ev_generations.specs.Tables.{is_number, row_in, numbers_of}
 use Rattle.ev_generations.proofs.TableLemmas.{row_in-with_statuses}
 use Rattle.ev_indexes.specs.declared.names.Standing.{Standing}
@@ -33,7 +35,7 @@ use Rattle.ev_indexes.specs.Kept.{Sets}
 use Rattle.ev_indexes.specs.Standings.{standing_in}
 use Rattle.ev_indexes.specs.Watched.{WatchesKept, unwatched, watch_in, with_arrival, watchers_of}
 use Rattle.ev_indexes.specs.Ready.{assignment_in}
-use Rattle.ev_indexes.specs.Indexes.{IsIndexed, depends_on, serves, warms, numbers_where, status_in, SameMarks}
+use Rattle.ev_indexes.specs.Indexes.{IsAssignmentOf, IsIndexed, depends_on, serves, warms, numbers_where, status_in, SameMarks}
 use Rattle.ev_warming.specs.Promotion.{succeeded_by, rows_promoted}
 use Rattle.ev_warming.specs.Changes.{began_to_drain}
 use Rattle.ev_indexes.specs.Worlds.{HasRows}
@@ -92,6 +94,15 @@ marks-agree old new marks q = record { told = (marks q).0; timed = (marks q).1; 
 unheard-same : (old new : Watch) → new.told ≡ old.told → new.timed ≡ old.timed → new.value ≡ old.value → IsUnheard old → IsUnheard new
 unheard-same old new told timed value u = record { told = told ∙ u.told; timed = timed ∙ u.timed; value = value ∙ u.value }
 
+-- rows that are marked for a content of which the assignment is the same
+marks-moved : (old new : WatchesKept) (content : Content) → assignment_in new content ≡ assignment_in old content → (o p : Option (List HostRowParts)) → p ≡ o
+    → IfSome o (IsAssignmentOf old content) → IfSome p (IsAssignmentOf new content)
+marks-moved old new content same o p e is = subst (λ (q : Option (List HostRowParts)). IfSome q (IsAssignmentOf new content)) (sym e) (by o is)
+  where
+    by : (o : Option (List HostRowParts)) → IfSome o (IsAssignmentOf old content) → IfSome o (IsAssignmentOf new content)
+    by None is = tt
+    by (Some rows) is = (is.0, is.1 ∙ sym same)
+
 -- statuses change, and the numbers of those that retire are reported
 module _ (s t : State) (f : GenRow → RowStatus) (stale more : List ℕ) (apart : IsDistinct nat_eq (numbers_of s.table.rows))
     (rows : t.table.rows ≡ with_statuses f s.table.rows) (marks : SameMarks s.watches t.watches) (results : t.results ≡ s.results)
@@ -141,8 +152,26 @@ module _ (s t : State) (f : GenRow → RowStatus) (stale more : List ℕ) (apart
         unheard-same (watch_in s.watches q) (watch_in t.watches q) (marks q).0 (marks q).1 (marks q).2 (tidy.marks q (idle-before q none needs.1) needs.0);
     results = λ n row h at absent lost. (λ i. result_in (results i) n h) ∙ gone n row h (row_in n s.table.rows) refl (sym (row-after n) ∙ at)
         (sym (list_any-append (nat_eq n) stale more) ∙ absent) lost;
+    marked = λ n absent row at live. kept n row (row_in n s.table.rows) refl (sym (row-after n) ∙ at) (sym (list_any-append (nat_eq n) stale more) ∙ absent) live;
   }
     where
+      kept : (n : ℕ) (row : GenRow) (o : Option GenRow) → row_in n s.table.rows ≡ o → option_map (λ (r : GenRow). record r { status = f r }) o ≡ Some row
+          → (is_one_of stale n || is_one_of more n) ≡ false → is_live row.status ≡ true → IfSome (marked_in t.results n) (IsAssignmentOf t.watches row.content)
+      kept n row None e at absent live = absurd (none-some row at)
+      kept n row (Some r) e at absent live =
+          subst (λ (g : GenRow). IfSome (marked_in t.results n) (IsAssignmentOf t.watches g.content)) same
+          (marks-moved s.watches t.watches r.content
+          (assignment_in-agrees s.watches t.watches r.content (agrees-all s.watches t.watches (marks-agree s.watches t.watches marks) (dependencies_of r.content)))
+          (marked_in s.results n) (marked_in t.results n) (λ i. marked_in (results i) n)
+          (tidy.marked n (none-first (is_one_of stale n) (is_one_of more n) absent) r e (was (is_live r.status) refl)))
+        where
+          same : record r { status = f r } ≡ row
+          same = cc
+
+          was : (b : Bool) → is_live r.status ≡ b → b ≡ true
+          was true l = refl
+          was false l = absurd (true≢false (sym live ∙ (λ i. is_live (sym same i).status) ∙ ended r l))
+
       gone : (n : ℕ) (row : GenRow) (h : Host) (o : Option GenRow) → row_in n s.table.rows ≡ o → option_map (λ (r : GenRow). record r { status = f r }) o ≡ Some row
           → (is_one_of stale n || is_one_of more n) ≡ false → keeps_result t.watches h row ≡ false → result_in s.results n h ≡ None
       gone n row h None e at absent lost = cc
@@ -162,7 +191,7 @@ module _ (s t : State) (f : GenRow → RowStatus) (stale more : List ℕ) (apart
 -- a row more
 module _ (s t : State) (new : GenRow) (stale : List ℕ)
     (rows : t.table.rows ≡ s.table.rows ++ new ∷ []) (marks : SameMarks s.watches t.watches) (results : t.results ≡ s.results)
-    (unheard : (host : Host) → result_in s.results new.number host ≡ None) (tidy : IsTidyBut s stale) where
+    (unheard : (host : Host) → result_in s.results new.number host ≡ None) (unmarked : marked_in s.results new.number ≡ None) (tidy : IsTidyBut s stale) where
   row-more : (n : ℕ) → row_in n t.table.rows ≡ option_or (row_in n s.table.rows) (cond (nat_eq n new.number) (Some new) None)
   row-more n = (λ i. row_in n (rows i)) ∙ find-append (is_number n) s.table.rows (new ∷ [])
 
@@ -181,8 +210,26 @@ module _ (s t : State) (new : GenRow) (stale : List ℕ)
         (none-first (list_any (depends_on q) s.table.rows) (list_any (depends_on q) (new ∷ [])) (sym (list_any-append (depends_on q) s.table.rows (new ∷ [])) ∙ (λ i. list_any (depends_on q) (sym rows i)) ∙ none))
         (none-less (λ n. is_needed q (needs_in (row_in n t.table.rows))) (λ n. is_needed q (needs_in (row_in n s.table.rows))) (needs-more q) stale unneeded));
     results = λ n row h at absent lost. (λ i. result_in (results i) n h) ∙ gone n row h (row_in n s.table.rows) refl (sym (row-more n) ∙ at) absent lost;
+    marked = λ n absent row at live. kept n row (row_in n s.table.rows) refl (sym (row-more n) ∙ at) absent live;
   }
     where
+      kept : (n : ℕ) (row : GenRow) (o : Option GenRow) → row_in n s.table.rows ≡ o → option_or o (cond (nat_eq n new.number) (Some new) None) ≡ Some row
+          → is_one_of stale n ≡ false → is_live row.status ≡ true → IfSome (marked_in t.results n) (IsAssignmentOf t.watches row.content)
+      kept n row None e at absent live = by (nat_eq n new.number) refl at
+        where
+          by : (b : Bool) → nat_eq n new.number ≡ b → cond b (Some new) None ≡ Some row → IfSome (marked_in t.results n) (IsAssignmentOf t.watches row.content)
+          by true d at =
+              subst (λ (o : Option (List HostRowParts)). IfSome o (IsAssignmentOf t.watches row.content))
+              (sym ((λ i. marked_in (results i) (eqb-true n new.number d i)) ∙ unmarked)) tt
+          by false d at = absurd (none-some row at)
+      kept n row (Some r) e at absent live =
+          let same : r ≡ row = cc in
+          subst (λ (g : GenRow). IfSome (marked_in t.results n) (IsAssignmentOf t.watches g.content)) same
+          (marks-moved s.watches t.watches r.content
+          (assignment_in-agrees s.watches t.watches r.content (agrees-all s.watches t.watches (marks-agree s.watches t.watches marks) (dependencies_of r.content)))
+          (marked_in s.results n) (marked_in t.results n) (λ i. marked_in (results i) n)
+          (tidy.marked n absent r e ((λ i. is_live (same i).status) ∙ live)))
+
       gone : (n : ℕ) (row : GenRow) (h : Host) (o : Option GenRow) → row_in n s.table.rows ≡ o → option_or o (cond (nat_eq n new.number) (Some new) None) ≡ Some row
           → is_one_of stale n ≡ false → keeps_result t.watches h row ≡ false → result_in s.results n h ≡ None
       gone n row h None e at absent lost = by (nat_eq n new.number) refl at
@@ -270,7 +317,7 @@ pub tidy-added : (s t : State) (name : List ℕ) (content : Content) (warming : 
 tidy-added s t name content warming stale x is rows marks results tidy =
     let mid : State = record s { table = record { rows = with_statuses (replaced_status s.kind name) s.table.rows; made = s.table.made } } in
     tidy-more mid t (new_row s.kind s.table.made name content) (stale ++ option_to_list warming) rows marks results
-    (λ h. x.drawn (s.table.made + 1) h (omega arith))
+    (λ h. x.drawn (s.table.made + 1) h (omega arith)) (x.unmarked (s.table.made + 1) (omega arith))
     (tidy-statused s mid (replaced_status s.kind name) stale (option_to_list warming) x.table.apart refl (λ q. (refl, refl, refl)) refl
     (replaced-told s.kind name s.table.rows warming (ap option_to_list is ∙ x.warming name))
     (replaced-ended s.kind name) tidy)
@@ -314,10 +361,17 @@ tidy-arrived s t name made arrival stale x watched table sets results tidy = rec
   marks = λ q none unneeded. marks q ((λ i. list_any (depends_on q) (sym table i).rows) ∙ none) unneeded (bytes_eq name q) refl;
   results = λ n row h at absent lost. (λ i. result_in (results i) n h)
       ∙ gone n row h ((λ i. row_in n (sym table i).rows) ∙ at) (sym (list_any-append (nat_eq n) stale (watchers_of (watch_in s.watches name))) ∙ absent) lost (is_live row.status) refl (is_needed name (dependencies_of row.content)) refl;
+  marked = λ n absent row at live.
+      kept n row ((λ i. row_in n (sym table i).rows) ∙ at) (sym (list_any-append (nat_eq n) stale (watchers_of (watch_in s.watches name))) ∙ absent) live (is_needed name (dependencies_of row.content)) refl;
 }
   where
     same : (q : List ℕ) → bytes_eq name q ≡ false → watch_in t.watches q ≡ watch_in s.watches q
     same q e = sets q ∙ (λ i. cond (e i) (with_arrival made arrival (watch_in s.watches name)) (watch_in s.watches q))
+
+    other : (q : List ℕ) → bytes_eq q name ≡ false → Agrees s.watches t.watches q
+    other q e =
+        let far : bytes_eq name q ≡ false = false_from_ne_true (bytes_eq name q) (λ d. true≢false (sym ((bytes_decide q name).1 (sym ((bytes_decide name q).0 d))) ∙ e)) in
+        record { told = λ i. (same q far i).told; timed = λ i. (same q far i).timed; value = λ i. (same q far i).value }
 
     marks : (q : List ℕ) → list_any (depends_on q) s.table.rows ≡ false → is_need_of t.table.rows (stale ++ (watchers_of (watch_in s.watches name))) q ≡ false → (b : Bool) → bytes_eq name q ≡ b → IsUnheard (watch_in t.watches q)
     marks q none unneeded true e = absurd (true≢false (sym watched ∙ (λ i. list_any (depends_on ((bytes_decide name q).0 e i)) s.table.rows) ∙ none))
@@ -338,11 +392,16 @@ tidy-arrived s t name made arrival stale x watched table sets results tidy = rec
     gone n row h at absent lost true l false f =
         tidy.results n row h at (none-first (is_one_of stale n) (is_one_of (watchers_of (watch_in s.watches name)) n) absent)
         ((λ i. is_live row.status && has_host h (sym (assignment_in-agrees s.watches t.watches row.content (agrees-other s.watches t.watches name other (dependencies_of row.content) f)) i)) ∙ lost)
-      where
-        other : (q : List ℕ) → bytes_eq q name ≡ false → Agrees s.watches t.watches q
-        other q e =
-            let far : bytes_eq name q ≡ false = false_from_ne_true (bytes_eq name q) (λ d. true≢false (sym ((bytes_decide q name).1 (sym ((bytes_decide name q).0 d))) ∙ e)) in
-            record { told = λ i. (same q far i).told; timed = λ i. (same q far i).timed; value = λ i. (same q far i).value }
+
+    kept : (n : ℕ) (row : GenRow) → row_in n s.table.rows ≡ Some row → (is_one_of stale n || is_one_of (watchers_of (watch_in s.watches name)) n) ≡ false → is_live row.status ≡ true
+        → (needs : Bool) → is_needed name (dependencies_of row.content) ≡ needs → IfSome (marked_in t.results n) (IsAssignmentOf t.watches row.content)
+    kept n row at absent live true f =
+        absurd (true≢false (sym ((λ i. is_one_of (watchers-index s x name i) n) ∙ among-depends name n row s.table.rows at (λ i. live i && f i))
+        ∙ none-second (is_one_of stale n) (is_one_of (watchers_of (watch_in s.watches name)) n) absent))
+    kept n row at absent live false f =
+        marks-moved s.watches t.watches row.content (assignment_in-agrees s.watches t.watches row.content (agrees-other s.watches t.watches name other (dependencies_of row.content) f))
+        (marked_in s.results n) (marked_in t.results n) (λ i. marked_in (results i) n)
+        (tidy.marked n (none-first (is_one_of stale n) (is_one_of (watchers_of (watch_in s.watches name)) n) absent) row at live)
 
 -- where nothing happened there is nothing to forget
 pub tidy-new : (s : State) → HasRows s (opening 0 []) → IsTidyBut s []
@@ -351,4 +410,7 @@ tidy-new s stands = record {
   results = λ n row h at absent lost.
       let nothing : None ≡ Some row = (λ i. row_in n (sym stands.rows i)) ∙ at in
       cc;
+  marked = λ n absent row at live.
+      let nothing : None ≡ Some row = (λ i. row_in n (sym stands.rows i)) ∙ at in
+      absurd (none-some row nothing);
 }

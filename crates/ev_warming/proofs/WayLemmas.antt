@@ -12,7 +12,7 @@ use Rattle.ev_types.specs.declared.rows.GenRow.{GenRow}
 use Rattle.ev_model.specs.Rows.{removed_status, with_statuses}
 use Rattle.ev_generations.specs.Tables.{row_in, status_with, with_status}
 use Rattle.ev_generations.proofs.TableLemmas.{row_in-with_statuses, number-row_in}
-use Rattle.ev_endpoints.specs.Results.{ResultsKept}
+use Rattle.ev_endpoints.specs.Kept.{ResultsKept}
 use Rattle.ev_indexes.specs.declared.state.State.{State}
 use Rattle.ev_indexes.specs.Due.{is_one_of}
 use Rattle.ev_indexes.specs.Standings.{standing_in}

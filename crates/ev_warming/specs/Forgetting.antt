@@ -1,6 +1,6 @@
 -- What nobody needs any more, and what is forgotten of it after each event. Source: cluster manager warming of Envoy's
 -- documentation: values and results belong to what is watched.
-use Rattle.std.specs.Prelude.{◌≡◌, ℕ, Bool, false, not, ◌&&◌, nat_eq, if◌then◌else◌, List, [], Option, Some, None}
+use Rattle.std.specs.Prelude.{◌≡◌, ℕ, Bool, false, not, ◌&&◌, nat_eq, if◌then◌else◌, List, [], Option, Some, None, is_some}
 use Rattle.std.specs.List.{list_any}
 use Rattle.std.specs.Str.{bytes_eq}
 use Rattle.ev_types.specs.SameHosts.{has_host}
@@ -8,7 +8,7 @@ use Rattle.ev_types.specs.Statuses.{is_live}
 use Rattle.ev_types.specs.declared.hosts.Host.{Host}
 use Rattle.ev_types.specs.declared.rows.GenRow.{GenRow}
 use Rattle.ev_model.specs.Watching.{Dependency, dependencies_of}
-use Rattle.ev_endpoints.specs.Results.{ResultsKept, result_in}
+use Rattle.ev_endpoints.specs.Kept.{ResultsKept, marked_in, result_in}
 use Rattle.ev_generations.specs.Tables.{row_in}
 use Rattle.ev_indexes.specs.declared.watches.Watch.{Watch}
 use Rattle.ev_indexes.specs.declared.state.State.{State}
@@ -16,7 +16,7 @@ use Rattle.ev_indexes.specs.Due.{is_one_of}
 use Rattle.ev_indexes.specs.Watched.{WatchesKept, unwatched, watch_in, has_watcher}
 use Rattle.ev_indexes.specs.Needs.{is_needed}
 use Rattle.ev_indexes.specs.Ready.{assignment_in}
-use Rattle.ev_indexes.specs.Indexes.{depends_on}
+use Rattle.ev_indexes.specs.Indexes.{MarksAssignment, depends_on}
 
 -- what a row depends on, where the row is found
 abbrev pub needs_in : Option GenRow → List Dependency
@@ -46,11 +46,13 @@ pub record IsUnheard (watch : Watch) : Type 0 where
   pub timed : watch.timed ≡ None
   pub value : watch.value ≡ None
 
--- what nobody needs any more is known only of the generations of these numbers and of the names that they depended on
+-- what nobody needs any more is known only of the generations of these numbers and of the names that they depended on, and of others rows
+-- are marked only that are their assignment
 pub record IsTidyBut (s : State) (stale : List ℕ) : Type 0 where
   pub marks : (name : List ℕ) → list_any (depends_on name) s.table.rows ≡ false → is_need_of s.table.rows stale name ≡ false → IsUnheard (watch_in s.watches name)
   pub results : (number : ℕ) (row : GenRow) (host : Host) → row_in number s.table.rows ≡ Some row → is_one_of stale number ≡ false → keeps_result s.watches host row ≡ false
       → result_in s.results number host ≡ None
+  pub marked : (number : ℕ) → is_one_of stale number ≡ false → MarksAssignment s number
 
 -- nothing is known any more of the name, where no generation depends on it, and of every other name what was known
 abbrev pub ForgetsIdle : WatchesKept → WatchesKept → List ℕ → Type 0
@@ -76,3 +78,8 @@ TrimsRow watches old new row = (number : ℕ) (host : Host) → result_in new nu
 abbrev pub TrimsRowOf : State → State → ℕ → Type 0
 TrimsRowOf old new number = (n : ℕ) (host : Host) → result_in new.results n host
     ≡ (if nat_eq number n && loses_result old.watches host (row_in n old.table.rows) then None else result_in old.results n host)
+
+-- no rows are marked of the row of this number, where it is found, and of every other number those that were
+abbrev pub UnmarksRowOf : State → State → ℕ → Type 0
+UnmarksRowOf old new number = (n : ℕ) → marked_in new.results n
+    ≡ (if nat_eq number n && is_some (row_in n old.table.rows) then None else marked_in old.results n)

@@ -1,19 +1,20 @@
 -- Which generations a health result is for, and what it does to what is kept: the machine's words, where what came is looked up.
 -- Source: cluster manager warming of Envoy's documentation: a checked cluster waits for a first result of each host.
-use Rattle.std.specs.Prelude.{◌≡◌, ℕ, Bool, ◌&&◌, if◌then◌else◌, List, [], Option, Some, option_and_then, option_to_list}
+use Rattle.std.specs.Prelude.{◌≡◌, ◌⊎◌, ℕ, Bool, true, ◌&&◌, nat_eq, if◌then◌else◌, List, [], Option, Some, IfSome, option_and_then, option_to_list}
 use Rattle.std.specs.List.{list_any}
 use Rattle.std.specs.Str.{bytes_eq}
 use Rattle.ev_types.specs.SameHosts.{host_same}
 use Rattle.ev_types.specs.Statuses.{is_live}
 use Rattle.ev_types.specs.declared.hosts.Host.{Host}
 use Rattle.ev_types.specs.declared.rows.GenRow.{GenRow}
-use Rattle.ev_endpoints.specs.Results.{ResultsKept, result_in}
+use Rattle.ev_endpoints.specs.Kept.{ResultsKept, marked_in, result_in}
 use Rattle.ev_generations.specs.Tables.{row_in}
 use Rattle.ev_indexes.specs.declared.state.State.{State}
 use Rattle.ev_indexes.specs.Due.{is_one_of}
 use Rattle.ev_indexes.specs.Watched.{WatchesKept}
 use Rattle.ev_indexes.specs.Ready.{takes_result}
-use Rattle.ev_indexes.specs.Indexes.{passes, numbers_where}
+use Rattle.ev_indexes.specs.Indexes.{IsAssignmentOf, MarksAssignment, passes, numbers_where}
+use Rattle.ev_types.specs.declared.contents.Content.{Content}
 
 -- there is a row of this number, where there is a number, and it takes a result of the host
 abbrev pub takes_at : WatchesKept → Host → Option ℕ → List GenRow → Bool
@@ -45,3 +46,12 @@ NotesMeant old new name host healthy = NotesEach old.results new.results (number
 abbrev pub NotesWhere : State → State → Bool → Option ℕ → Host → Bool → Type 0
 NotesWhere old new meant number host healthy =
     NotesEach old.results new.results (if meant then option_to_list number else []) host healthy
+
+-- of each number the rows are marked that were, or, where it is this number, those of the content's assignment
+abbrev pub MayMarkOwn : WatchesKept → Content → ResultsKept → ResultsKept → ℕ → Type 0
+MayMarkOwn watches content old new number = (n : ℕ) → (marked_in new n ≡ marked_in old n)
+    ⊎ ((nat_eq number n ≡ true) × IfSome (marked_in new n) (IsAssignmentOf watches content))
+
+-- where rows were marked that are the assignment of their live generation, so it is
+abbrev pub MarksAssignments : State → State → Type 0
+MarksAssignments old new = (number : ℕ) → MarksAssignment old number → MarksAssignment new number

@@ -6,12 +6,12 @@
 ghost use Rattle.std.specs.Prelude.{◌≡◌, ◌+◌, ◌<◌, false, not, [], length, option_to_list, OnOk};
 ghost use Rattle.ev_model.specs.Watching.{dependencies_of, is_by_name};
 ghost use Rattle.ev_model.specs.Warming.{rows_in};
-ghost use Rattle.ev_endpoints.specs.Results.{Trims};
+ghost use Rattle.ev_endpoints.specs.Kept.{Trims, Unmarks};
 ghost use Rattle.ev_indexes.specs.Watched.{watch_in, has_watcher};
 ghost use Rattle.ev_indexes.specs.Needs.{need_at, places_of};
 ghost use Rattle.ev_indexes.specs.Ready.{assignment_in};
 ghost use Rattle.ev_indexes.specs.Indexes.{IsIndexed};
-ghost use Rattle.ev_warming.specs.Forgetting.{IsTidyBut, ForgetsIdle, ForgetsNeeds, ForgetsNeedsOf, TrimsRow, TrimsRowOf};
+ghost use Rattle.ev_warming.specs.Forgetting.{IsTidyBut, ForgetsIdle, ForgetsNeeds, ForgetsNeedsOf, TrimsRow, TrimsRowOf, UnmarksRowOf};
 ghost use Rattle.ev_warming.specs.Changes.{KeepsTable};
 ghost use Rattle.ev_warming.specs.Worlds.{Follows, without_unneeded};
 
@@ -59,6 +59,7 @@ fn forget_row<L: Ledger>(
     ensures indexed { OnOk result (IsIndexed state.new) }
     ensures watches { OnOk result (ForgetsNeedsOf state.old state.new number) }
     ensures results { OnOk result (TrimsRowOf state.old state.new number) }
+    ensures marked { OnOk result (UnmarksRowOf state.old state.new number) }
     ensures others { OnOk result (KeepsTable state.old state.new) }
     ensures steps { OnOk result (steps.new ≡ steps.old + 1) }
 {
@@ -70,14 +71,15 @@ fn forget_row<L: Ledger>(
     Ok(())
 }
 
-// Forgets the results that a row doesn't keep.
+// Forgets the results that a row doesn't keep, and its marks.
 fn trim(
     watches: &Watches,
     results: &mut Endpoints,
     alloc: Global,
     row: &GenRow,
 ) -> Result<(), AllocError>
-    ensures { OnOk result (TrimsRow watches.now results.old results.new row.now) }
+    ensures results { OnOk result (TrimsRow watches.now results.old results.new row.now) }
+    ensures marked { OnOk result (Unmarks results.old results.new row.now.number) }
 {
     if !row.status.is_live() {
         results.forget(row.number);
@@ -86,7 +88,7 @@ fn trim(
     trim_hosts(watches, results, alloc, row.number, &row.content)
 }
 
-// Forgets the results of a generation for hosts that aren't in its assignment.
+// Forgets the results of a generation for hosts that aren't in its assignment, and its marks.
 fn trim_hosts(
     watches: &Watches,
     results: &mut Endpoints,
@@ -94,7 +96,8 @@ fn trim_hosts(
     number: Gen,
     content: &Content,
 ) -> Result<(), AllocError>
-    ensures { OnOk result (Trims results.old results.new number (assignment_in watches.now content.now)) }
+    ensures results { OnOk result (Trims results.old results.new number (assignment_in watches.now content.now)) }
+    ensures marked { OnOk result (Unmarks results.old results.new number) }
 {
     let Content::Cluster(cluster) = content else {
         results.forget(number);
@@ -110,7 +113,7 @@ fn trim_hosts(
     }
 }
 
-// Forgets the results of a generation for hosts that aren't in the value of a name.
+// Forgets the results of a generation for hosts that aren't in the value of a name, and its marks.
 fn trim_value(
     watches: &Watches,
     results: &mut Endpoints,
@@ -118,7 +121,9 @@ fn trim_value(
     number: Gen,
     service: &Name,
 ) -> Result<(), AllocError>
-    ensures { OnOk result (Trims results.old results.new number (rows_in (watch_in watches.now service.now).value)) }
+    ensures results { OnOk result (Trims results.old results.new number
+        (rows_in (watch_in watches.now service.now).value)) }
+    ensures marked { OnOk result (Unmarks results.old results.new number) }
 {
     let Some(watch) = watches.get(service) else {
         results.forget(number);

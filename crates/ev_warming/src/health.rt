@@ -1,16 +1,19 @@
 //! Health results. A result finds its generations by the name, of which at most two are live. Only one that warms can become due to
 //! serve by it; the one that serves is looked at in the same way all the same.
 
-ghost use Rattle.std.specs.Prelude.{◌≡◌, ℕ, ◌+◌, ◌≤◌, List, IfOk, OnOk};
+ghost use Rattle.std.specs.Prelude.{◌≡◌, ℕ, ◌+◌, ◌≤◌, List, true, IfOk, OnOk};
+ghost use Rattle.ev_model.specs.Warming.{is_checked};
+ghost use Rattle.ev_endpoints.specs.Kept.{Notes};
 ghost use Rattle.ev_warming.specs.Forgetting.{IsTidyBut};
-ghost use Rattle.ev_warming.specs.Health.{takes_at, NotesMeant, NotesWhere, is_meant_by};
+ghost use Rattle.ev_warming.specs.Health.{takes_at, MarksAssignments, MayMarkOwn, NotesMeant, NotesWhere, is_meant_by};
 ghost use Rattle.ev_indexes.specs.Indexes.{IsIndexed};
 ghost use Rattle.ev_warming.specs.Worlds.{AnswersMeaning, FollowsResult};
 
 use crate::Manager;
+use ev_endpoints::Endpoints;
 use ev_generations::Steps;
-use ev_indexes::{State, refresh, takes_result};
-use ev_types::{Gen, Host, Name};
+use ev_indexes::{State, Watches, assignment, refresh, takes_result};
+use ev_types::{Content, Gen, Host, Name};
 use std::alloc::{AllocError, Global};
 use std::sync::ledger::Ledger;
 
@@ -87,6 +90,7 @@ fn note_at<L: Ledger>(
     ensures results { IfOk result (λ meant. NotesWhere state.old state.new meant number host.now healthy) }
     ensures others { OnOk result (state.new ≡ record state.old { results = state.new.results; due = state.new.due }) }
     ensures steps { OnOk result (steps.new ≤ steps.old + 2) }
+    ensures marked { OnOk result (MarksAssignments state.old state.new) }
 {
     let Some(number) = number else {
         return Ok(false);
@@ -97,7 +101,15 @@ fn note_at<L: Ledger>(
     if !takes_result(&state.watches, host, &row.content) {
         return Ok(false);
     }
-    state.results.note(alloc, number, host, healthy)?;
+    keep(
+        &state.watches,
+        &mut state.results,
+        alloc,
+        number,
+        &row.content,
+        host,
+        healthy,
+    )?;
     refresh(
         &state.table,
         &state.watches,
@@ -107,4 +119,25 @@ fn note_at<L: Ledger>(
         steps,
     )?;
     Ok(true)
+}
+
+// Keeps a result of a host of a generation of this content, whose hosts are health checked, and marks which of them may be chosen.
+fn keep(
+    watches: &Watches,
+    results: &mut Endpoints,
+    alloc: Global,
+    number: Gen,
+    content: &Content,
+    host: &Host,
+    healthy: bool,
+) -> Result<(), AllocError>
+    requires checked { is_checked content.now ≡ true }
+    ensures results { OnOk result (Notes results.old results.new number host.now healthy) }
+    ensures marked { OnOk result (MayMarkOwn watches.now content.now results.old results.new number) }
+{
+    results.note(alloc, number, host, healthy)?;
+    match assignment(watches, content) {
+        Some(rows) => results.mark(alloc, number, rows),
+        None => Ok(()),
+    }
 }

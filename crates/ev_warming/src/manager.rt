@@ -16,7 +16,7 @@ use crate::forgetting::forget;
 use ev_generations::Steps;
 use ev_indexes::{Standing, State, put_all};
 use ev_keys::Keys;
-use ev_types::{Arrival, Gen, Kind, Name, Seq, TryCopy};
+use ev_types::{Arrival, Gen, Kind, Name, Seq};
 use std::alloc::{AllocError, Global};
 use std::mem;
 use std::sync::ledger::Ledger;
@@ -154,14 +154,5 @@ impl Manager {
     {
         let stale = mem::replace(&mut self.stale, Seq::new(alloc));
         forget(&mut self.state, alloc, stale.as_slice(), steps)
-    }
-}
-
-impl TryCopy for Manager {
-    fn copy(&self, alloc: Global) -> Result<Manager, AllocError> {
-        Ok(Manager {
-            state: self.state.copy(alloc)?,
-            stale: self.stale.copy(alloc)?,
-        })
     }
 }

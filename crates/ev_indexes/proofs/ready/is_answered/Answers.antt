@@ -1,4 +1,4 @@
-use Rattle.std.proofs.Common.{◌∙◌, ◌<◌, ◌≤◌, length, sym, subst}
+use Rattle.std.proofs.Common.{◌∙◌, ◌<◌, ◌≤◌, sym, subst}
 use Rattle.ev_indexes.specs.Needs.{places_of}
 use Rattle.ev_indexes.specs.Ready.{has_answer_in}
 use Rattle.ev_indexes.proofs.PlaceLemmas.{all-early, all-more, all-done}

@@ -1,4 +1,4 @@
-use Rattle.std.proofs.Common.{◌∙◌, ◌<◌, ◌++◌, length, take, option_to_list, append_assoc, sym, ap, subst}
+use Rattle.std.proofs.Common.{◌∙◌, ◌<◌, ◌++◌, take, option_to_list, append_assoc, sym, ap, subst}
 use Rattle.ev_indexes.specs.Needs.{names_of, need_at, needs_at, places_of}
 use Rattle.ev_indexes.proofs.PlaceLemmas.{names-more}
 use Rattle.ev_indexes.proofs.watched.push_needs.Goals as goal

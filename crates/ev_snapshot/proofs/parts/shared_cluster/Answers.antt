@@ -5,6 +5,6 @@ use Rattle.ev_snapshot.proofs.parts.shared_cluster.Goals as goal
 
 pub returns-then-eq : goal.returns-then-eq
 returns-then-eq c =
-    let same : c.served.result.now ≡ c.args.cluster.now = (served_cluster_decides _ _).0 (sym c.eq.ensures ∙ c.if-eq.true) in
+    let same : c.get.result.now ≡ c.args.cluster.now = (served_cluster_decides _ _).0 (sym c.eq.ensures ∙ c.if-eq.true) in
     let Is : ServedCluster → Type 0 = λ v. IfOk c.share.result (λ shared. shared ≡ v) in
-    subst Is (sym c.get.ensures.value ∙ sym c.served.ensures ∙ same) c.share.ensures.value
+    subst Is (sym c.get.ensures.value ∙ same) c.share.ensures.value

@@ -1,6 +1,6 @@
-use Rattle.std.proofs.Common.{◌≡◌, ◌+◌, ◌&&◌, ℕ, List, None, cond, take}
+use Rattle.std.proofs.Common.{◌≡◌, ◌+◌, ◌&&◌, ℕ, List, None, is_some, cond, take}
 use Rattle.ev_types.specs.declared.hosts.Host.{Host}
-use Rattle.ev_endpoints.specs.Results.{result_in}
+use Rattle.ev_endpoints.specs.Kept.{marked_in, result_in}
 use Rattle.ev_generations.specs.Tables.{row_in}
 use Rattle.ev_indexes.specs.Due.{is_one_of}
 use Rattle.ev_indexes.specs.Watched.{unwatched, watch_in}
@@ -16,5 +16,7 @@ invariant-loop-number g l = record {
       ≡ cond (is_need_of l.initial.state.table.rows (take l.number-index l.stale) q && is_idle l.initial.state.table.rows q) unwatched (watch_in l.initial.state.watches q);
   results : (n : ℕ) (h : Host) → result_in l.state.results n h
       ≡ cond (is_one_of (take l.number-index l.stale) n && loses_result l.initial.state.watches h (row_in n l.initial.state.table.rows)) None (result_in l.initial.state.results n h);
+  marks : (n : ℕ) → marked_in l.state.results n
+      ≡ cond (is_one_of (take l.number-index l.stale) n && is_some (row_in n l.initial.state.table.rows)) None (marked_in l.initial.state.results n);
   steps : l.steps ≡ l.initial.steps + l.number-index;
 }

@@ -3,6 +3,7 @@ use Rattle.ev_model.specs.Signals.{rows_meant, with_results}
 use Rattle.ev_indexes.specs.declared.state.State.{State}
 use Rattle.ev_warming.specs.Forgetting.{IsTidyBut}
 use Rattle.ev_warming.specs.Health.{takes_at, NotesEach}
+use Rattle.ev_indexes.specs.Indexes.{MarksAssignment}
 use Rattle.ev_indexes.specs.Standings.{standing_in}
 use Rattle.ev_indexes.specs.Worlds.{HasRows}
 use Rattle.ev_warming.proofs.HealthLemmas.{any-meant, notes-both, any_meant-same, noted-stands, noted-tidy}
@@ -89,7 +90,8 @@ returns-then-served-clause-tidy g c = λ stale tidy.
     let u = c.note_at-2.new.state in
     let whole : u ≡ record s { results = u.results; due = u.due } = c.in_ok-warmed.ensures.others ∙ (λ i. record (o i) { results = u.results; due = u.due }) in
     subst (λ (v : State). IsTidyBut v stale) (sym whole)
-    (noted-tidy s c.requires.indexed c.args.name.now c.args.host.now c.args.healthy u.results u.due (returns-then-served-clause-results g c) stale tidy)
+    (noted-tidy s c.requires.indexed c.args.name.now c.args.host.now c.args.healthy u.results u.due (returns-then-served-clause-results g c)
+    (λ n was. subst (λ (v : State). MarksAssignment v n) whole (c.in_ok-warmed.ensures.marked n (c.in_ok-served.ensures.marked n was))) stale tidy)
 
 pub returns-else-served-clause-tidy : goal.returns-else-served-clause-tidy
 returns-else-served-clause-tidy g c = λ stale tidy.
@@ -98,4 +100,5 @@ returns-else-served-clause-tidy g c = λ stale tidy.
     let u = c.note_at-2.new.state in
     let whole : u ≡ record s { results = u.results; due = u.due } = c.in_ok-warmed.ensures.others ∙ (λ i. record (o i) { results = u.results; due = u.due }) in
     subst (λ (v : State). IsTidyBut v stale) (sym whole)
-    (noted-tidy s c.requires.indexed c.args.name.now c.args.host.now c.args.healthy u.results u.due (returns-else-served-clause-results g c) stale tidy)
+    (noted-tidy s c.requires.indexed c.args.name.now c.args.host.now c.args.healthy u.results u.due (returns-else-served-clause-results g c)
+    (λ n was. subst (λ (v : State). MarksAssignment v n) whole (c.in_ok-warmed.ensures.marked n (c.in_ok-served.ensures.marked n was))) stale tidy)

@@ -1,4 +1,4 @@
-use Rattle.std.proofs.Common.{◌∙◌, ◌<◌, ◌++◌, not, length, take, option_to_list, append_assoc, sym, ap, subst}
+use Rattle.std.proofs.Common.{◌∙◌, ◌<◌, ◌++◌, not, take, option_to_list, append_assoc, sym, ap, subst}
 use Rattle.std.proofs.lemmas.List.Elements.{filter-append}
 use Rattle.ev_indexes.specs.Moved.{is_held, free_names}
 use Rattle.ev_indexes.specs.Needs.{names_of, need_at, needs_at, places_of}

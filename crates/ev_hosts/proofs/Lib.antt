@@ -1,0 +1,4 @@
+pub mod MarkLemmas
+pub mod ChosenLemmas
+pub mod PlaceLemmas
+pub mod PriorityLemmas
