@@ -3,7 +3,6 @@ use Rattle.std.proofs.Common.{◌≡◌, ℕ, suc, ◌+◌, ◌<◌, true, false
 use Rattle.std.specs.Io.KnownBytes.{IsAtEnd}
 use Rattle.serde_json.specs.Data.{Data}
 use Rattle.serde_json.specs.View.{view}
-use Rattle.serde_json.specs.declared.value.Value.{Value}
 use Rattle.ev_io.specs.Lines.{lines_of}
 use Rattle.ev_io.specs.LinesState.{LinesState, HasTaken, IsWithin}
 use Rattle.ev_io.specs.Outside.{Takes}
@@ -13,7 +12,7 @@ use Rattle.ev_script.specs.declared.header.Header.{Header}
 use Rattle.ev_script.specs.declared.trees.ScriptTrees.{ScriptTrees}
 use Rattle.ev_script.specs.Faults.{Input, LineForms}
 use Rattle.ev_script.specs.Header.{header_of}
-use Rattle.ev_script.specs.Members.{tree_of}
+use Rattle.ev_script.specs.Members.{tree_of, tree_told}
 use Rattle.ev_script.specs.ReadInput.{input_of}
 use Rattle.ev_script.specs.ReadTrees.{IsTreesAnswer}
 use Rattle.ev_expand_laws.specs.Said.{lines_in, input_of_text}
@@ -22,13 +21,13 @@ use Rattle.ev_app.proofs.InputLemmas.{taken_input, no_byte}
 
 -- ---- bytes have the same trees in each reading
 
--- values of one length that are the same trees, each by each
-same_views : (xs ys : List Value) → length xs ≡ length ys → ((i : ℕ) (other : Value) → i < length xs → view (slice_index_or xs i other) ≡ view (slice_index_or ys i other)) → map view xs ≡ map view ys
-same_views [] [] long each = refl
-same_views [] (y ∷ ys) long each = absurd (omega (arith, long))
-same_views (x ∷ xs) [] long each = absurd (omega (arith, long))
-same_views (x ∷ xs) (y ∷ ys) long each =
-    ap₂ (λ (d : Data) ds. d ∷ ds) (each 0 x (omega arith)) (same_views xs ys (omega (arith, long)) (λ i other less. each (suc i) other (omega (arith, less))))
+-- texts of one number that are the same trees, each by each
+same_trees : (xs ys : List (List ℕ)) → length xs ≡ length ys → ((i : ℕ) (other : List ℕ) → i < length xs → tree_told (slice_index_or xs i other) ≡ tree_told (slice_index_or ys i other)) → map tree_told xs ≡ map tree_told ys
+same_trees [] [] long each = refl
+same_trees [] (y ∷ ys) long each = absurd (omega (arith, long))
+same_trees (x ∷ xs) [] long each = absurd (omega (arith, long))
+same_trees (x ∷ xs) (y ∷ ys) long each =
+    ap₂ (λ (d : Data) ds. d ∷ ds) (each 0 x (omega arith)) (same_trees xs ys (omega (arith, long)) (λ i other less. each (suc i) other (omega (arith, less))))
 
 abbrev tree_in : Data → Option Data → Data
 tree_in tree None = tree
@@ -52,8 +51,8 @@ same_headers forms bytes trees others one two =
 pub same_lines : (forms : LineForms) (bytes : List ℕ) (trees others : ScriptTrees) → AreTreesOf forms bytes trees → AreTreesOf forms bytes others → lines_in trees ≡ lines_in others
 same_lines forms bytes trees others one two =
     let long : length trees.lines.items ≡ length others.lines.items = omega (arith, one.0.lines, two.0.lines) in
-    same_views trees.lines.items others.lines.items long
-    (λ i other less. one_tree (slice_index_or (lines_of bytes) (i + 1) []) (view (slice_index_or trees.lines.items i other)) (view (slice_index_or others.lines.items i other))
+    same_trees trees.lines.items others.lines.items long
+    (λ i other less. one_tree (slice_index_or (lines_of bytes) (i + 1) []) (tree_told (slice_index_or trees.lines.items i other)) (tree_told (slice_index_or others.lines.items i other))
     (one.1.lines i other less) (two.1.lines i other (omega (arith, less, long))))
 
 -- ---- readings

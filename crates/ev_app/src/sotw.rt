@@ -4,7 +4,10 @@ ghost use Rattle.ev_io.specs.declared.faults.ScriptFault.TheVariants.{OutOfMemor
 ghost use Rattle.ev_script.specs.Faults.{Input};
 ghost use Rattle.ev_script.specs.ReadTrees.{IsTreesAnswer};
 ghost use Rattle.ev_script.specs.Script.{script_of};
+ghost use Rattle.ev_script.specs.declared.trees.ScriptTrees.{ScriptTrees};
+ghost use Rattle.ev_expand_laws.specs.Said.{lines_in};
 ghost use Rattle.ev_sotw_lines.specs.Lines.{sotw_lines};
+ghost use Rattle.ev_sotw.specs.Text.{versions_in};
 ghost use Rattle.ev_sotw_delta.specs.DeltaText.{delta_script};
 ghost use Rattle.ev_app.specs.declared.commands.Command.TheVariants.{Sotw};
 ghost use Rattle.ev_app.specs.Sotw.{IsSotwText, IsDeltaAnswer, IsSotwAnswer};
@@ -21,10 +24,10 @@ use ev_io::{MemSource, ScriptFault, Source};
 use ev_keys::Keys;
 use ev_model_laws::{replay_is_a_run_of_its_script, runs_have_the_laws};
 use ev_script::ScriptTrees;
-use ev_sotw::render_sotw;
+use ev_sotw::{read_versions, render_sotw};
 use ev_sotw_delta::{DeltaError, same_world, to_delta};
 use ev_sotw_lines::SotwLines;
-use ev_types::Script;
+use ev_types::{Script, Text};
 use std::alloc::{AllocError, Global};
 use std::mem::drop;
 
@@ -44,29 +47,33 @@ pub(crate) fn make_sotw<S: Source>(alloc: Global, source: &mut S) -> Result<Made
     ensures count { S.faults source.old ≤ S.faults source.new }
 {
     let trees = read_trees_of(alloc, &SotwLines, source)?;
-    sotw_made(alloc, &trees)
+    sotw_made(alloc, trees)
 }
 
-// What answers the trees of a script of the state of the world, or why nothing does.
-fn sotw_made(alloc: Global, trees: &ScriptTrees) -> Result<Made, ScriptFault>
-    requires trees { (input : Input) × IsTreesAnswer sotw_lines input (Ok trees.now) }
-    ensures answer { IsSotwAnswer trees.now result }
+// What answers the trees of a script of the state of the world, or why nothing does. Of the trees the versions alone are kept
+// for the replay.
+fn sotw_made(alloc: Global, trees: ScriptTrees) -> Result<Made, ScriptFault>
+    requires trees { (input : Input) × IsTreesAnswer sotw_lines input (Ok trees) }
+    ensures answer { IsSotwAnswer trees result }
     ensures read { result ≢ Err ScriptFault.Read }
 {
+    let versions = read_versions(alloc, trees.lines.as_slice())?;
     let KeyedScript { script, keys } = delta_of(alloc, trees)?;
     Ok(Made {
-        text: sotw_text(alloc, keys, trees, &script)?,
+        text: sotw_text(alloc, keys, versions.as_slice(), &script)?,
         status: Status::Done,
     })
 }
 
-// The incremental script that says what the trees say, or why there is none.
-fn delta_of(alloc: Global, trees: &ScriptTrees) -> Result<KeyedScript, ScriptFault>
-    requires trees { (input : Input) × IsTreesAnswer sotw_lines input (Ok trees.now) }
-    ensures answer { IsDeltaAnswer trees.now result }
+// The incremental script that says what the trees say, or why there is none. The trees are gone before it is read.
+fn delta_of(alloc: Global, trees: ScriptTrees) -> Result<KeyedScript, ScriptFault>
+    requires trees { (input : Input) × IsTreesAnswer sotw_lines input (Ok trees) }
+    ensures answer { IsDeltaAnswer trees result }
     ensures read { result ≢ Err ScriptFault.Read }
 {
-    match to_delta(alloc, trees) {
+    let made = to_delta(alloc, &trees);
+    drop(trees);
+    match made {
         Ok(text) => read_text(alloc, text),
         Err(DeltaError::Large { line }) => Err(ScriptFault::Bad {
             line,
@@ -90,17 +97,17 @@ fn read_text(alloc: Global, text: Vec<u8>) -> Result<KeyedScript, ScriptFault>
     }
 }
 
-// The text of the journal of the replay of a script of the state of the world, by the incremental script that says the same.
+// The text of the journal of the replay of a script of the state of the world, by the versions of its lines and the incremental
+// script that says the same.
 #[tactic(auto, using(crate::proofs::SotwLemmas::sotw_told))]
 fn sotw_text(
     alloc: Global,
     keys: Keys,
-    trees: &ScriptTrees,
+    versions: &[Text],
     script: &Script,
 ) -> Result<Vec<u8>, AllocError>
-    requires trees { (input : Input) × IsTreesAnswer sotw_lines input (Ok trees.now) }
-    requires script { script.now ≡ delta_script trees.now }
-    ensures { IfOk result (λ text. IsSotwText trees.now text.items) }
+    ensures { IfOk result (λ text. (input : Input) (trees : ScriptTrees) → IsTreesAnswer sotw_lines input (Ok trees)
+        → script.now ≡ delta_script trees → versions.now ≡ versions_in (lines_in trees) → IsSotwText trees text.items) }
 {
     // the journal is a run of its script; each run has the laws, and one of such a script is the same world
     runs_have_the_laws();
@@ -108,7 +115,7 @@ fn sotw_text(
     same_world();
     let workers = workers_of(script);
     let registry = replay(alloc, keys, script)?;
-    let text = render_sotw(alloc, trees.lines.as_slice(), workers, registry.journal());
+    let text = render_sotw(alloc, versions, workers, registry.journal());
     drop(registry);
     Ok(text?)
 }

@@ -4,12 +4,11 @@ ghost use Rattle.ev_script.specs.ReadTrees.{KeepsHeads, KeepsTrees};
 ghost use Rattle.ev_app.specs.Trees.{ReadsTrees};
 
 use ev_io::{Lines, ScriptFault, Source};
-use ev_script::{Forms, HeadTree, ScriptTrees, read_trees_with};
-use serde_json::Value;
+use ev_script::{Forms, HeadTree, LineTree, ScriptTrees, read_trees_with};
 use std::alloc::Global;
 
 // Reads the trees of the script that the source's bytes are, whose lines have these forms.
-pub(crate) fn read_trees_of<F: Forms<Head = HeadTree, Kept = Value>, S: Source>(
+pub(crate) fn read_trees_of<F: Forms<Head = HeadTree, Kept = LineTree>, S: Source>(
     alloc: Global,
     forms: &F,
     source: &mut S,

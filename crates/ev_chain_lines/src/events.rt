@@ -45,6 +45,7 @@ impl Forms for ChainLines {
         alloc: Global,
         _profile: Profile,
         _at: u32,
+        _text: &[u8],
         tree: Value,
     ) -> Result<Option<FormedLine<ChainEvent>>, AllocError> {
         match read_event(alloc, &tree)? {

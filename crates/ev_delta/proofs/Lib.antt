@@ -1,3 +1,2 @@
-pub mod DepthLemmas
 pub mod NameLemmas
 pub mod ReadLemmas

@@ -9,13 +9,11 @@
 //! - The type URLs and the fields with names are repeated here: `ev_wire` doesn't show its own.
 #![tactic(auto)]
 
-mod depth;
 mod discovery;
 mod kinds;
 mod laws;
 mod message;
 
-pub use depth::nests_within;
 pub use discovery::{Discovery, read_discovery};
 pub use kinds::type_url;
 pub use laws::deltas_are_read;

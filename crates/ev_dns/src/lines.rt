@@ -7,7 +7,9 @@ ghost use Rattle.ev_dns.specs.Resolving.{is_written};
 ghost use Rattle.ev_dns.specs.Lines.{dns_lines, given_addresses, addresses_at, resolution_of, resolution_in};
 
 use crate::names::read_names;
-use ev_script::{FormedHead, FormedLine, Forms, HeadTree, LineTrees, has_only, is_op, name_at};
+use ev_script::{
+    FormedHead, FormedLine, Forms, HeadTree, LineTree, LineTrees, has_only, is_op, name_at,
+};
 use ev_types::{Name, Profile, Seq};
 use serde_json::Value;
 use std::alloc::{AllocError, Global};
@@ -27,17 +29,18 @@ pub struct DnsLines;
 
 impl Forms for DnsLines {
     ghost use Rattle.ev_dns.specs.Lines.{dns_lines};
+    ghost use Rattle.ev_script.specs.Members.{tree_told};
     ghost use Rattle.ev_script.specs.ReadTrees.{IsTreeHead};
 
     type Head = HeadTree;
 
-    type Kept = Value;
+    type Kept = LineTree;
 
     ghost forms = { dns_lines };
 
     ghost keeps_head = { IsTreeHead };
 
-    ghost keeps = { λ profile at tree kept. view kept ≡ tree };
+    ghost keeps = { λ profile at tree kept. tree_told kept ≡ tree };
 
     fn read_head(
         &self,
@@ -52,16 +55,17 @@ impl Forms for DnsLines {
         alloc: Global,
         profile: Profile,
         at: u32,
+        text: &[u8],
         tree: Value,
-    ) -> Result<Option<FormedLine<Value>>, AllocError> {
+    ) -> Result<Option<FormedLine<LineTree>>, AllocError> {
         if !is_op("resolved", &tree) {
-            return LineTrees.read(alloc, profile, at, tree);
+            return LineTrees.read(alloc, profile, at, text, tree);
         }
         if resolution_in(alloc, &tree)?.is_none() {
             return Ok(None);
         }
         Ok(Some(FormedLine {
-            kept: tree,
+            kept: LineTree::new(alloc, text)?,
             worker: None,
         }))
     }

@@ -1,6 +1,7 @@
 ghost use Rattle.std.specs.Prelude.{◌≡◌, ◌∷◌, ◌++◌, [], map, option_map, IfOk, OnOk};
 ghost use Rattle.std.specs.BTreeSet.{contains};
 ghost use Rattle.std.specs.Ordering.{nat_cmp};
+ghost use Rattle.ev_script.specs.Members.{tree_told};
 ghost use Rattle.serde_json.specs.View.{view};
 ghost use Rattle.ev_expand.specs.Expanding.{IsExpanded};
 ghost use Rattle.ev_expand.specs.Following.{due_shown};
@@ -23,7 +24,7 @@ use crate::touching::touched_by;
 use crate::waiting::Waiting;
 use ev_expand::{Due, ExpandError, Expansion, Key, Numbers, expand_with};
 use ev_keys::Keys;
-use ev_script::is_op;
+use ev_script::{LineTree, is_op};
 use ev_types::{Event, Item, Name, Profile, TryCopy};
 use serde_json::{Value, json};
 use std::alloc::{AllocError, Global};
@@ -208,9 +209,9 @@ pub fn expand(
     keys: Keys,
     profile: Profile,
     head: &Value,
-    lines: &[Value],
+    lines: &[LineTree],
 ) -> Result<Vec<u8>, ExpandError>
-    ensures { IsExpanded (dns_rules profile) (view head.now) (map view lines.now) result }
+    ensures { IsExpanded (dns_rules profile) (view head.now) (map tree_told lines.now) result }
 {
     expand_with(
         alloc,

@@ -18,9 +18,8 @@ use Rattle.ev_expand.specs.declared.text_so_far.TextSoFar.{TextSoFar}
 use Rattle.ev_expand.specs.Growing.{front_of, Pushes, IsGrown}
 use Rattle.ev_expand.specs.Guarding.{Guarded, guarded_by}
 use Rattle.ev_expand.specs.Private.{first_use}
-use Rattle.serde_json.specs.View.{view}
-use Rattle.serde_json.specs.declared.value.Value.{Value}
-use Rattle.ev_expand.proofs.NumberLemmas.{views_more}
+use Rattle.ev_script.specs.Members.{tree_told}
+use Rattle.ev_expand.proofs.NumberLemmas.{viewed_more}
 use Rattle.ev_expand.proofs.FrontLemmas.{flat-push}
 
 front_short : (P : Data → Type 0) (xs ys : List Data) → All P (xs ++ ys) → All P xs
@@ -106,22 +105,22 @@ large_first rules head lines old new answer empty pushes is = record {
 }
 
 -- the text is too large with this line
-pub large_at : (rules : Rules) (head : Data) (ls : List Value) (i : ℕ) (entry : Value) (old new : TextSoFar) (gs : List Guarded) (answer : Result Bool AllocError) → i < length ls → entry ≡ get_or ls i entry
-    → IsGrown rules head (map view (take i ls)) old gs → Pushes old new answer (gives rules (front_of (map view (take i ls)) (view entry))) → answer ≡ Ok false
-    → GrowsTooLarge rules head (map view ls) (i + 2)
+pub large_at : (rules : Rules) (head : Data) (ls : List (List ℕ)) (i : ℕ) (entry : List ℕ) (old new : TextSoFar) (gs : List Guarded) (answer : Result Bool AllocError) → i < length ls → entry ≡ get_or ls i entry
+    → IsGrown rules head (map tree_told (take i ls)) old gs → Pushes old new answer (gives rules (front_of (map tree_told (take i ls)) (tree_told entry))) → answer ≡ Ok false
+    → GrowsTooLarge rules head (map tree_told ls) (i + 2)
 large_at rules head ls i entry old new gs answer h there grown pushes is =
     let before : i + 2 - 2 ≡ i = omega arith in
     let here : i + 2 - 1 ≡ i + 1 = omega arith in
-    let fronts_at : take (i + 2 - 2) (map view ls) ≡ map view (take i ls) = ap (λ (n : ℕ). take n (map view ls)) before ∙ take-map view i ls in
-    let with_line : take (i + 2 - 1) (map view ls) ≡ map view (take i ls) ++ view entry ∷ [] =
-    ap (λ (n : ℕ). take n (map view ls)) here ∙ take-map view (i + 1) ls ∙ views_more ls i entry there h in
-    let all : written_by rules head (take (i + 2 - 1) (map view ls)) ≡ written_by rules head (map view (take i ls)) ++ map whole (gives rules (front_of (map view (take i ls)) (view entry))) =
-    ap (written_by rules head) with_line ∙ written-push rules head (map view (take i ls)) (view entry) in
+    let fronts_at : take (i + 2 - 2) (map tree_told ls) ≡ map tree_told (take i ls) = ap (λ (n : ℕ). take n (map tree_told ls)) before ∙ take-map tree_told i ls in
+    let with_line : take (i + 2 - 1) (map tree_told ls) ≡ map tree_told (take i ls) ++ tree_told entry ∷ [] =
+    ap (λ (n : ℕ). take n (map tree_told ls)) here ∙ take-map tree_told (i + 1) ls ∙ viewed_more tree_told ls i entry there h in
+    let all : written_by rules head (take (i + 2 - 1) (map tree_told ls)) ≡ written_by rules head (map tree_told (take i ls)) ++ map whole (gives rules (front_of (map tree_told (take i ls)) (tree_told entry))) =
+    ap (written_by rules head) with_line ∙ written-push rules head (map tree_told (take i ls)) (tree_told entry) in
     record {
       first = omega arith;
-      last = omega (arith, h, length-map ls view);
+      last = omega (arith, h, length-map ls tree_told);
       before = λ k. subst (λ (xs : List Data). AreWithinLimits (written_by rules head xs)) (sym fronts_at) grown.written.limits;
-      above = λ within. pushes.full (written_by rules head (map view (take i ls))) grown.written is (subst AreWithinLimits all within);
+      above = λ within. pushes.full (written_by rules head (map tree_told (take i ls))) grown.written is (subst AreWithinLimits all within);
     }
 
 -- what was reported where no line was refused

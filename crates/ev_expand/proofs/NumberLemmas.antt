@@ -157,9 +157,9 @@ entry_item profile items es i item entry e h here there =
     here ∙ ap (λ (xs : List ItemParts). get_or xs i item) e ∙ at_map (item_of profile Cds) (map view es) i (view entry) item below
     ∙ ap (item_of profile Cds) (at_map view es i entry (view entry) h) ∙ ap (λ (v : Value). item_of profile Cds (view v)) (sym there)
 
-pub views_more : (es : List Value) (i : ℕ) (entry : Value) → entry ≡ get_or es i entry → i < length es → map view (take (i + 1) es) ≡ map view (take i es) ++ view entry ∷ []
-views_more es i entry there h =
-    ap (map view) (take_more es i entry h) ∙ map-append view (take i es) (get_or es i entry ∷ []) ∙ ap (λ (v : Value). map view (take i es) ++ view v ∷ []) (sym there)
+pub viewed_more : {A : Type 0} (seen : A → Data) (es : List A) (i : ℕ) (entry : A) → entry ≡ get_or es i entry → i < length es → map seen (take (i + 1) es) ≡ map seen (take i es) ++ seen entry ∷ []
+viewed_more seen es i entry there h =
+    ap (map seen) (take_more es i entry h) ∙ map-append seen (take i es) (get_or es i entry ∷ []) ∙ ap (λ v. map seen (take i es) ++ seen v ∷ []) (sym there)
 
 pub placed_next : (guard : Guard) (entries after : List Data) (entry : Data) (gs new : List Guarded) (o : Option Guarded) (places more : List (Option ℕ)) (place : Option ℕ)
     → ArePlaced guard entries gs places → after ≡ entries ++ entry ∷ [] → new ≡ taken_up gs o → more ≡ places ++ place ∷ []

@@ -4,8 +4,8 @@ use Rattle.std.specs.Prelude.{◌≡◌, ℕ, ◌<◌, List, ◌∷◌, ◌++◌
 use Rattle.std.specs.List.{list_any}
 use Rattle.std.specs.declared.alloc.Global.{Global}
 use Rattle.serde_json.specs.Data.{Data}
-use Rattle.serde_json.specs.View.{view}
-use Rattle.serde_json.specs.declared.value.Value.{Value}
+use Rattle.ev_trees.specs.declared.kept_tree.KeptTree.{KeptTree}
+use Rattle.ev_trees.specs.Kept.{kept_shown}
 use Rattle.ev_expand.specs.declared.keys.Key.{Key}
 use Rattle.ev_expand.specs.declared.numbers.Numbers.{Numbers}
 use Rattle.ev_expand.specs.Guarding.{Guard, Guarded, guarded_same, guarded_by, clusters_in, place_at}
@@ -15,12 +15,12 @@ abbrev pub guarded_as : Key → Data → Guarded
 guarded_as key own = record { key = key; own = own }
 
 -- what the entries of the map show
-abbrev pub seen_in : List (Key × Value) → List Guarded
-seen_in entries = map (λ (e : Key × Value). guarded_as e.0 (view e.1)) entries
+abbrev pub seen_in : List (Key × KeptTree) → List Guarded
+seen_in entries = map (λ (e : Key × KeptTree). guarded_as e.0 (kept_shown e.1)) entries
 
 -- what an entry of the map shows that is found in it
-abbrev pub found_shown : Bor Key × Bor Value → Guarded
-found_shown found = guarded_as found.0.now (view found.1.now)
+abbrev pub found_shown : Bor Key × Bor KeptTree → Guarded
+found_shown found = guarded_as found.0.now (kept_shown found.1.now)
 
 -- what is guarded, as the table has it
 abbrev pub guarded_so_far : Numbers → List Guarded

@@ -1,4 +1,5 @@
 ghost use Rattle.std.specs.Prelude.{◌≡◌, ◌<◌, [], None, map, length, OnOk};
+ghost use Rattle.ev_script.specs.Members.{tree_told};
 ghost use Rattle.serde_json.specs.View.{view};
 ghost use Rattle.ev_expand.specs.Expanding.{IsExpanded, lines_due};
 ghost use Rattle.ev_expand.specs.Following.{due_shown};
@@ -18,6 +19,7 @@ use crate::outcome::ExpandError;
 use crate::private::first_use;
 use crate::text_so_far::TextSoFar;
 use ev_keys::Keys;
+use ev_script::LineTree;
 use ev_types::{Event, Item, Profile};
 use serde_json::Value;
 use std::alloc::{AllocError, Global};
@@ -113,10 +115,10 @@ pub fn expand_with<E: Expansion + Drop>(
     profile: Profile,
     expansion: E,
     head: &Value,
-    lines: &[Value],
+    lines: &[LineTree],
 ) -> Result<Vec<u8>, ExpandError>
     requires { E.is_behind profile expansion [] }
-    ensures { IsExpanded (E.rules profile) (view head.now) (map view lines.now) result }
+    ensures { IsExpanded (E.rules profile) (view head.now) (map tree_told lines.now) result }
 {
     if lines.len() >= MOST_LINES {
         return Err(ExpandError::OutOfMemory);
@@ -134,12 +136,12 @@ fn grown_text<E: Expansion + Drop>(
     profile: Profile,
     expansion: E,
     head: &Value,
-    lines: &[Value],
+    lines: &[LineTree],
 ) -> Result<Vec<u8>, ExpandError>
     requires behind { E.is_behind profile expansion [] }
     requires few { length lines.now < MOST_LINES }
-    requires unused { first_use (E.rules profile).guard.profile (E.rules profile).prefix (map view lines.now) ≡ None }
-    ensures { IsExpanded (E.rules profile) (view head.now) (map view lines.now) result }
+    requires unused { first_use (E.rules profile).guard.profile (E.rules profile).prefix (map tree_told lines.now) ≡ None }
+    ensures { IsExpanded (E.rules profile) (view head.now) (map tree_told lines.now) result }
 {
     let mut expansion = expansion;
     let mut text = TextSoFar::new(alloc);
@@ -173,16 +175,17 @@ fn push_line<E: Expansion>(
     numbers: &mut Numbers,
     text: &mut TextSoFar,
     at: u32,
-    line: &Value,
+    line: &LineTree,
 ) -> Result<bool, AllocError>
-    ensures text { GrowsBy (E.rules profile) (E.is_behind profile) expansion.old numbers.old at (view line.now)
+    ensures text { GrowsBy (E.rules profile) (E.is_behind profile) expansion.old numbers.old at (tree_told line.now)
         text.old text.new result }
-    ensures numbers { OnOk result (TakesUpLine (E.rules profile).guard (view line.now) numbers.old numbers.new) }
+    ensures numbers { OnOk result (TakesUpLine (E.rules profile).guard (tree_told line.now) numbers.old numbers.new) }
     ensures behind { StepsBehind (E.rules profile) (E.is_behind profile) expansion.old expansion.new numbers.old
-        (view line.now) result }
+        (tree_told line.now) result }
 {
-    let event = read_event(alloc, profile, line)?;
-    push_read(alloc, profile, expansion, numbers, text, at, line, &event)
+    let tree = line.read(alloc)?;
+    let event = read_event(alloc, profile, &tree)?;
+    push_read(alloc, profile, expansion, numbers, text, at, &tree, &event)
 }
 
 // The same, of a line that is read as this event.

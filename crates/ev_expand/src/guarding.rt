@@ -247,6 +247,7 @@ fn place_entry<E: Expansion>(
         return Ok(Some(place));
     }
     let place = numbers.len();
-    numbers.push(key, expansion.own(alloc, profile, entry)?)?;
+    let own = expansion.own(alloc, profile, entry)?;
+    numbers.push(alloc, key, &own)?;
     Ok(Some(place))
 }

@@ -7,6 +7,7 @@ ghost use Rattle.ev_expand.specs.Numbers.{found_shown, guarded_as, guarded_so_fa
 
 use crate::keys::Key;
 use ev_keys::Keys;
+use ev_trees::KeptTree;
 use indexmap::IndexMap;
 use serde_json::Value;
 use std::alloc::{AllocError, Global};
@@ -15,8 +16,8 @@ use std::alloc::{AllocError, Global};
 /// a look-up; its place, from 0, is one below its number.
 #[derive(Drop)]
 pub struct Numbers {
-    /// By key what is kept of its first item.
-    pub firsts: IndexMap<Key, Value, Keys>,
+    /// By key what is kept of its first item, as its text.
+    pub firsts: IndexMap<Key, KeptTree, Keys>,
 }
 
 impl Numbers {
@@ -37,7 +38,7 @@ impl Numbers {
     }
 
     /// The key at a place, and what is kept of its first item.
-    pub fn get(&self, place: usize) -> Option<(&Key, &Value)>
+    pub fn get(&self, place: usize) -> Option<(&Key, &KeptTree)>
         ensures { option_map found_shown result ≡ slice_get (guarded_so_far self.now) place }
     {
         self.firsts.get_index(place)
@@ -54,11 +55,12 @@ impl Numbers {
     }
 
     /// Appends a key that has no place yet to the others, with what is kept of its first item.
-    pub(crate) fn push(&mut self, key: Key, own: Value) -> Result<(), AllocError>
+    pub(crate) fn push(&mut self, alloc: Global, key: Key, own: &Value) -> Result<(), AllocError>
         requires { list_any (λ g. key_same key g.key) (guarded_so_far self.old) ≡ false }
-        ensures { OnOk result (guarded_so_far self.new ≡ guarded_so_far self.old ++ guarded_as key (view own) ∷ []) }
+        ensures { OnOk result (guarded_so_far self.new ≡ guarded_so_far self.old ++ guarded_as key (view own.now) ∷ []) }
     {
-        let Ok(_) = self.firsts.insert(key, own) else {
+        let kept = KeptTree::of(alloc, own)?;
+        let Ok(_) = self.firsts.insert(key, kept) else {
             return Err(AllocError);
         };
         Ok(())

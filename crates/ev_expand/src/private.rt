@@ -1,11 +1,11 @@
 ghost use Rattle.std.specs.Prelude.{◌≡◌, ◌+◌, ◌^◌, ◌<◌, length, map, option_map, Option, IfOk};
 ghost use Rattle.std.specs.List.{list_any};
-ghost use Rattle.serde_json.specs.View.{view};
+ghost use Rattle.ev_script.specs.Members.{tree_told};
 ghost use Rattle.ev_expand.specs.Private.{is_private, discovery_uses, content_uses, body_uses, item_uses, named_uses, response_uses, event_uses, line_uses, first_use};
 
 use crate::fronts::read_event;
+use ev_script::LineTree;
 use ev_types::{Body, Content, Discovery, Event, Item, Kind, Profile, Response, Text};
-use serde_json::Value;
 use std::alloc::{AllocError, Global};
 
 // The number of the first line that uses a private name; the lines are those from the second on.
@@ -13,10 +13,10 @@ pub(crate) fn first_use(
     alloc: Global,
     profile: Profile,
     prefix: &str,
-    lines: &[Value],
+    lines: &[LineTree],
 ) -> Result<Option<u32>, AllocError>
     requires { length lines.now + 2 < 2 ^ 32 }
-    ensures { IfOk result (λ line. line ≡ first_use profile prefix.now (map view lines.now)) }
+    ensures { IfOk result (λ line. line ≡ first_use profile prefix.now (map tree_told lines.now)) }
 {
     for (index, line) in lines.iter().enumerate() {
         if line_uses(alloc, profile, prefix, line)? {
@@ -31,11 +31,12 @@ fn line_uses(
     alloc: Global,
     profile: Profile,
     prefix: &str,
-    line: &Value,
+    line: &LineTree,
 ) -> Result<bool, AllocError>
-    ensures { IfOk result (λ uses. uses ≡ line_uses profile prefix.now (view line.now)) }
+    ensures { IfOk result (λ uses. uses ≡ line_uses profile prefix.now (tree_told line.now)) }
 {
-    match read_event(alloc, profile, line)? {
+    let tree = line.read(alloc)?;
+    match read_event(alloc, profile, &tree)? {
         Some(event) => Ok(event_uses(prefix, &event)),
         None => Ok(false),
     }

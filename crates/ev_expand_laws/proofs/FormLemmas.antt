@@ -7,14 +7,13 @@ use Rattle.std.proofs.lemmas.List.Elements.{All-nil, All-cons}
 use Rattle.serde_json.specs.Data.{Data}
 use Rattle.serde_json.specs.Read.{read}
 use Rattle.serde_json.specs.View.{view}
-use Rattle.serde_json.specs.declared.value.Value.{Value}
 use Rattle.serde_json.proofs.Nesting.{depth-read}
 use Rattle.ev_io.specs.Lines.{lines_of, onto_first, feeds_in}
 use Rattle.ev_types.specs.declared.events.Line.{Line}
 use Rattle.ev_script.specs.declared.forms.Settings.{Settings}
 use Rattle.ev_script.specs.declared.trees.ScriptTrees.{ScriptTrees}
 use Rattle.ev_script.specs.declared.fault_kinds.FaultKind.TheVariants.{NotLine, NoSuchWorker}
-use Rattle.ev_script.specs.Members.{tree_of}
+use Rattle.ev_script.specs.Members.{tree_of, tree_told}
 use Rattle.ev_script.specs.Content.{is_above}
 use Rattle.ev_script.specs.Header.{settings_of}
 use Rattle.ev_script.specs.Faults.{LineForms, Input, plain_lines, worker_of, index_at, EndsLine, EndsScriptLine, tree_at, settings_in, profile_by, profile_in, named_at, HasNoFault}
@@ -155,11 +154,11 @@ line_form forms input settings i tree whole ended sound heads within is =
     ends_at (inl h) = inl h
     ends_at (inr h) = inr (ended, h.0, h.1)
 
-by_places : (P : ℕ → Data → Type 0) (at : ℕ) (values : List Value) → ((i : ℕ) (other : Value) → i < length values → P (at + i) (view (get_or values i other))) → AllAt P at (map view values)
+by_places : (P : ℕ → Data → Type 0) (at : ℕ) (values : List (List ℕ)) → ((i : ℕ) (other : List ℕ) → i < length values → P (at + i) (tree_told (get_or values i other))) → AllAt P at (map tree_told values)
 by_places P at [] each = tt
 by_places P at (value ∷ values) each = (
-  subst (λ n. P n (view value)) (omega arith) (each 0 value (omega arith)),
-  by_places P (at + 1) values (λ i other h. subst (λ n. P n (view (get_or values i other))) (omega arith) (each (suc i) other (omega arith))),
+  subst (λ n. P n (tree_told value)) (omega arith) (each 0 value (omega arith)),
+  by_places P (at + 1) values (λ i other h. subst (λ n. P n (tree_told (get_or values i other))) (omega arith) (each (suc i) other (omega arith))),
 )
 
 -- the trees that were read have the forms
@@ -167,8 +166,8 @@ pub trees_have_forms : (forms : LineForms) (input : Input) (trees : ScriptTrees)
     → AllAt (HasForm forms (settings_of trees.header)) 2 (lines_in trees)
 trees_have_forms forms input trees heads answer =
     by_places (HasForm forms (settings_of trees.header)) 2 trees.lines.items
-    (λ i other h. subst (λ n. HasForm forms (settings_of trees.header) n (view (get_or trees.lines.items i other))) (omega arith)
-    (line_form forms input (settings_of trees.header) i (view (get_or trees.lines.items i other)) answer.0.script answer.0.ended answer.0.sound
+    (λ i other h. subst (λ n. HasForm forms (settings_of trees.header) n (tree_told (get_or trees.lines.items i other))) (omega arith)
+    (line_form forms input (settings_of trees.header) i (tree_told (get_or trees.lines.items i other)) answer.0.script answer.0.ended answer.0.sound
     (ap (option_and_then forms.heads) answer.1.head ∙ heads (view trees.head) ∙ ap (option_map settings_of) answer.1.header)
     (omega (arith, answer.0.lines))
     (ap (λ n. tree_of (get_or (lines_of input.bytes) n [])) (omega arith) ∙ answer.1.lines i other h)))
@@ -205,14 +204,14 @@ read_by false found tree h = absurd (cc)
 read_within : (text : List ℕ) (tree : Data) → tree_of text ≡ Some tree → IsReadable tree
 read_within text tree h = depth-read text tree (read_by (is_utf8 text) (read text) tree h)
 
-each_value : (P : Data → Type 0) (values : List Value) → ((i : ℕ) (other : Value) → i < length values → P (view (get_or values i other))) → All P (map view values)
+each_value : (P : Data → Type 0) (values : List (List ℕ)) → ((i : ℕ) (other : List ℕ) → i < length values → P (tree_told (get_or values i other))) → All P (map tree_told values)
 each_value P [] each = All-nil P
 each_value P (value ∷ values) each =
-    All-cons P (view value) (map view values) (each 0 value (omega arith)) (each_value P values (λ i other h. each (suc i) other (omega arith)))
+    All-cons P (tree_told value) (map tree_told values) (each 0 value (omega arith)) (each_value P values (λ i other h. each (suc i) other (omega arith)))
 
 -- trees that were read are no deeper than a reader goes
 pub trees_are_readable : (forms : LineForms) (input : Input) (trees : ScriptTrees) → IsTreesAnswer forms input (Ok trees) → All IsReadable (view trees.head ∷ lines_in trees)
 trees_are_readable forms input trees answer =
     All-cons IsReadable (view trees.head) (lines_in trees) (read_within (get_or (lines_of input.bytes) 0 []) (view trees.head) answer.1.head)
     (each_value IsReadable trees.lines.items
-    (λ i other h. read_within (get_or (lines_of input.bytes) (i + 1) []) (view (get_or trees.lines.items i other)) (answer.1.lines i other h)))
+    (λ i other h. read_within (get_or (lines_of input.bytes) (i + 1) []) (tree_told (get_or trees.lines.items i other)) (answer.1.lines i other h)))

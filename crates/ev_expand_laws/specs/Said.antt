@@ -1,7 +1,6 @@
 -- The script that a text says, and the lines of the text that a command makes.
 use Rattle.std.specs.Prelude.{◌≡◌, ℕ, ◌+◌, List, [], ◌∷◌, ◌++◌, map, flat_map, true, false, Some, option_to_list, ⊤}
 use Rattle.serde_json.specs.Data.{Data}
-use Rattle.serde_json.specs.View.{view}
 use Rattle.ev_types.specs.Scripts.{ScriptParts}
 use Rattle.ev_types.specs.declared.events.Line.{Line}
 use Rattle.ev_types.specs.declared.events.Profile.{Profile}
@@ -10,13 +9,14 @@ use Rattle.ev_script.specs.declared.trees.ScriptTrees.{ScriptTrees}
 use Rattle.ev_script.specs.Content.{is_above}
 use Rattle.ev_script.specs.Faults.{Input, worker_of}
 use Rattle.ev_script.specs.Lines.{line_of}
+use Rattle.ev_script.specs.Members.{tree_told}
 use Rattle.ev_script.specs.ReadScript.{script_made}
 use Rattle.ev_expand.specs.Fronts.{fronts}
 use Rattle.ev_expand.specs.Expanding.{Rules, gives}
 
 -- the trees of the lines after the header
 abbrev pub lines_in : ScriptTrees → List Data
-lines_in trees = map view trees.lines.items
+lines_in trees = map tree_told trees.lines.items
 
 -- the lines that trees are in a profile, from this place on
 abbrev pub lines_said : Profile → ℕ → List Data → List Line

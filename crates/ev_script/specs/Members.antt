@@ -1,6 +1,6 @@
 -- JSON values and members of objects, as the lines of a script have them. Only the written name of a
 -- member counts, and a member `null` is a member.
-use Rattle.std.specs.Prelude.{ℕ, ◌&&◌, List, [], ◌∷◌, length, Bool, true, false, nat_le, if◌then◌else◌, codes, Option, None, Some, option_map, option_and_then}
+use Rattle.std.specs.Prelude.{ℕ, ◌&&◌, List, [], ◌∷◌, length, Bool, true, false, nat_le, if◌then◌else◌, codes, Option, None, Some, option_map, option_and_then, unwrap_or}
 use Rattle.std.specs.List.{list_any}
 use Rattle.std.specs.Str.{bytes_eq, is_utf8}
 use denote.Ref.{Bor}
@@ -12,6 +12,10 @@ use Rattle.ev_types.specs.declared.limits.TheConstants.{MAX_NAME_LENGTH}
 -- the value that bytes are, where they are JSON in UTF-8
 abbrev pub tree_of : List ℕ → Option Data
 tree_of bytes = if is_utf8 bytes then read bytes else None
+
+-- the value that bytes are, of bytes that are one
+abbrev pub tree_told : List ℕ → Data
+tree_told bytes = unwrap_or (tree_of bytes) null
 
 -- a text is one of these
 abbrev pub is_text_among : List ℕ → List (Bor (List ℕ)) → Bool

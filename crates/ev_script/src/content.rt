@@ -67,7 +67,7 @@ pub(crate) fn read_content<F: Forms>(
     if begins_journal(audit, &tree) {
         return Ok(Content::Journal);
     }
-    let Some(formed) = forms.read(alloc, settings.profile, at, tree)? else {
+    let Some(formed) = forms.read(alloc, settings.profile, at, text, tree)? else {
         return Ok(Content::Fault(FaultKind::NotLine));
     };
     if is_above(settings.workers, formed.worker) {

@@ -1,8 +1,9 @@
-ghost use Rattle.std.specs.Prelude.{◌≡◌, ℕ, Option, option_map, IfOk, IfSome};
+ghost use Rattle.std.specs.Prelude.{◌≡◌, ℕ, Option, Some, option_map, IfOk, IfSome};
 ghost use Rattle.serde_json.specs.Data.{Data};
 ghost use Rattle.serde_json.specs.View.{view};
 ghost use Rattle.ev_types.specs.declared.events.Profile.{Profile};
 ghost use Rattle.ev_script.specs.Faults.{LineForms, worker_of};
+ghost use Rattle.ev_script.specs.Members.{tree_of};
 
 use crate::header::{Header, read_header, settings_of};
 use crate::lines::read_line;
@@ -63,7 +64,7 @@ pub trait Forms {
         ensures kept { IfOk result (λ head. IfSome head (λ head. keeps_head (view tree) head.kept)) };
 
     /// The line that a tree is, by the profile that the first line sets and its own number, or none
-    /// where it isn't one. Whether its worker is one of the script's is not looked at.
+    /// where it isn't one. The text is that of the tree. Whether its worker is one of the script's is not looked at.
     ///
     /// # Errors
     /// `AllocError` where there is no memory for it.
@@ -72,8 +73,10 @@ pub trait Forms {
         alloc: Global,
         profile: Profile,
         at: u32,
+        text: &[u8],
         tree: Value,
     ) -> Result<Option<FormedLine<Self::Kept>>, AllocError>
+        requires reads { tree_of text.now ≡ Some (view tree) }
         ensures line { IfOk result (λ line. option_map (λ line. line.worker) line
             ≡ forms.lines profile at (view tree)) }
         ensures kept { IfOk result (λ line. IfSome line (λ line. keeps profile at (view tree) line.kept)) };
@@ -118,6 +121,7 @@ impl Forms for ScriptLines {
         alloc: Global,
         profile: Profile,
         at: u32,
+        _text: &[u8],
         tree: Value,
     ) -> Result<Option<FormedLine<Line>>, AllocError> {
         match read_line(alloc, profile, at, &tree)? {

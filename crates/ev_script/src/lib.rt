@@ -35,7 +35,8 @@
 //!   to `read_lines_with`, which reads whole inputs; the lines of a script are `ScriptLines`.
 //! - The loop ends at a journal's first line or at the end of the input, and doesn't ask whether a journal has to be
 //!   there: where it is missing, `read_audited_script` reports that.
-//! - `read_trees` is the same reader over a type that keeps a line as its tree (`LineTrees`).
+//! - `read_trees` is the same reader over a type that keeps a line as its tree (`LineTrees`), in the memory of the line's
+//!   text: whoever looks at the tree reads it again (`LineTree`), and as a tree a line takes some 30 times its text.
 //! - A script alone and a script with a journal after it are two calls with two types: `read_script` gives a
 //!   `Script`, and `read_audited_script` an `AuditedScript`. They take the place of one call `read_script` with a
 //!   flag and an answer that has both cases, of which each caller would have to rule out one. Trees are read of whole
@@ -62,6 +63,7 @@ mod headers;
 mod health_lines;
 mod limits;
 mod line_forms;
+mod line_tree;
 mod lines;
 mod main_lines;
 mod members;
@@ -76,6 +78,7 @@ pub use fault_kinds::FaultKind;
 pub use forms::{FormedHead, FormedLine, Forms, ScriptLines, Settings};
 pub use header::{Header, read_header};
 pub use limits::{MAX_NUMBER, MAX_PATH_LENGTH, MAX_WORKER};
+pub use line_tree::LineTree;
 pub use lines::read_line;
 pub use members::{
     flag_at, has_only, is_op, name_at, number_at, read_name, read_tree, text_or, word_at,

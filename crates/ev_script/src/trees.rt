@@ -1,6 +1,5 @@
 ghost use Rattle.std.specs.Prelude.{◌≡◌, ◌+◌, ◌≤◌, ◌⊎◌, List, ℕ, None, Err, IsTrue, false, OnOk, IfOk, length};
 ghost use Rattle.std.specs.Io.KnownBytes.{IsAtEnd};
-ghost use Rattle.serde_json.specs.View.{view};
 ghost use Rattle.ev_io.specs.Outside.{Rose, Takes};
 ghost use Rattle.ev_io.specs.LinesState.{IsFresh, HasTaken, IsWithin};
 ghost use Rattle.ev_io.specs.ReadLine.{LeavesOpen};
@@ -10,6 +9,7 @@ ghost use Rattle.ev_script.specs.ReadTrees.{KeepsHeads, KeepsTrees, IsTreesAnswe
 
 use crate::forms::{FormedHead, FormedLine, Forms, worker_of};
 use crate::header::{Header, read_header, settings_of};
+use crate::line_tree::LineTree;
 use crate::lines::read_line;
 use crate::read_input::{ReadLines, read_lines_with};
 use ev_io::{Lines, ScriptFault, Source};
@@ -26,23 +26,24 @@ pub struct HeadTree {
     pub tree: Value,
 }
 
-/// The lines of a script, each kept as its tree.
+/// The lines of a script, each kept as its tree, in the memory of its text.
 #[derive(Clone, Copy, Debug)]
 pub struct LineTrees;
 
 impl Forms for LineTrees {
     ghost use Rattle.ev_script.specs.Faults.{plain_lines};
+    ghost use Rattle.ev_script.specs.Members.{tree_told};
     ghost use Rattle.ev_script.specs.ReadTrees.{IsTreeHead};
 
     type Head = HeadTree;
 
-    type Kept = Value;
+    type Kept = LineTree;
 
     ghost forms = { plain_lines };
 
     ghost keeps_head = { IsTreeHead };
 
-    ghost keeps = { λ profile at tree kept. view kept ≡ tree };
+    ghost keeps = { λ profile at tree kept. tree_told kept ≡ tree };
 
     fn read_head(
         &self,
@@ -63,11 +64,12 @@ impl Forms for LineTrees {
         alloc: Global,
         profile: Profile,
         at: u32,
+        text: &[u8],
         tree: Value,
-    ) -> Result<Option<FormedLine<Value>>, AllocError> {
+    ) -> Result<Option<FormedLine<LineTree>>, AllocError> {
         match read_line(alloc, profile, at, &tree)? {
             Some(line) => Ok(Some(FormedLine {
-                kept: tree,
+                kept: LineTree::new(alloc, text)?,
                 worker: worker_of(line.actor),
             })),
             None => Ok(None),
@@ -83,7 +85,7 @@ pub struct ScriptTrees {
     /// The tree of the first line.
     pub head: Value,
     /// The trees of the lines after it, in order.
-    pub lines: Vec<Value>,
+    pub lines: Vec<LineTree>,
     /// Keys of all lines, for tables of what they name. Which they are isn't promised.
     pub keys: Keys,
 }
@@ -117,7 +119,7 @@ pub fn read_trees<S: Source>(
 ///
 /// # Errors
 /// As of `read_script`; a line of another form is one of kind 6.
-pub fn read_trees_with<S: Source, F: Forms<Head = HeadTree, Kept = Value>>(
+pub fn read_trees_with<S: Source, F: Forms<Head = HeadTree, Kept = LineTree>>(
     alloc: Global,
     forms: &F,
     lines: &mut Lines,

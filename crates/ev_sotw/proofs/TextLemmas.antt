@@ -3,18 +3,19 @@ use Rattle.std.proofs.Common.{◌≡◌, ◌∙◌, ℕ, ◌+◌, ◌<◌, List,
 use Rattle.std.specs.List.{flat_map}
 use Rattle.std.proofs.lemmas.List.{append-nil, map-append, take_more}
 use Rattle.std.proofs.lemmas.Grind.{flat_map-append}
-use Rattle.serde_json.specs.Data.{Data}
 use Rattle.ev_types.specs.declared.events.Entry.{Entry}
+use Rattle.ev_script.specs.Members.{tree_told}
 use Rattle.ev_sotw_lines.specs.Searches.{with_before}
+use Rattle.ev_sotw_lines.specs.Lines.{version_in}
 use Rattle.ev_sotw_lines.proofs.SearchLemmas.{with_before_more}
 use Rattle.ev_sotw.specs.Stated.{Stated, sotw_line}
-use Rattle.ev_sotw.specs.Text.{stated_in, lines_told}
+use Rattle.ev_sotw.specs.Text.{stated_by, versions_in, lines_told}
 
-pub stated_more : (lines : List Data) (journal : List Entry) (i : ℕ) (entry : Entry) → i < length journal → entry ≡ get_or journal i entry
-    → map (stated_in lines) (take (i + 1) journal) ≡ map (stated_in lines) (take i journal) ++ stated_in lines entry ∷ []
-stated_more lines journal i entry within is =
-    ap (map (stated_in lines)) (take_more journal i entry within) ∙ map-append (stated_in lines) (take i journal) (get_or journal i entry ∷ [])
-    ∙ ap (λ e. map (stated_in lines) (take i journal) ++ stated_in lines e ∷ []) (sym is)
+pub stated_more : (versions : List (List ℕ)) (journal : List Entry) (i : ℕ) (entry : Entry) → i < length journal → entry ≡ get_or journal i entry
+    → map (stated_by versions) (take (i + 1) journal) ≡ map (stated_by versions) (take i journal) ++ stated_by versions entry ∷ []
+stated_more versions journal i entry within is =
+    ap (map (stated_by versions)) (take_more journal i entry within) ∙ map-append (stated_by versions) (take i journal) (get_or journal i entry ∷ [])
+    ∙ ap (λ e. map (stated_by versions) (take i journal) ++ stated_by versions e ∷ []) (sym is)
 
 abbrev placed_line : List Stated × Stated → List ℕ
 placed_line placed = sotw_line placed.0 placed.1
@@ -31,3 +32,12 @@ pub lines_more : (first : List ℕ) (entries : List Stated) (stated : Stated) (t
 lines_more first entries stated text is =
     ap (λ xs. xs ++ sotw_line entries stated) is ∙ append_assoc first (lines_told entries) (sotw_line entries stated)
     ∙ ap (λ xs. first ++ xs) (sym (told_more entries stated))
+
+-- the versions of a line more
+pub versions_more : (lines : List (List ℕ)) (i : ℕ) (line : List ℕ) → i < length lines → line ≡ get_or lines i line
+    → versions_in (map tree_told (take (i + 1) lines)) ≡ versions_in (map tree_told (take i lines)) ++ version_in (tree_told line) ∷ []
+versions_more lines i line within is =
+    ap (λ ls. versions_in (map tree_told ls)) (take_more lines i line within)
+    ∙ ap versions_in (map-append tree_told (take i lines) (get_or lines i line ∷ []))
+    ∙ map-append version_in (map tree_told (take i lines)) (tree_told (get_or lines i line) ∷ [])
+    ∙ ap (λ l. versions_in (map tree_told (take i lines)) ++ version_in (tree_told l) ∷ []) (sym is)

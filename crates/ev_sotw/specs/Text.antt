@@ -1,5 +1,5 @@
 -- The whole journal of a replay of a state-of-the-world script.
-use Rattle.std.specs.Prelude.{ℕ, ◌-◌, List, [], ◌++◌, length, slice_get, Bool, true, false, if◌then◌else◌, Option, None, Some}
+use Rattle.std.specs.Prelude.{ℕ, ◌-◌, List, [], ◌++◌, length, map, slice_get, Bool, true, false, if◌then◌else◌, unwrap_or}
 use Rattle.std.specs.List.{flat_map}
 use Rattle.serde_json.specs.Data.{Data}
 use Rattle.ev_types.specs.declared.events.Entry.{Entry}
@@ -13,21 +13,25 @@ use Rattle.ev_sotw.specs.Stated.{Stated, stated_with, sotw_line}
 
 -- ---- versions, by the lines after the header
 
+-- the versions of the responses that lines bring, and the empty text for each that brings none
+abbrev pub versions_in : List Data → List (List ℕ)
+versions_in lines = map version_in lines
+
 abbrev pub is_response : Event → Bool
 is_response (Response response) = true
 is_response event = false
 
-abbrev pub version_on : Option Data → List ℕ
-version_on None = []
-version_on (Some line) = version_in line
-
 -- the version of the response that an entry answers, which its line brings: the header's line is 1
-abbrev pub version_at : List Data → Entry → List ℕ
-version_at lines entry = if is_response entry.event then version_on (slice_get lines (entry.at - 2)) else []
+abbrev pub version_at : List (List ℕ) → Entry → List ℕ
+version_at versions entry = if is_response entry.event then unwrap_or (slice_get versions (entry.at - 2)) [] else []
 
--- an entry with the version of the response that it answers
+-- an entry with the version of the response that it answers, by the versions that lines bring
+abbrev pub stated_by : List (List ℕ) → Entry → Stated
+stated_by versions entry = stated_with entry (version_at versions entry)
+
+-- the same, by the lines
 abbrev pub stated_in : List Data → Entry → Stated
-stated_in lines entry = stated_with entry (version_at lines entry)
+stated_in lines entry = stated_by (versions_in lines) entry
 
 -- ---- the text
 

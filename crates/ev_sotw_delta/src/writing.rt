@@ -2,6 +2,7 @@ ghost use Rattle.std.specs.Prelude.{◌≡◌, List, [], ◌∷◌, ◌++◌, tr
 ghost use Rattle.serde_json.specs.Data.{Data};
 ghost use Rattle.serde_json.specs.View.{view};
 ghost use Rattle.ev_script.specs.Faults.{Input, plain_lines, HasNoFault};
+ghost use Rattle.ev_script.specs.Members.{tree_told};
 ghost use Rattle.ev_script.specs.Script.{script_of};
 ghost use Rattle.ev_script.specs.ReadTrees.{IsTreesAnswer};
 ghost use Rattle.ev_tree.specs.Floats.{whole};
@@ -14,10 +15,10 @@ ghost use Rattle.ev_sotw_delta.specs.SameWorld.{RunsAreSameWorld};
 ghost use Rattle.ev_sotw_delta.specs.DeltaText.{FitsInput, IsWritten, WritesOn, IsTooLargeFor, IsRefusal, written_of, delta_script};
 
 use crate::outcome::DeltaError;
-use ev_delta::nests_within;
 use ev_expand::TextSoFar;
-use ev_script::ScriptTrees;
+use ev_script::{LineTree, ScriptTrees};
 use ev_sotw_lines::NamesSoFar;
+use ev_trees::nests_within;
 use serde_json::Value;
 use std::alloc::{AllocError, Global};
 
@@ -54,17 +55,18 @@ fn push_delta(
     alloc: Global,
     text: &mut TextSoFar,
     names: &mut NamesSoFar,
-    line: &Value,
+    line: &LineTree,
 ) -> Result<(), DeltaError>
-    ensures follows { OnOk result (GoesOnBy (view line.now) names.old names.new) }
+    ensures follows { OnOk result (GoesOnBy (tree_told line.now) names.old names.new) }
     ensures pushed { OnOk result ((lines : List Data) → FollowsLines lines names.old
-        → WritesOn (whole (delta_of lines (view line.now))) text.old text.new) }
+        → WritesOn (whole (delta_of lines (tree_told line.now))) text.old text.new) }
     ensures large { IfErr result (λ error. (lines : List Data) → FollowsLines lines names.old
-        → IsTooLargeFor text.old (whole (delta_of lines (view line.now))) error) }
+        → IsTooLargeFor text.old (whole (delta_of lines (tree_told line.now))) error) }
 {
-    match names.line(alloc, line)? {
+    let tree = line.read(alloc)?;
+    match names.line(alloc, &tree)? {
         Some(delta) => push_tree(alloc, text, &delta),
-        None => push_tree(alloc, text, line),
+        None => push_tree(alloc, text, &tree),
     }
 }
 

@@ -4,7 +4,7 @@ ghost use Rattle.ev_delta.specs.Discovery.{seen};
 ghost use Rattle.ev_sotw_lines.specs.Lines.{response_in, version_in};
 
 use ev_delta::{Discovery, read_discovery};
-use ev_script::{FormedHead, FormedLine, Forms, HeadTree, LineTrees, has_only, is_op};
+use ev_script::{FormedHead, FormedLine, Forms, HeadTree, LineTree, LineTrees, has_only, is_op};
 use ev_types::Profile;
 use serde_json::Value;
 use std::alloc::{AllocError, Global};
@@ -16,17 +16,18 @@ pub struct SotwLines;
 
 impl Forms for SotwLines {
     ghost use Rattle.ev_sotw_lines.specs.Lines.{sotw_lines};
+    ghost use Rattle.ev_script.specs.Members.{tree_told};
     ghost use Rattle.ev_script.specs.ReadTrees.{IsTreeHead};
 
     type Head = HeadTree;
 
-    type Kept = Value;
+    type Kept = LineTree;
 
     ghost forms = { sotw_lines };
 
     ghost keeps_head = { IsTreeHead };
 
-    ghost keeps = { λ profile at tree kept. view kept ≡ tree };
+    ghost keeps = { λ profile at tree kept. tree_told kept ≡ tree };
 
     fn read_head(
         &self,
@@ -41,16 +42,17 @@ impl Forms for SotwLines {
         alloc: Global,
         profile: Profile,
         at: u32,
+        text: &[u8],
         tree: Value,
-    ) -> Result<Option<FormedLine<Value>>, AllocError> {
+    ) -> Result<Option<FormedLine<LineTree>>, AllocError> {
         if !is_op("response", &tree) {
-            return LineTrees.read(alloc, profile, at, tree);
+            return LineTrees.read(alloc, profile, at, text, tree);
         }
         if response_in(alloc, &tree)?.is_none() {
             return Ok(None);
         }
         Ok(Some(FormedLine {
-            kept: tree,
+            kept: LineTree::new(alloc, text)?,
             worker: None,
         }))
     }

@@ -5,7 +5,7 @@ use Rattle.std.specs.Str.{bytes_eq}
 use Rattle.indexmap.specs.IndexSet.{IndexSet, contains}
 use Rattle.indexmap.specs.IndexMap.{get}
 use Rattle.serde_json.specs.Data.{Data}
-use Rattle.serde_json.specs.View.{view}
+use Rattle.ev_trees.specs.Kept.{kept_shown}
 use Rattle.ev_expand.specs.declared.keys.Key.{Key}
 use Rattle.ev_tls_secrets.specs.declared.awaited.Awaited.{Awaited}
 use Rattle.ev_tls_secrets.specs.declared.awaited.Awaited.TheVariants.{Secret, Endpoints}
@@ -44,7 +44,7 @@ next_of told key = first_untold told (awaited_by key)
 
 -- the value of a name
 abbrev pub shown_value : Values → List ℕ → Option Data
-shown_value values name = option_map view (get bytes_eq values.by_name name)
+shown_value values name = option_map kept_shown (get bytes_eq values.by_name name)
 
 -- the name has this value, and each other name the one before
 abbrev pub PutsValue : List ℕ → Data → Values → Values → Type 0

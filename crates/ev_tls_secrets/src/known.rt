@@ -1,6 +1,7 @@
 ghost use Rattle.std.specs.Prelude.{◌≡◌, ◌∷◌, [], ℕ, List, map, take, false, true, None, option_map, IfOk, OnOk};
 ghost use Rattle.serde_json.specs.View.{view};
 ghost use Rattle.ev_mentions.specs.Mentions.{Puts};
+ghost use Rattle.ev_trees.specs.Kept.{kept_shown};
 ghost use Rattle.ev_tls_secrets.specs.declared.awaited.Awaited.{Awaited};
 ghost use Rattle.ev_tls_secrets.specs.declared.awaited.Awaited.TheVariants.{Endpoints};
 ghost use Rattle.ev_tls_secrets.specs.Awaited.{services_of};
@@ -10,6 +11,7 @@ ghost use Rattle.ev_tls_secrets.specs.Told.{value_shown};
 use crate::awaited::Awaited;
 use ev_expand::Key;
 use ev_keys::Keys;
+use ev_trees::KeptTree;
 use ev_types::{Discovery, Name, TryCopy};
 use indexmap::{IndexMap, IndexSet};
 use serde_json::Value;
@@ -117,10 +119,10 @@ fn insert(names: &mut IndexSet<Name, Keys>, name: Name) -> Result<(), AllocError
     Ok(())
 }
 
-/// The values of names of endpoints.
+/// The values of names of endpoints, each kept as its text.
 #[derive(Drop)]
 pub(crate) struct Values {
-    pub by_name: IndexMap<Name, Value, Keys>,
+    pub by_name: IndexMap<Name, KeptTree, Keys>,
 }
 
 impl Values {
@@ -134,8 +136,8 @@ impl Values {
     }
 
     /// The last value of a name.
-    pub(crate) fn get(&self, name: &Name) -> Option<&Value>
-        ensures { option_map (λ v. view v.now) result ≡ shown_value self.now name.now }
+    pub(crate) fn get(&self, name: &Name) -> Option<&KeptTree>
+        ensures { option_map (λ v. kept_shown v.now) result ≡ shown_value self.now name.now }
     {
         self.by_name.get(name)
     }
@@ -152,16 +154,17 @@ impl Values {
         let mut names = IndexSet::with_hasher(alloc, *self.by_name.hasher());
         for (name, value) in values {
             insert(&mut names, name.copy(alloc)?)?;
-            self.put(name, value)?;
+            self.put(alloc, name, value)?;
         }
         Ok(names)
     }
 
     // Takes a value in place of the one before.
-    fn put(&mut self, name: Name, value: Value) -> Result<(), AllocError>
+    fn put(&mut self, alloc: Global, name: Name, value: Value) -> Result<(), AllocError>
         ensures { OnOk result (PutsValue name (view value) self.old self.new) }
     {
-        let Ok(_) = self.by_name.insert(name, value) else {
+        let kept = KeptTree::of(alloc, &value)?;
+        let Ok(_) = self.by_name.insert(name, kept) else {
             return Err(AllocError);
         };
         Ok(())

@@ -5,6 +5,7 @@ ghost use Rattle.std.specs.Ordering.{nat_cmp};
 ghost use Rattle.std.specs.Str.{bytes_eq};
 ghost use Rattle.indexmap.specs.IndexSet.{contains};
 ghost use Rattle.serde_json.specs.View.{view};
+ghost use Rattle.ev_trees.specs.Kept.{kept_shown};
 ghost use Rattle.ev_expand.specs.Following.{due_shown};
 ghost use Rattle.ev_expand.specs.Numbers.{guarded_so_far};
 ghost use Rattle.ev_tls_secrets.specs.Awaited.{services_of};
@@ -17,6 +18,7 @@ use crate::known::Values;
 use crate::places::Places;
 use ev_expand::{Due, Key, Numbers};
 use ev_keys::Keys;
+use ev_trees::KeptTree;
 use ev_types::{Discovery, Name, TryCopy};
 use indexmap::IndexSet;
 use serde_json::Value;
@@ -52,7 +54,7 @@ pub(crate) fn look(
     let mut due = Vec::new(alloc);
     let candidates = candidates(alloc, complete, marks)?;
     for place in &candidates {
-        push_due(&mut due, numbers, values, complete, marks, *place)?;
+        push_due(alloc, &mut due, numbers, values, complete, marks, *place)?;
     }
     Ok(due)
 }
@@ -123,6 +125,7 @@ fn put(places: &mut BTreeSet<usize>, place: usize) -> Result<(), AllocError>
 
 // Appends what is at a place to these, where it is due.
 fn push_due(
+    alloc: Global,
     due: &mut Vec<Due>,
     numbers: &Numbers,
     values: &Values,
@@ -139,7 +142,7 @@ fn push_due(
     if !is_due(complete, marks, place, key) {
         return Ok(());
     }
-    let endpoints = endpoints_with(values, &key.cluster.discovery, own)?;
+    let endpoints = endpoints_with(alloc, values, &key.cluster.discovery, own)?;
     due.push(Due { place, endpoints })?;
     Ok(())
 }
@@ -170,25 +173,26 @@ fn gives_to(given: &IndexSet<Name, Keys>, discovery: &Discovery) -> bool
 
 // The endpoints of something guarded.
 fn endpoints_with(
+    alloc: Global,
     values: &Values,
     discovery: &Discovery,
-    own: &Value,
+    own: &KeptTree,
 ) -> Result<Option<Value>, AllocError>
-    ensures { IfOk result (λ found. option_map view found ≡ endpoints_with values.now discovery.now (view own.now)) }
+    ensures { IfOk result (λ found. option_map view found ≡ endpoints_with values.now discovery.now (kept_shown own.now)) }
 {
     match discovery {
-        Discovery::Static(_) => Ok(Some(own.clone()?)),
-        Discovery::Eds { service, .. } => copy_of(values.get(service)),
+        Discovery::Static(_) => Ok(Some(own.read(alloc)?)),
+        Discovery::Eds { service, .. } => read_given(alloc, values.get(service)),
         Discovery::Elsewhere => Ok(None),
     }
 }
 
-// A copy of a value, where there is one.
-fn copy_of(value: Option<&Value>) -> Result<Option<Value>, AllocError>
-    ensures { IfOk result (λ copy. option_map view copy ≡ option_map (λ v. view v.now) value.entry) }
+// A value again, where there is one.
+fn read_given(alloc: Global, value: Option<&KeptTree>) -> Result<Option<Value>, AllocError>
+    ensures { IfOk result (λ read. option_map view read ≡ option_map (λ v. kept_shown v.now) value.entry) }
 {
     match value {
-        Some(value) => Ok(Some(value.clone()?)),
+        Some(value) => Ok(Some(value.read(alloc)?)),
         None => Ok(None),
     }
 }

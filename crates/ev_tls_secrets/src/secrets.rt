@@ -1,5 +1,6 @@
 ghost use Rattle.std.specs.Prelude.{◌≡◌, ◌&&◌, ℕ, [], not, nat_eq, map, IfOk, OnOk};
 ghost use Rattle.std.specs.Str.{bytes_eq};
+ghost use Rattle.ev_script.specs.Members.{tree_told};
 ghost use Rattle.serde_json.specs.View.{view};
 ghost use Rattle.ev_expand.specs.Expanding.{IsExpanded};
 ghost use Rattle.indexmap.specs.IndexSet.{contains};
@@ -17,6 +18,7 @@ use crate::references::{body_in, key_by, own_endpoints};
 use crate::waiting::Waiting;
 use ev_expand::{Due, ExpandError, Expansion, Key, Numbers, expand_with};
 use ev_keys::Keys;
+use ev_script::LineTree;
 use ev_types::{Event, Item, Name, Profile};
 use indexmap::IndexSet;
 use serde_json::Value;
@@ -167,9 +169,9 @@ pub fn expand(
     keys: Keys,
     profile: Profile,
     head: &Value,
-    lines: &[Value],
+    lines: &[LineTree],
 ) -> Result<Vec<u8>, ExpandError>
-    ensures { IsExpanded (tls_rules profile) (view head.now) (map view lines.now) result }
+    ensures { IsExpanded (tls_rules profile) (view head.now) (map tree_told lines.now) result }
 {
     expand_with(alloc, keys, profile, Secrets::new(alloc, keys), head, lines)
 }

@@ -20,6 +20,12 @@ pub written_back : {E : Type 0} (r : Result (Vec ℕ Global) E) (tree : Data) �
 written_back (Ok b) tree none text utf8 back = λ readable. reads_back b.items tree (text none) utf8 (back readable)
 written_back (Err e) tree none text utf8 back = tt
 
+-- the text of a tree that a reader goes through
+pub text_back : {E : Type 0} (r : Result (Vec ℕ Global) E) (tree : Data) → IsReadable tree → IfOk r (λ b. IsUtf8 b.items) → IfOk r (λ b. depth tree ≤ max_depth → read b.items ≡ Some tree)
+    → IfOk r (λ b. tree_of b.items ≡ Some tree)
+text_back (Ok b) tree readable utf8 back = sym (tree_read b.items tree utf8 (back readable))
+text_back (Err e) tree readable utf8 back = tt
+
 -- a fact that is known whatever the result
 pub on_ok : {A E : Type 0} {P : Type 0} (r : Result A E) → P → OnOk r P
 on_ok (Ok x) p = p

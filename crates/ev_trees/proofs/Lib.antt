@@ -1,3 +1,4 @@
+pub mod DepthLemmas
 pub mod FeedLemmas
 pub mod BackLemmas
 pub mod LineLemmas

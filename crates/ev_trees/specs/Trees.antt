@@ -1,15 +1,14 @@
 -- The text of trees, a line each.
-use Rattle.std.specs.Prelude.{◌≡◌, ℕ, ◌≤◌, List, map, length, false, Some, All}
+use Rattle.std.specs.Prelude.{◌≡◌, ℕ, ◌≤◌, List, map, length, Some, All}
 use Rattle.std.specs.List.{flat_map}
 use Rattle.serde_json.specs.Data.{Data, depth}
 use Rattle.serde_json.specs.Read.{max_depth}
-use Rattle.serde_json.specs.Written.{has_float, compact_text}
+use Rattle.serde_json.specs.Written.{compact_text}
 use Rattle.ev_io.specs.declared.limits.TheConstants.{MAX_LINE_BYTES, MAX_LINES, MAX_INPUT_BYTES}
 use Rattle.ev_io.specs.Lines.{lines_of}
 use Rattle.ev_io.specs.LineFaults.{IsSoundUpTo}
 use Rattle.ev_journal.specs.Rendering.{line_text}
 use Rattle.ev_script.specs.Members.{tree_of}
-use Rattle.ev_tree.specs.Floats.{whole}
 
 -- the text of trees: a line each
 abbrev pub text_of_trees : List Data → List ℕ

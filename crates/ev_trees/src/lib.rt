@@ -11,10 +11,16 @@
 //! - A tree is copied only where it has a float, which is found by a look that takes no memory.
 //! - That a tree is read back is no law of trees: keys that aren't sorted, texts that aren't UTF-8 and trees deeper than
 //!   127 aren't. So it is a clause of the calls that write one.
+//! - A tree that is kept for later is kept as its text (`KeptTree`), which takes a thirtieth of its memory, unless it nests
+//!   deeper than a reader goes.
 #![tactic(auto)]
 
+mod depth;
+mod kept_tree;
 mod laws;
 mod writing;
 
+pub use depth::nests_within;
+pub use kept_tree::KeptTree;
 pub use laws::{lines_move, lines_of_trees, makes_whole, trees_are_script, within_limits};
 pub use writing::{push_line, push_whole};

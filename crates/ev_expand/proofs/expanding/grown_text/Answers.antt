@@ -2,17 +2,17 @@ use Rattle.std.proofs.Common.{◌≡◌, ℕ, ◌+◌, ◌<◌, Bool, List, [], 
 use Rattle.std.proofs.lemmas.List.{length-map, take_all}
 use Rattle.serde_json.specs.Data.{Data}
 use Rattle.serde_json.specs.View.{view}
-use Rattle.serde_json.specs.declared.value.Value.{Value}
+use Rattle.ev_script.specs.Members.{tree_told}
 use Rattle.ev_expand.specs.Expanding.{Rules, gives}
 use Rattle.ev_expand.specs.Growing.{IsGrown, Pushes, front_of}
 use Rattle.ev_expand.specs.Guarding.{guarded_by}
 use Rattle.ev_expand.specs.Numbers.{guarded_so_far}
 use Rattle.ev_expand.proofs.GrowthLemmas.{read_one, grown_first, grown_more, large_at, all_grown}
-use Rattle.ev_expand.proofs.NumberLemmas.{views_more}
+use Rattle.ev_expand.proofs.NumberLemmas.{viewed_more}
 use Rattle.ev_expand.proofs.expanding.grown_text.Goals as goal
 
-place_is : (ls : List Value) (i : ℕ) → i < length ls → i + 2 ≡ length (map view (take i ls)) + 2
-place_is ls i h = omega (arith, h, length-map (take i ls) view, length-take i ls)
+place_is : (ls : List (List ℕ)) (i : ℕ) → i < length ls → i + 2 ≡ length (map tree_told (take i ls)) + 2
+place_is ls i h = omega (arith, h, length-map (take i ls) tree_told, length-take i ls)
 
 pub loop-index-init : goal.loop-index-init
 loop-index-init g c = record {
@@ -25,8 +25,8 @@ loop-index-init g c = record {
 pub returns-then-not-has_room : goal.returns-then-not-has_room
 returns-then-not-has_room g c =
     let rules : Rules = g.E.Expansion.rules c.args.profile in
-    let before : List Data = map view (take c.loop-index.index c.args.lines.now) in
-    let pushes : Pushes c.loop-index.text c.push_line.new.text c.push_line.result (gives rules (front_of before (view c.index-lines-index.result))) =
+    let before : List Data = map tree_told (take c.loop-index.index c.args.lines.now) in
+    let pushes : Pushes c.loop-index.text c.push_line.new.text c.push_line.result (gives rules (front_of before (tree_told c.index-lines-index.result))) =
     c.push_line.ensures.text before c.loop-index.invariant.behind c.loop-index.invariant.grown.kept (place_is c.args.lines.now c.loop-index.index c.loop-index-test.true) in (
       c.requires.unused,
       large_at rules (view c.args.head.now) c.args.lines.now c.loop-index.index c.index-lines-index.result _ _ _ c.push_line.result c.loop-index-test.true c.index-lines-index.is c.loop-index.invariant.grown pushes
@@ -36,11 +36,11 @@ returns-then-not-has_room g c =
 pub loop-index-preserved : goal.loop-index-preserved
 loop-index-preserved g c =
     let rules : Rules = g.E.Expansion.rules c.args.profile in
-    let before : List Data = map view (take c.loop-index.index c.args.lines.now) in
-    let line : Data = view c.index-lines-index.result in
+    let before : List Data = map tree_told (take c.loop-index.index c.args.lines.now) in
+    let line : Data = tree_told c.index-lines-index.result in
     let pushes : Pushes c.loop-index.text c.push_line.new.text c.push_line.result (gives rules (front_of before line)) =
     c.push_line.ensures.text before c.loop-index.invariant.behind c.loop-index.invariant.grown.kept (place_is c.args.lines.now c.loop-index.index c.loop-index-test.true) in
-    let after = views_more c.args.lines.now c.loop-index.index c.index-lines-index.result c.index-lines-index.is c.loop-index-test.true in
+    let after = viewed_more tree_told c.args.lines.now c.loop-index.index c.index-lines-index.result c.index-lines-index.is c.loop-index-test.true in
     let kept : guarded_so_far c.push_line.new.numbers ≡ guarded_by rules.guard (before ++ line ∷ []) = c.in_ok-has_room.ensures.numbers before c.loop-index.invariant.grown.kept in
     record {
       grown = subst (λ (xs : List Data). IsGrown rules (view c.args.head.now) xs c.push_line.new.text (guarded_so_far c.push_line.new.numbers)) (sym after)
@@ -53,7 +53,7 @@ loop-index-preserved g c =
 pub returns : goal.returns
 returns g c =
     let rules : Rules = g.E.Expansion.rules c.args.profile in
-    let lines : List Data = map view c.args.lines.now in
-    let all : map view (take c.loop-index.index c.args.lines.now) ≡ lines = ap (map view) (take_all c.loop-index.index c.args.lines.now (omega arith)) in
+    let lines : List Data = map tree_told c.args.lines.now in
+    let all : map tree_told (take c.loop-index.index c.args.lines.now) ≡ lines = ap (map tree_told) (take_all c.loop-index.index c.args.lines.now (omega arith)) in
     all_grown rules (view c.args.head.now) lines c.loop-index.text (guarded_so_far c.loop-index.numbers) c.requires.unused
     (subst (λ (xs : List Data). IsGrown rules (view c.args.head.now) xs c.loop-index.text (guarded_so_far c.loop-index.numbers)) all c.loop-index.invariant.grown)

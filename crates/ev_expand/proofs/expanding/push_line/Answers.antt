@@ -6,4 +6,4 @@ use Rattle.ev_expand.proofs.expanding.push_line.Goals as goal
 
 pub push_read-requires : goal.push_read-requires
 push_read-requires g c =
-    c.in_ok-event.ensures ∙ ap (λ (profile : Profile). event_of profile (view c.args.line.now)) (sym (g.E.Expansion.reads c.args.profile))
+    c.in_ok-event.ensures ∙ ap (λ (profile : Profile). event_of profile (view c.in_ok-tree.tree)) (sym (g.E.Expansion.reads c.args.profile))

@@ -16,6 +16,6 @@ returns-in-Some-find-clause-numbers g c =
 pub returns-clause-place : goal.returns-clause-place
 returns-clause-place g c =
     let guarded : List Guarded = guarded_so_far c.args.numbers.now in
-    ap (λ (p : ℕ). Some p) (c.len-place.ensures ∙ sym (place_new c.in-Some.key (view c.in_ok-own.field-0) guarded c.in_default-find.ensures.none))
+    ap (λ (p : ℕ). Some p) (c.len-place.ensures ∙ sym (place_new c.in-Some.key (view c.in_ok-own.own) guarded c.in_default-find.ensures.none))
     ∙ ap (λ (xs : List Guarded). Some (place_in xs c.in-Some.key)) (sym c.in_ok-push.ensures)
     ∙ ap (option_map (place_in (guarded_so_far c.push.new.self))) (sym c.in-Some.is)

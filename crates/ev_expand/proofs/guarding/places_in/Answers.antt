@@ -9,7 +9,7 @@ use Rattle.ev_expand.specs.declared.keys.Key.{Key}
 use Rattle.ev_expand.specs.Guarding.{Guard, guarded_of, each_once, place_in}
 use Rattle.ev_expand.specs.Numbers.{guarded_so_far, guarded_with}
 use Rattle.ev_expand.proofs.EventLemmas.{cluster_items_read}
-use Rattle.ev_expand.proofs.NumberLemmas.{entry_item, views_more, placed_next, numbers-push}
+use Rattle.ev_expand.proofs.NumberLemmas.{entry_item, viewed_more, placed_next, numbers-push}
 use Rattle.ev_expand.proofs.guarding.places_in.Goals as goal
 
 pub offset_bounds-items-index : goal.offset_bounds-items-index
@@ -54,7 +54,7 @@ loop-index-preserved g c =
     let guard : Guard = (g.E.Expansion.rules c.args.profile).guard in
     let entry : Data = view c.index-entries-index.result in
     let own : Data = guard.own_of entry in
-    let after = views_more c.in_ok-entries.entries.now c.loop-index.index c.index-entries-index.result c.index-entries-index.is c.loop-index-test.true in
+    let after = viewed_more view c.in_ok-entries.entries.now c.loop-index.index c.index-entries-index.result c.index-entries-index.is c.loop-index-test.true in
     let one : guarded_with c.in_ok-key.key own ≡ guarded_of guard entry = ap (λ (k : Option Key). guarded_with k own) c.in_ok-key.ensures in
     record {
       numbers = λ gs h.

@@ -3,7 +3,7 @@ use Rattle.std.proofs.lemmas.List.{take_all}
 use Rattle.std.proofs.lemmas.Result.{err_from_is_err_and}
 use Rattle.serde_json.specs.Data.{Data}
 use Rattle.serde_json.specs.View.{view}
-use Rattle.serde_json.specs.declared.value.Value.{Value}
+use Rattle.ev_script.specs.Members.{tree_told}
 use Rattle.ev_script.specs.declared.trees.ScriptTrees.{ScriptTrees}
 use Rattle.ev_tree.specs.Floats.{whole}
 use Rattle.ev_sotw_lines.specs.Searches.{with_before}
@@ -37,13 +37,13 @@ returns-in_err-push_delta-clause-large c =
     let p = err_from_is_err_and c.from_residual-in_err-push_delta.result c.from_residual-in_err-push_delta.ensures.1 in
     let trees : ScriptTrees = c.args.trees.now in
     let head : Data = view trees.head in
-    let items : List Value = c.deref-line-items.result.now in
+    let items : List (List ℕ) = c.deref-line-items.result.now in
     let i : ℕ = c.loop-line.line-index in
-    let lines : List Data = map view (take i items) in
-    let line : Data = view c.line-item.result in
-    let more : List Data = map view (drop (i + 1) items) in
+    let lines : List Data = map tree_told (take i items) in
+    let line : Data = tree_told c.line-item.result in
+    let more : List Data = map tree_told (drop (i + 1) items) in
     let same : lines_in trees ≡ (lines ++ line ∷ []) ++ more =
-    ap (map view) (sym c.deref-line-items.ensures.value) ∙ viewed_parts items (i + 1)
+    ap (map tree_told) (sym c.deref-line-items.ensures.value) ∙ viewed_parts items (i + 1)
     ∙ ap (λ ls. ls ++ more) (viewed_more items i c.line-item.result c.loop-line-test.true c.line-item.is) in
     let all : written_of trees ≡ (written_lines head lines ++ whole (delta_of lines line) ∷ []) ++ map whole (map placed_delta (with_before (lines ++ line ∷ []) more)) =
     ap (written_lines head) same ∙ written_front head (lines ++ line ∷ []) more
@@ -56,11 +56,11 @@ returns-in_err-push_delta-clause-large c =
 pub loop-line-preserved : goal.loop-line-preserved
 loop-line-preserved c =
     let head : Data = view c.args.trees.now.head in
-    let items : List Value = c.deref-line-items.result.now in
+    let items : List (List ℕ) = c.deref-line-items.result.now in
     let i : ℕ = c.loop-line.line-index in
-    let lines : List Data = map view (take i items) in
-    let line : Data = view c.line-item.result in
-    let next : map view (take (i + 1) items) ≡ lines ++ line ∷ [] = viewed_more items i c.line-item.result c.loop-line-test.true c.line-item.is in
+    let lines : List Data = map tree_told (take i items) in
+    let line : Data = tree_told c.line-item.result in
+    let next : map tree_told (take (i + 1) items) ≡ lines ++ line ∷ [] = viewed_more items i c.line-item.result c.loop-line-test.true c.line-item.is in
     record {
       follows = subst (λ ls. FollowsLines ls c.push_delta.new.names) (sym next) (c.in_ok-push_delta.ensures.follows lines c.loop-line.invariant.follows);
       written = subst (λ ts. IsWritten ts c.push_delta.new.text) (sym (ap (written_lines head) next ∙ written_more head lines line))
@@ -70,18 +70,18 @@ loop-line-preserved c =
 pub returns-clause-sound : goal.returns-clause-sound
 returns-clause-sound c =
     let trees : ScriptTrees = c.args.trees.now in
-    let items : List Value = c.deref-line-items.result.now in
+    let items : List (List ℕ) = c.deref-line-items.result.now in
     let all : take c.loop-line.line-index items ≡ items = take_all c.loop-line.line-index items (omega arith) in
     (text_is_script c.requires.read.0 trees c.loop-line.text c.requires.read.1
-    (subst (λ vs. IsWritten (written_lines (view trees.head) (map view vs)) c.loop-line.text) (all ∙ c.deref-line-items.ensures.value) c.loop-line.invariant.written)).0
+    (subst (λ vs. IsWritten (written_lines (view trees.head) (map tree_told vs)) c.loop-line.text) (all ∙ c.deref-line-items.ensures.value) c.loop-line.invariant.written)).0
 
 pub returns-clause-script : goal.returns-clause-script
 returns-clause-script c =
     let trees : ScriptTrees = c.args.trees.now in
-    let items : List Value = c.deref-line-items.result.now in
+    let items : List (List ℕ) = c.deref-line-items.result.now in
     let all : take c.loop-line.line-index items ≡ items = take_all c.loop-line.line-index items (omega arith) in
     (text_is_script c.requires.read.0 trees c.loop-line.text c.requires.read.1
-    (subst (λ vs. IsWritten (written_lines (view trees.head) (map view vs)) c.loop-line.text) (all ∙ c.deref-line-items.ensures.value) c.loop-line.invariant.written)).1
+    (subst (λ vs. IsWritten (written_lines (view trees.head) (map tree_told vs)) c.loop-line.text) (all ∙ c.deref-line-items.ensures.value) c.loop-line.invariant.written)).1
 
 pub returns-clause-same : goal.returns-clause-same
 returns-clause-same c = λ format journal. same_world c.requires.read.0 c.args.trees.now format journal c.requires.read.1

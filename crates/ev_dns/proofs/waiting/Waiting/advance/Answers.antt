@@ -2,7 +2,7 @@ use Rattle.std.proofs.Common.{◌≡◌, ◌≤◌, ℕ, List, length, true, fal
 use Rattle.std.specs.Prelude.{slice_get}
 use Rattle.std.specs.List.{list_all}
 use Rattle.std.proofs.lemmas.Result.{on_ok_weaker}
-use Rattle.serde_json.specs.View.{view}
+use Rattle.ev_trees.specs.Kept.{kept_shown}
 use Rattle.ev_types.specs.Hosts.{HostRowParts}
 use Rattle.ev_expand.specs.Guarding.{Guarded}
 use Rattle.ev_expand.specs.Numbers.{guarded_so_far}
@@ -14,7 +14,7 @@ use Rattle.ev_dns.proofs.waiting.Waiting.advance.Goals as goal
 
 pub returns-in-Some-get-clause-passed : goal.returns-in-Some-get-clause-passed
 returns-in-Some-get-clause-passed c = λ had.
-    let g : Guarded = record { key = c.in-Some.key.now; own = view c.in-Some.field-0-1.now } in
+    let g : Guarded = record { key = c.in-Some.key.now; own = kept_shown c.in-Some.field-0-1.now } in
     let at : slice_get (guarded_so_far c.args.numbers.now) c.args.place ≡ Some g = sym c.in-Some.ensures in
     let rows : c.rows_of-rows.result.now ≡ template_rows g.key = c.rows_of-rows.ensures in
     let from : c.passed_at.result ≡ get_or c.args.self.now.passed.items c.args.place 0 = c.passed_at.ensures ∙ ap (λ (xs : List ℕ). get_or xs c.args.place 0) c.as_slice.ensures.value in
@@ -28,7 +28,7 @@ returns-in-Some-get-clause-passed c = λ had.
 
 pub returns-in-Some-get-clause-advances : goal.returns-in-Some-get-clause-advances
 returns-in-Some-get-clause-advances c = λ had.
-    let g : Guarded = record { key = c.in-Some.key.now; own = view c.in-Some.field-0-1.now } in
+    let g : Guarded = record { key = c.in-Some.key.now; own = kept_shown c.in-Some.field-0-1.now } in
     let at : slice_get (guarded_so_far c.args.numbers.now) c.args.place ≡ Some g = sym c.in-Some.ensures in
     let rows : c.rows_of-rows.result.now ≡ template_rows g.key = c.rows_of-rows.ensures in
     let there : slice_get c.rows_of-rows.result.now c.first_unanswered-count.result ≡ Some c.in-Some-get.row.now =
@@ -43,7 +43,7 @@ returns-in-Some-get-clause-advances c = λ had.
 
 pub returns-in-None-clause-advances : goal.returns-in-None-clause-advances
 returns-in-None-clause-advances c = λ had.
-    let g : Guarded = record { key = c.in-Some.key.now; own = view c.in-Some.field-0-1.now } in
+    let g : Guarded = record { key = c.in-Some.key.now; own = kept_shown c.in-Some.field-0-1.now } in
     let at : slice_get (guarded_so_far c.args.numbers.now) c.args.place ≡ Some g = sym c.in-Some.ensures in
     let rows : c.rows_of-rows.result.now ≡ template_rows g.key = c.rows_of-rows.ensures in
     let from : c.passed_at.result ≡ get_or c.args.self.now.passed.items c.args.place 0 = c.passed_at.ensures ∙ ap (λ (xs : List ℕ). get_or xs c.args.place 0) c.as_slice.ensures.value in

@@ -2,7 +2,7 @@ use Rattle.std.proofs.Common.{◌≡◌, List, take, get_or, length, Some, refl,
 use Rattle.std.proofs.Math.ListN.{length-set}
 use Rattle.std.specs.Prelude.{slice_get}
 use Rattle.std.proofs.lemmas.Result.{on_ok_weaker}
-use Rattle.serde_json.specs.View.{view}
+use Rattle.ev_trees.specs.Kept.{kept_shown}
 use Rattle.ev_expand.specs.Guarding.{Guarded}
 use Rattle.ev_expand.specs.Numbers.{guarded_so_far}
 use Rattle.ev_tls_secrets.specs.Known.{are_told, first_told}
@@ -13,7 +13,7 @@ use Rattle.ev_tls_secrets.proofs.waiting.Waiting.advance.Goals as goal
 pub returns-in-Some-2 : goal.returns-in-Some-2
 returns-in-Some-2 c = λ had.
     let gs : List Guarded = guarded_so_far c.args.numbers.now in
-    let g : Guarded = record { key = c.in-Some.key.now; own = view c.in-Some.field-0-1.now } in
+    let g : Guarded = record { key = c.in-Some.key.now; own = kept_shown c.in-Some.field-0-1.now } in
     let at : slice_get gs c.args.place ≡ Some g = sym c.in-Some.ensures in
     let names = c.as_slice.ensures.elements in
     let is : c.count_on-passed.result ≡ first_told c.args.told.now c.in-Some.key.now.names =
@@ -29,7 +29,7 @@ returns-in-Some-2 c = λ had.
 pub returns-in-None : goal.returns-in-None
 returns-in-None c = λ had.
     let gs : List Guarded = guarded_so_far c.args.numbers.now in
-    let g : Guarded = record { key = c.in-Some.key.now; own = view c.in-Some.field-0-1.now } in
+    let g : Guarded = record { key = c.in-Some.key.now; own = kept_shown c.in-Some.field-0-1.now } in
     let at : slice_get gs c.args.place ≡ Some g = sym c.in-Some.ensures in
     let names = c.as_slice.ensures.elements in
     let is : c.count_on-passed.result ≡ first_told c.args.told.now c.in-Some.key.now.names =

@@ -2,7 +2,7 @@ use Rattle.std.proofs.Common.{◌≡◌, drop}
 use Rattle.std.specs.Prelude.{nat_le}
 use Rattle.serde_json.specs.Data.{items_depth, members_depth}
 use Rattle.serde_json.specs.View.{items_view, members_view}
-use Rattle.ev_delta.proofs.depth.+nests_within.Given as goal
+use Rattle.ev_trees.proofs.depth.+nests_within.Given as goal
 
 abbrev pub invariant-items_nest_within-loop-item : goal.invariant-items_nest_within-loop-item
 invariant-items_nest_within-loop-item l = nat_le (items_depth (items_view l.items.items)) l.room ≡ nat_le (items_depth (items_view (drop l.item-index l.item-items))) l.room
