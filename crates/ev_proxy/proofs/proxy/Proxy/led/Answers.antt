@@ -1,4 +1,7 @@
-use Rattle.std.proofs.Common.{refl}
+use Rattle.std.proofs.Common.{refl, subst}
+use Rattle.ev_types.specs.Items.{ResponseParts}
+use Rattle.ev_model.specs.Step.{respond}
+use Rattle.ev_state.specs.States.{IsStep}
 use Rattle.ev_proxy.proofs.StepLemmas.{step_answer, step_at, step_deferred}
 use Rattle.ev_proxy.proofs.proxy.Proxy.led.Goals as goal
 
@@ -37,17 +40,20 @@ returns-in-Disconnect-clause-deferred g c =
 pub returns-in-Response-clause-at : goal.returns-in-Response-clause-at
 returns-in-Response-clause-at g c =
     step_at c.note-in-Response.result c.args.format c.args.actor g.here c.args.event.now _ c.in-Response.is refl refl c.args.self.now c.note-in-Response.new.self c.respond.new.self c.in_ok-told-in-Response.told.0 c.in_ok-told-in-Response.told.1
-    c.requires.1.1.1.1.0 c.in_ok-told-in-Response.ensures c.note-in-Response.ensures.noted
+    c.requires.1.1.1.1.0
+    (subst (λ (r : ResponseParts). IsStep c.respond.new.self c.in_ok-told-in-Response.told.0 c.in_ok-told-in-Response.told.1 g.here (respond r g.here)) c.get.ensures.value c.in_ok-told-in-Response.ensures) c.note-in-Response.ensures.noted
 
 pub returns-in-Response-clause-answer : goal.returns-in-Response-clause-answer
 returns-in-Response-clause-answer g c =
     step_answer c.note-in-Response.result c.args.format c.args.actor g.here c.args.event.now _ c.in-Response.is refl refl c.args.self.now c.note-in-Response.new.self c.respond.new.self c.in_ok-told-in-Response.told.0 c.in_ok-told-in-Response.told.1
-    c.requires.1.1.1.1.0 c.in_ok-told-in-Response.ensures c.note-in-Response.ensures.answer
+    c.requires.1.1.1.1.0
+    (subst (λ (r : ResponseParts). IsStep c.respond.new.self c.in_ok-told-in-Response.told.0 c.in_ok-told-in-Response.told.1 g.here (respond r g.here)) c.get.ensures.value c.in_ok-told-in-Response.ensures) c.note-in-Response.ensures.answer
 
 pub returns-in-Response-clause-deferred : goal.returns-in-Response-clause-deferred
 returns-in-Response-clause-deferred g c =
     step_deferred c.note-in-Response.result c.args.format c.args.actor g.here c.args.event.now _ c.in-Response.is refl refl c.args.self.now c.note-in-Response.new.self c.respond.new.self c.in_ok-told-in-Response.told.0 c.in_ok-told-in-Response.told.1
-    c.requires.1.1.1.1.0 c.in_ok-told-in-Response.ensures
+    c.requires.1.1.1.1.0
+    (subst (λ (r : ResponseParts). IsStep c.respond.new.self c.in_ok-told-in-Response.told.0 c.in_ok-told-in-Response.told.1 g.here (respond r g.here)) c.get.ensures.value c.in_ok-told-in-Response.ensures)
     c.requires.1.1.1.1.1.1.1 refl c.note-in-Response.ensures.noted
 
 pub returns-in-Health-clause-at : goal.returns-in-Health-clause-at
