@@ -5,7 +5,6 @@ use ev_journal::render_journal;
 use ev_keys::Keys;
 use ev_registry::Registry;
 use ev_script::read_script;
-use ev_targets::Targets;
 use ev_types::{Actor, Answer, Arrival, Format, Op, Row, Script, TryCopy};
 use std::alloc::{AllocError, Global};
 use std::mem::drop;
@@ -92,15 +91,5 @@ fn a_copied_row_is_the_same(rt: HostRuntime) -> Result<(), Fail> {
         (told, is_version),
         ((Actor::Timer, 2, 1, Op::Publish), true)
     );
-    Ok(())
-}
-
-#[test]
-fn copied_targets_have_heard_the_same(rt: HostRuntime) -> Result<(), Fail> {
-    let mut targets = Targets::new();
-    let heard = targets.clusters_timeout();
-    let mut copied = targets.copy(rt.alloc())?;
-    let again = copied.clusters_timeout();
-    assert_eq!(rt; (heard, again), (true, false));
     Ok(())
 }
