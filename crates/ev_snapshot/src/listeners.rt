@@ -9,7 +9,6 @@ ghost use Rattle.ev_snapshot.specs.Rows.{named, numbered, put_before, without_na
 
 use crate::address_texts::AddressText;
 use crate::groups::{Groups, enter_group, leave_group};
-use crate::names::Row;
 use crate::routed::RoutedListener;
 use crate::rows::Rows;
 use crate::table::Table;
@@ -107,14 +106,6 @@ impl Listeners {
         ensures row { option_copied result ≡ named (λ (l : ServedListener). l.name) self.now name.now }
     {
         self.rows.named(name)
-    }
-
-    /// The listener of this number.
-    pub(crate) fn numbered(&self, number: Gen) -> Option<&Shared<RoutedListener>>
-        ensures row { option_copied result ≡ numbered (λ (l : ServedListener). l.number) self.now number }
-        ensures order { IsInOrder (λ (l : ServedListener). l.number) (λ (l : ServedListener). l.name) self.now }
-    {
-        self.rows.numbered(number)
     }
 
     /// Whether there is one of this number. It looks at no other.
