@@ -9,6 +9,7 @@ ghost use Rattle.ev_snapshot.specs.Rows.{named, numbered, put_before, without_na
 
 use crate::address_texts::AddressText;
 use crate::groups::{Groups, enter_group, leave_group};
+use crate::names::Row;
 use crate::routed::RoutedListener;
 use crate::rows::Rows;
 use crate::table::Table;

@@ -13,7 +13,7 @@ use ev_keys::Keys;
 use ev_mentions::{LiveRow, Mentions};
 use ev_types::{Body, Content, Host, Item, Kind, Seq, Verdict};
 use std::alloc::{AllocError, Global};
-use std::hash::DefaultHasher;
+use std::hash::{DefaultHasher, Hash};
 
 /// The verdict on each resource of a response, in its order, by what is known before it, for a caller who has what the response
 /// mentions. Each resource costs a few look-ups, and a heap allocation where it is a listener; nothing that is known is copied.
