@@ -40,6 +40,18 @@ verdict_same Renewed Renewed = true
 verdict_same (Refused a) (Refused b) = a == b
 verdict_same a b = false
 
+-- the same way of a connection that a listener takes, with the same content
+abbrev pub way_same : Answer → Answer → Bool
+way_same (Undecided listener) (Undecided listener') = listener == listener'
+way_same (Elsewhere listener cluster) (Elsewhere listener' cluster') = (listener == listener') && option_eq (λ (m n : ℕ). m == n) cluster cluster'
+way_same (NoRoute listener) (NoRoute listener') = listener == listener'
+way_same (Redirect listener) (Redirect listener') = listener == listener'
+way_same (NoCluster listener) (NoCluster listener') = listener == listener'
+way_same (NoEndpoint listener) (NoEndpoint listener') = listener == listener'
+way_same (Local listener status) (Local listener' status') = (listener == listener') && (status == status')
+way_same (Served listener cluster host) (Served listener' cluster' host') = (listener == listener') && (cluster == cluster') && host_same host host'
+way_same a b = false
+
 -- the same answer, with the same content
 abbrev pub answer_same : Answer → Answer → Bool
 answer_same Ignored Ignored = true
@@ -52,17 +64,9 @@ answer_same (Reaped numbers) (Reaped numbers') = pointwise (λ (m n : ℕ). m ==
 answer_same InUse InUse = true
 answer_same NoListener NoListener = true
 answer_same NoChain NoChain = true
-answer_same (Undecided listener) (Undecided listener') = listener == listener'
-answer_same (Elsewhere listener cluster) (Elsewhere listener' cluster') = (listener == listener') && option_eq (λ (m n : ℕ). m == n) cluster cluster'
-answer_same (NoRoute listener) (NoRoute listener') = listener == listener'
-answer_same (Redirect listener) (Redirect listener') = listener == listener'
-answer_same (NoCluster listener) (NoCluster listener') = listener == listener'
-answer_same (NoEndpoint listener) (NoEndpoint listener') = listener == listener'
-answer_same (Local listener status) (Local listener' status') = (listener == listener') && (status == status')
-answer_same (Served listener cluster host) (Served listener' cluster' host') = (listener == listener') && (cluster == cluster') && host_same host host'
 answer_same NotOpen NotOpen = true
 answer_same (Settled closed version) (Settled closed' version') = pointwise (λ (m n : ℕ). m == n) closed closed' && (version == version')
-answer_same a b = false
+answer_same a b = way_same a b
 
 pub told_decides : (a b : Option (List ℕ)) → Decides (told_same a b) (a ≡ b)
 told_decides None None = (λ h. refl, λ e. refl)

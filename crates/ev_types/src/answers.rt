@@ -1,5 +1,5 @@
 ghost use Rattle.std.specs.Prelude.{◌≡◌};
-ghost use Rattle.ev_types.specs.SameAnswers.{answer_same};
+ghost use Rattle.ev_types.specs.SameAnswers.{answer_same, way_same};
 
 use crate::compared::are_same;
 use crate::events::Answer;
@@ -35,6 +35,25 @@ pub fn is_same_answer(one: &Answer, other: &Answer) -> bool
         }
         (Answer::Version(one), Answer::Version(other)) => one == other,
         (Answer::Reaped(ones), Answer::Reaped(others)) => ones == others,
+        (
+            Answer::Settled {
+                closed: ones,
+                version: first,
+            },
+            Answer::Settled {
+                closed: others,
+                version: second,
+            },
+        ) => ones == others && first == second,
+        _ => is_same_way(one, other),
+    }
+}
+
+// Whether the two are the same way of a connection that a listener takes, with the same content.
+fn is_same_way(one: &Answer, other: &Answer) -> bool
+    ensures { result ≡ way_same one.now other.now }
+{
+    match (one, other) {
         (Answer::Undecided { listener: one }, Answer::Undecided { listener: other })
         | (Answer::NoRoute { listener: one }, Answer::NoRoute { listener: other })
         | (Answer::Redirect { listener: one }, Answer::Redirect { listener: other })
@@ -74,16 +93,6 @@ pub fn is_same_answer(one: &Answer, other: &Answer) -> bool
                 host: other_host,
             },
         ) => one == other && first == second && host == other_host,
-        (
-            Answer::Settled {
-                closed: ones,
-                version: first,
-            },
-            Answer::Settled {
-                closed: others,
-                version: second,
-            },
-        ) => ones == others && first == second,
         _ => false,
     }
 }
