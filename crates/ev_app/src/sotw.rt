@@ -24,8 +24,8 @@ use ev_io::{MemSource, ScriptFault, Source};
 use ev_keys::Keys;
 use ev_model_laws::{replay_is_a_run_of_its_script, runs_have_the_laws};
 use ev_script::ScriptTrees;
-use ev_sotw::{read_versions, render_sotw};
-use ev_sotw_delta::{DeltaError, same_world, to_delta};
+use ev_sotw::render_sotw;
+use ev_sotw_delta::{Delta, DeltaError, same_world, to_delta};
 use ev_sotw_lines::SotwLines;
 use ev_types::{Script, Text};
 use std::alloc::{AllocError, Global};
@@ -50,31 +50,28 @@ pub(crate) fn make_sotw<S: Source>(alloc: Global, source: &mut S) -> Result<Made
     sotw_made(alloc, trees)
 }
 
-// What answers the trees of a script of the state of the world, or why nothing does. Of the trees the versions alone are kept
-// for the replay.
+// What answers the trees of a script of the state of the world, or why nothing does.
 fn sotw_made(alloc: Global, trees: ScriptTrees) -> Result<Made, ScriptFault>
     requires trees { (input : Input) × IsTreesAnswer sotw_lines input (Ok trees) }
     ensures answer { IsSotwAnswer trees result }
     ensures read { result ≢ Err ScriptFault.Read }
 {
-    let versions = read_versions(alloc, trees.lines.as_slice())?;
-    let KeyedScript { script, keys } = delta_of(alloc, trees)?;
+    let Delta { text, versions } = delta_of(alloc, trees)?;
+    let KeyedScript { script, keys } = read_text(alloc, text)?;
     Ok(Made {
         text: sotw_text(alloc, keys, versions.as_slice(), &script)?,
         status: Status::Done,
     })
 }
 
-// The incremental script that says what the trees say, or why there is none. The trees are gone before it is read.
-fn delta_of(alloc: Global, trees: ScriptTrees) -> Result<KeyedScript, ScriptFault>
+// The incremental script that says what the trees say, as a text, with their versions, or why there is none.
+fn delta_of(alloc: Global, trees: ScriptTrees) -> Result<Delta, ScriptFault>
     requires trees { (input : Input) × IsTreesAnswer sotw_lines input (Ok trees) }
     ensures answer { IsDeltaAnswer trees result }
     ensures read { result ≢ Err ScriptFault.Read }
 {
-    let made = to_delta(alloc, &trees);
-    drop(trees);
-    match made {
-        Ok(text) => read_text(alloc, text),
+    match to_delta(alloc, trees) {
+        Ok(delta) => Ok(delta),
         Err(DeltaError::Large { line }) => Err(ScriptFault::Bad {
             line,
             kind: GROWS_TOO_LARGE,

@@ -2,7 +2,7 @@
 //!
 //! - The replay itself is that of the incremental script: what the requests of the state of the world say more, or in another
 //!   way, is found in the entries so far. The version of a response is given with its entry, since an entry doesn't have it:
-//!   versions are read of the script's lines before (`read_versions`), so that these may be gone when the journal is written.
+//!   versions are read of the script's lines before, so that these may be gone when the journal is written.
 //! - A line first takes in all that its entry says, and then writes: so a reply counts for the requests after it.
 //! - Versions that were acknowledged outlive a stream, and nonces and lists of names don't. A stream begins with a connect that
 //!   is answered with requests. Which names are listed follows from what the incremental requests ask for and give up.
@@ -19,5 +19,5 @@ mod state;
 mod words;
 
 pub use known::TypeSoFar;
-pub use rendering::{read_versions, render_sotw};
+pub use rendering::render_sotw;
 pub use state::SotwState;

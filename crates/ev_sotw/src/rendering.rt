@@ -1,39 +1,12 @@
 ghost use Rattle.std.specs.Prelude.{◌≡◌, List, [], ◌∷◌, ◌++◌, map, IfOk, OnOk};
-ghost use Rattle.ev_script.specs.Members.{tree_told};
 ghost use Rattle.ev_sotw.specs.Follows.{FollowsEntries, GoesOnBy};
 ghost use Rattle.ev_sotw.specs.Stated.{Stated, sotw_line};
-ghost use Rattle.ev_sotw_lines.specs.Lines.{version_in};
-ghost use Rattle.ev_sotw.specs.Text.{is_response, version_at, versions_in, stated_by, sotw_text};
+ghost use Rattle.ev_sotw.specs.Text.{is_response, version_at, stated_by, sotw_text};
 
 use crate::state::SotwState;
 use ev_journal::{write_end_line, write_first_line};
-use ev_script::LineTree;
-use ev_sotw_lines::version_in;
 use ev_types::{Entry, Event, Format, Text, TryCopy};
 use std::alloc::{AllocError, Global};
-
-/// Reads the versions of the responses that these lines after the header of a script of the state of the world bring: the empty
-/// text for each line that brings none.
-///
-/// # Errors
-/// `AllocError` where there is no memory for them.
-pub fn read_versions(alloc: Global, lines: &[LineTree]) -> Result<Vec<Text>, AllocError>
-    ensures { IfOk result (λ versions. versions.items ≡ versions_in (map tree_told lines.now)) }
-{
-    let mut versions = Vec::with_capacity(alloc, lines.len())?;
-    for line in lines {
-        versions.push(version_of(alloc, line)?)?;
-    }
-    Ok(versions)
-}
-
-// The version of the response that a line brings.
-fn version_of(alloc: Global, line: &LineTree) -> Result<Text, AllocError>
-    ensures { IfOk result (λ version. version ≡ version_in (tree_told line.now)) }
-{
-    let tree = line.read(alloc)?;
-    Text::new(alloc, version_in(alloc, &tree)?)
-}
 
 /// Writes the text of a journal in format 2, for this many workers, with the requests of the state of the world: the first line,
 /// a line for each entry, and the end line with their number, each closed by a line feed. `versions` are those of the responses of

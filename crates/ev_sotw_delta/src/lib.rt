@@ -14,4 +14,4 @@ mod writing;
 
 pub use laws::{requests_tell_watches, same_world};
 pub use outcome::DeltaError;
-pub use writing::to_delta;
+pub use writing::{Delta, to_delta};

@@ -2,52 +2,70 @@ ghost use Rattle.std.specs.Prelude.{◌≡◌, List, [], ◌∷◌, ◌++◌, tr
 ghost use Rattle.serde_json.specs.Data.{Data};
 ghost use Rattle.serde_json.specs.View.{view};
 ghost use Rattle.ev_script.specs.Faults.{Input, plain_lines, HasNoFault};
-ghost use Rattle.ev_script.specs.Members.{tree_told};
 ghost use Rattle.ev_script.specs.Script.{script_of};
 ghost use Rattle.ev_script.specs.ReadTrees.{IsTreesAnswer};
 ghost use Rattle.ev_tree.specs.Floats.{whole};
 ghost use Rattle.ev_trees.specs.Trees.{text_of_trees};
-ghost use Rattle.ev_expand_laws.specs.Said.{input_of_text};
+ghost use Rattle.ev_expand_laws.specs.Said.{lines_in, input_of_text};
 ghost use Rattle.ev_sotw_lines.specs.Lines.{sotw_lines};
 ghost use Rattle.ev_sotw_lines.specs.Deltas.{delta_of};
 ghost use Rattle.ev_sotw_lines.specs.Follows.{FollowsLines, GoesOnBy};
+ghost use Rattle.ev_sotw.specs.Text.{versions_in};
 ghost use Rattle.ev_sotw_delta.specs.SameWorld.{RunsAreSameWorld};
 ghost use Rattle.ev_sotw_delta.specs.DeltaText.{FitsInput, IsWritten, WritesOn, IsTooLargeFor, IsRefusal, written_of, delta_script};
 
 use crate::outcome::DeltaError;
 use ev_expand::TextSoFar;
-use ev_script::{LineTree, ScriptTrees};
-use ev_sotw_lines::NamesSoFar;
+use ev_script::ScriptTrees;
+use ev_sotw_lines::{NamesSoFar, version_in};
 use ev_trees::nests_within;
+use ev_types::Text;
 use serde_json::Value;
 use std::alloc::{AllocError, Global};
 
 // How deep arrays and objects of a line may nest.
 const MAX_DEPTH: u32 = 127;
 
+/// What the lines of a script of the state of the world give.
+#[derive(Drop)]
+pub struct Delta {
+    /// The text of the script of the incremental protocol that says the same.
+    pub text: Vec<u8>,
+    /// The version of the response that each line after the header brings: the empty text where it brings none.
+    pub versions: Vec<Text>,
+}
+
 /// The text of the script of the incremental protocol that says what a script of the state of the world says, whose trees
-/// were read without a fault: a line for each of its lines, with -1 for each float. Each run of that script, by one thread or by
-/// several, is the same world.
+/// were read without a fault: a line for each of its lines, with -1 for each float; and the versions of its responses. Each run
+/// of that script, by one thread or by several, is the same world. Each line is read as a tree once, and is gone then.
 ///
 /// # Errors
 /// `Large` where the text goes beyond the limits of inputs, or a line nests deeper than 127, with the first line with which
 /// it does so.
-pub fn to_delta(alloc: Global, trees: &ScriptTrees) -> Result<Vec<u8>, DeltaError>
-    requires read { (input : Input) × IsTreesAnswer sotw_lines input (Ok trees.now) }
-    ensures text { IfOk result (λ text. text.items ≡ text_of_trees (written_of trees.now)) }
-    ensures fits { OnOk result (FitsInput (written_of trees.now)) }
-    ensures large { IfErr result (IsRefusal (written_of trees.now)) }
-    ensures sound { IfOk result (λ text. HasNoFault plain_lines (input_of_text text.items)) }
-    ensures script { IfOk result (λ text. script_of false text.items ≡ Some (delta_script trees.now)) }
-    ensures same { IfOk result (λ text. RunsAreSameWorld trees.now) }
+pub fn to_delta(alloc: Global, trees: ScriptTrees) -> Result<Delta, DeltaError>
+    requires read { (input : Input) × IsTreesAnswer sotw_lines input (Ok trees) }
+    ensures text { IfOk result (λ delta. delta.text.items ≡ text_of_trees (written_of trees)) }
+    ensures versions { IfOk result (λ delta. delta.versions.items ≡ versions_in (lines_in trees)) }
+    ensures fits { OnOk result (FitsInput (written_of trees)) }
+    ensures large { IfErr result (IsRefusal (written_of trees)) }
+    ensures sound { IfOk result (λ delta. HasNoFault plain_lines (input_of_text delta.text.items)) }
+    ensures script { IfOk result (λ delta. script_of false delta.text.items ≡ Some (delta_script trees)) }
+    ensures same { OnOk result (RunsAreSameWorld trees) }
 {
+    let ScriptTrees { head, lines, .. } = trees;
     let mut text = TextSoFar::new(alloc);
     let mut names = NamesSoFar::new(alloc);
-    push_tree(alloc, &mut text, &trees.head)?;
-    for line in &trees.lines {
-        push_delta(alloc, &mut text, &mut names, line)?;
+    let mut versions = Vec::with_capacity(alloc, lines.len())?;
+    push_tree(alloc, &mut text, &head)?;
+    for line in lines {
+        let tree = line.read(alloc)?;
+        versions.push(Text::new(alloc, version_in(alloc, &tree)?)?)?;
+        push_delta(alloc, &mut text, &mut names, &tree)?;
     }
-    Ok(text.bytes)
+    Ok(Delta {
+        text: text.bytes,
+        versions,
+    })
 }
 
 // Appends the line that says the same as a line to the text.
@@ -55,18 +73,17 @@ fn push_delta(
     alloc: Global,
     text: &mut TextSoFar,
     names: &mut NamesSoFar,
-    line: &LineTree,
+    line: &Value,
 ) -> Result<(), DeltaError>
-    ensures follows { OnOk result (GoesOnBy (tree_told line.now) names.old names.new) }
+    ensures follows { OnOk result (GoesOnBy (view line.now) names.old names.new) }
     ensures pushed { OnOk result ((lines : List Data) → FollowsLines lines names.old
-        → WritesOn (whole (delta_of lines (tree_told line.now))) text.old text.new) }
+        → WritesOn (whole (delta_of lines (view line.now))) text.old text.new) }
     ensures large { IfErr result (λ error. (lines : List Data) → FollowsLines lines names.old
-        → IsTooLargeFor text.old (whole (delta_of lines (tree_told line.now))) error) }
+        → IsTooLargeFor text.old (whole (delta_of lines (view line.now))) error) }
 {
-    let tree = line.read(alloc)?;
-    match names.line(alloc, &tree)? {
+    match names.line(alloc, line)? {
         Some(delta) => push_tree(alloc, text, &delta),
-        None => push_tree(alloc, text, &tree),
+        None => push_tree(alloc, text, line),
     }
 }
 
