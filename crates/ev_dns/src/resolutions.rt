@@ -203,7 +203,7 @@ fn open_after(connected: bool, event: &Option<Event>) -> bool
 /// # Errors
 /// `Private` exactly for the first line that uses a name that begins with `dns/` for endpoints. `Large` where there is
 /// none, exactly for the line with whose output the text goes above a limit of inputs. `OutOfMemory` where memory runs out,
-/// and for 2^32 lines and more.
+/// and for 4,294,967,290 lines or more, which no input has.
 pub fn expand(
     alloc: Global,
     keys: Keys,
