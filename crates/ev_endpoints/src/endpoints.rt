@@ -137,14 +137,6 @@ impl Endpoints {
         Ok(Some(ChosenHosts::new(rows, marks)))
     }
 
-    /// No rows are marked for the generation any more. It takes no memory.
-    pub fn unmark(&mut self, number: Gen)
-        ensures results { self.new.hosts ≡ self.old.hosts }
-        ensures marked { Unmarks self.old self.new number }
-    {
-        self.marked.swap_remove(&number.number());
-    }
-
     /// Forgets the results of a generation, and its marks. It takes no memory.
     pub fn forget(&mut self, number: Gen)
         ensures results { Forgets self.old self.new number }

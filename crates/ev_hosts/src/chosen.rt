@@ -49,13 +49,6 @@ impl ChosenHosts {
         Ok(ChosenHosts::new(Shared::new(alloc, Assignment::new(rows))?, marks))
     }
 
-    /// How many there are.
-    pub fn len(&self) -> usize
-        ensures { result ≡ length self.now }
-    {
-        self.marks.count()
-    }
-
     /// The host at a place, if there is one.
     pub fn host(&self, place: u32) -> Option<&Host>
         ensures { option_copied result ≡ option_map (λ (r : HostRowParts). r.host) (slice_get self.now place) }

@@ -13,7 +13,6 @@ ghost use Rattle.ev_indexes.specs.Worlds.{InWorlds, InWorldsWatching};
 use crate::ready::counts_for;
 use crate::{Need, State, Watch, need_at, place_count};
 use ev_generations::{Generations, Steps};
-use ev_mentions::LiveRow;
 use ev_types::{Content, Gen, GenRow, Host, Name, Seq};
 use std::alloc::{AllocError, Global};
 use std::sync::ledger::Ledger;
@@ -67,14 +66,6 @@ impl State {
             Some(watch) => is_awaited(&self.table, name, watch, steps),
             None => false,
         }
-    }
-
-    /// The live generations, in order, as verdicts take them. It goes over the whole table.
-    pub fn live<'a>(&'a self, alloc: Global) -> Result<Vec<LiveRow<'a>>, AllocError>
-        ensures rows { IfOk result (λ lives. lives.items ≡ map live_of (live_rows self.now.table.rows)) }
-        ensures world { IfOk result (λ lives. InWorlds self.now (λ world. lives.items ≡ seen_at world self.now.kind)) }
-    {
-        lives(alloc, &self.table)
     }
 
     /// The numbers of the live generations, in order. It goes over the whole table.
@@ -166,31 +157,4 @@ fn awaits(name: &Name, watch: &Watch, number: Gen, need: &Need<'_>) -> bool
     need.name == name
         && need.limited
         && !(counts_for(number, need, watch.told) || counts_for(number, need, watch.timed))
-}
-
-// The live rows of a table.
-fn lives<'a>(alloc: Global, table: &'a Generations) -> Result<Vec<LiveRow<'a>>, AllocError>
-    ensures { IfOk result (λ lives. lives.items ≡ map live_of (live_rows table.now.rows)) }
-{
-    let mut lives = Vec::new(alloc);
-    for row in table.rows() {
-        push_live(row, &mut lives)?;
-    }
-    Ok(lives)
-}
-
-// Adds what is seen of a row to the others, where it is live.
-fn push_live<'a>(row: &'a GenRow, lives: &mut Vec<LiveRow<'a>>) -> Result<(), AllocError>
-    ensures { OnOk result (lives.new.items ≡ lives.old.items ++ map live_of (live_rows (row.now ∷ []))) }
-{
-    if row.status.is_live() {
-        lives.push(LiveRow {
-            kind: row.kind,
-            number: row.number,
-            name: row.name.as_str(),
-            content: &row.content,
-            warming: row.status.is_warming(),
-        })?;
-    }
-    Ok(())
 }

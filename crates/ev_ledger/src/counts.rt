@@ -4,7 +4,6 @@ ghost use Rattle.ev_ledger.specs.Entries.{HasNoZero, weight, counted};
 
 use ev_types::Gen;
 use indexmap::IndexMap;
-use std::alloc::AllocError;
 
 /// The count of a number. It takes no memory.
 pub(crate) fn count_in(counts: &IndexMap<u32, u64>, number: u32) -> u64

@@ -4,7 +4,7 @@ ghost use Rattle.std.specs.List.{list_any};
 ghost use Rattle.ev_ledger.specs.Members.{is_of_worker, with_member, AreApart, AreInOrder, ArePlacesOn, IsAnswerOf, Opens, HasOpenedAfter, HasOpened, count_of, held_in, held_of, on_in};
 
 use crate::counts::{count_in, lower_on, raise_on};
-use crate::members::{Members, found, has_any, held, is_there, put, take};
+use crate::members::{Members, found, has_any, is_there, put, take};
 use crate::places::{Places, enter, leave, places_on};
 use ev_types::Gen;
 use indexmap::IndexMap;
@@ -135,14 +135,5 @@ impl Ledger {
         ensures world { IsAnswerOf (list_any (is_of_worker worker)) self.now result }
     {
         has_any(&self.members, worker as u64)
-    }
-
-    /// The connections that a worker has open, each with its listener, by their numbers from the least.
-    pub fn held_by(&self, alloc: Global, worker: u32) -> Result<Vec<(u64, Gen)>, AllocError>
-        ensures apart { AreApart self.now }
-        ensures held { IfOk result (λ held. held.items ≡ held_of worker self.now) }
-        ensures world { IfOk result (λ held. IsAnswerOf (held_in worker) self.now held.items) }
-    {
-        held(alloc, &self.members, worker as u64)
     }
 }

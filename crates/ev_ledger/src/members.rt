@@ -5,7 +5,7 @@ ghost use Rattle.std.specs.BTreeMap.{insert_entry, is_at, IsOrdered};
 ghost use Rattle.ev_ledger.specs.Entries.{key_order, held_at, is_at_worker, SetsAt};
 
 use ev_types::Gen;
-use std::alloc::{AllocError, Global};
+use std::alloc::AllocError;
 use std::collections::BTreeMap;
 
 /// The open connections: by worker and number, the listener and, where it was forwarded, the cluster. A worker's number has
@@ -67,22 +67,4 @@ pub(crate) fn has_any(members: &Members, worker: u64) -> bool
     ensures { result ≡ list_any (is_at_worker worker) members.now.entries }
 {
     members.range((worker, 0)..(worker + 1, 0)).next().is_some()
-}
-
-/// The numbers of a worker's connections, each with its listener.
-pub(crate) fn held(
-    alloc: Global,
-    members: &Members,
-    worker: u64,
-) -> Result<Vec<(u64, Gen)>, AllocError>
-    requires { worker + 1 < 2 ^ 64 }
-    ensures held { IfOk result (λ held. held.items ≡ map held_at (filter (is_at_worker worker) members.now.entries)) }
-    ensures ordered { IsOrdered key_order members.now }
-{
-    // They are in the order of their places.
-    let _ = members.len();
-    members
-        .range((worker, 0)..(worker + 1, 0))
-        .map(|(place, on)| (place.1, on.0))
-        .collect(alloc)
 }

@@ -13,40 +13,6 @@ pub struct ServedCluster {
     pub elsewhere: bool,
 }
 
-impl TryCopy for ServedCluster {
-    fn copy(&self, alloc: Global) -> Result<ServedCluster, AllocError> {
-        Ok(ServedCluster {
-            number: self.number,
-            name: self.name.copy(alloc)?,
-            hosts: self.hosts.copy(alloc)?,
-            elsewhere: self.elsewhere,
-        })
-    }
-}
-
-impl PartialEq for ServedCluster {
-    ghost use Rattle.std.specs.Cmp.{decided, partial_equiv_from_equiv};
-    ghost use Rattle.ev_model.specs.Picture.{served_cluster_same, served_cluster_decides};
-
-    ghost eq = { served_cluster_same };
-
-    ghost laws = { partial_equiv_from_equiv (decided served_cluster_same served_cluster_decides) };
-
-    fn eq(&self, other: &ServedCluster) -> bool {
-        self.number == other.number
-            && self.name == other.name
-            && self.hosts == other.hosts
-            && self.elsewhere == other.elsewhere
-    }
-}
-
-impl Eq for ServedCluster {
-    ghost use Rattle.std.specs.Cmp.{decided};
-    ghost use Rattle.ev_model.specs.Picture.{served_cluster_same, served_cluster_decides};
-
-    ghost laws = { decided served_cluster_same served_cluster_decides };
-}
-
 /// Where the connections of a filter chain go.
 #[derive(Drop)]
 pub enum Routing {
@@ -101,35 +67,6 @@ pub struct ServedChain {
     pub routing: Routing,
 }
 
-impl TryCopy for ServedChain {
-    fn copy(&self, alloc: Global) -> Result<ServedChain, AllocError> {
-        Ok(ServedChain {
-            criteria: self.criteria.copy(alloc)?,
-            routing: self.routing.copy(alloc)?,
-        })
-    }
-}
-
-impl PartialEq for ServedChain {
-    ghost use Rattle.std.specs.Cmp.{decided, partial_equiv_from_equiv};
-    ghost use Rattle.ev_model.specs.Picture.{served_chain_same, served_chain_decides};
-
-    ghost eq = { served_chain_same };
-
-    ghost laws = { partial_equiv_from_equiv (decided served_chain_same served_chain_decides) };
-
-    fn eq(&self, other: &ServedChain) -> bool {
-        self.criteria == other.criteria && self.routing == other.routing
-    }
-}
-
-impl Eq for ServedChain {
-    ghost use Rattle.std.specs.Cmp.{decided};
-    ghost use Rattle.ev_model.specs.Picture.{served_chain_same, served_chain_decides};
-
-    ghost laws = { decided served_chain_same served_chain_decides };
-}
-
 /// An active listener as workers see it.
 #[derive(Drop)]
 pub struct ServedListener {
@@ -144,44 +81,6 @@ pub struct ServedListener {
     pub default_filter_chain: Option<Routing>,
 }
 
-impl TryCopy for ServedListener {
-    fn copy(&self, alloc: Global) -> Result<ServedListener, AllocError> {
-        Ok(ServedListener {
-            number: self.number,
-            name: self.name.copy(alloc)?,
-            address: self.address.copy(alloc)?,
-            takes_every_address: self.takes_every_address,
-            filter_chains: self.filter_chains.copy(alloc)?,
-            default_filter_chain: self.default_filter_chain.copy(alloc)?,
-        })
-    }
-}
-
-impl PartialEq for ServedListener {
-    ghost use Rattle.std.specs.Cmp.{decided, partial_equiv_from_equiv};
-    ghost use Rattle.ev_model.specs.Picture.{served_listener_same, served_listener_decides};
-
-    ghost eq = { served_listener_same };
-
-    ghost laws = { partial_equiv_from_equiv (decided served_listener_same served_listener_decides) };
-
-    fn eq(&self, other: &ServedListener) -> bool {
-        self.number == other.number
-            && self.name == other.name
-            && self.address == other.address
-            && self.takes_every_address == other.takes_every_address
-            && self.filter_chains == other.filter_chains
-            && self.default_filter_chain == other.default_filter_chain
-    }
-}
-
-impl Eq for ServedListener {
-    ghost use Rattle.std.specs.Cmp.{decided};
-    ghost use Rattle.ev_model.specs.Picture.{served_listener_same, served_listener_decides};
-
-    ghost laws = { decided served_listener_same served_listener_decides };
-}
-
 /// What a picture shows, which is what workers may serve: clusters and listeners, both sorted by name. It has no listeners
 /// before the phase is Serving.
 #[derive(Drop)]
@@ -190,49 +89,11 @@ pub struct Shown {
     pub listeners: Seq<ServedListener>,
 }
 
-impl TryCopy for Shown {
-    fn copy(&self, alloc: Global) -> Result<Shown, AllocError> {
-        Ok(Shown {
-            clusters: self.clusters.copy(alloc)?,
-            listeners: self.listeners.copy(alloc)?,
-        })
-    }
-}
-
-impl PartialEq for Shown {
-    ghost use Rattle.std.specs.Cmp.{decided, partial_equiv_from_equiv};
-    ghost use Rattle.ev_model.specs.Picture.{shown_same, shown_decides};
-
-    ghost eq = { shown_same };
-
-    ghost laws = { partial_equiv_from_equiv (decided shown_same shown_decides) };
-
-    fn eq(&self, other: &Shown) -> bool {
-        self.clusters == other.clusters && self.listeners == other.listeners
-    }
-}
-
-impl Eq for Shown {
-    ghost use Rattle.std.specs.Cmp.{decided};
-    ghost use Rattle.ev_model.specs.Picture.{shown_same, shown_decides};
-
-    ghost laws = { decided shown_same shown_decides };
-}
-
 /// A published picture: its version, counted from 0, and what it shows. Picture 0 shows nothing.
 #[derive(Drop)]
 pub struct Picture {
     pub version: u64,
     pub shown: Shown,
-}
-
-impl TryCopy for Picture {
-    fn copy(&self, alloc: Global) -> Result<Picture, AllocError> {
-        Ok(Picture {
-            version: self.version,
-            shown: self.shown.copy(alloc)?,
-        })
-    }
 }
 
 /// What a route, or one of its conditions, says of a request.

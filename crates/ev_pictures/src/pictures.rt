@@ -152,13 +152,6 @@ impl Pictures {
     {
         self.last.version()
     }
-
-    /// How many workers there are.
-    pub fn workers(&self) -> usize
-        ensures count { result ≡ length self.now.held }
-    {
-        self.held.len()
-    }
 }
 
 // The snapshot for each of this many workers.

@@ -181,13 +181,6 @@ impl Proxy {
         self.holders.snapshot()
     }
 
-    /// The version of the last picture. It takes no memory.
-    pub fn version(&self) -> u64
-        ensures { (world : World) → IsAt self.now world → result ≡ (last_picture world).version }
-    {
-        self.holders.version()
-    }
-
     /// How far the proxy has booted.
     pub fn phase(&self) -> Phase
         ensures { (world : World) → IsAt self.now world → result ≡ world.phase }

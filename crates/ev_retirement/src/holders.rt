@@ -20,7 +20,7 @@ use ev_keys::Keys;
 use ev_ledger::Ledger;
 use ev_pictures::Pictures;
 use ev_snapshot::{Changes, Snapshot};
-use ev_types::{Format, Gen, GenRow, Kind, Name};
+use ev_types::{Format, Gen, GenRow, Name};
 use std::alloc::{AllocError, Global};
 use std::marker::Model;
 use std::sync::Arc;
@@ -98,26 +98,6 @@ impl Holders {
             return Err(AllocError);
         };
         Ok(self.drain.expire(name))
-    }
-
-    /// Notes a generation that drains from now on, or was dropped, and served or warmed before. Out of memory, all stays as it
-    /// was.
-    pub fn retire(
-        &mut self,
-        alloc: Global,
-        kind: Kind,
-        number: Gen,
-        name: &Name,
-        dropped: bool,
-    ) -> Result<(), AllocError>
-        requires absent { has_row self.old.drain number ≡ false }
-        ensures world { OnOk result (Retires kind number name.now dropped self.old self.new) }
-        ensures err { OnErr result (self.new ≡ self.old) }
-    {
-        let Ok(_) = self.asking.ask(number) else {
-            return Err(AllocError);
-        };
-        self.drain.retire(alloc, kind, number, name, dropped)
     }
 
     /// Notes a generation that drains or was dropped; one that was noted before stays as it is. Out of memory, all stays as it was.
@@ -198,21 +178,6 @@ impl Holders {
         ensures world { IsAnswerOf (λ world. count_of number world.opened) self.now result }
     {
         self.ledger.count(number)
-    }
-
-    /// The version of the last picture.
-    pub fn version(&self) -> u64
-        ensures parts { result ≡ self.now.pictures.last.version }
-        ensures world { IsAnswerOf (λ world. (last_picture world).version) self.now result }
-    {
-        self.pictures.version()
-    }
-
-    /// How many workers there are.
-    pub fn workers(&self) -> usize
-        ensures { result ≡ length self.now.pictures.held }
-    {
-        self.pictures.workers()
     }
 
     /// The last snapshot, for a worker that begins. It takes no memory; it is refused where 2^63 - 1 owners hold it already.

@@ -109,14 +109,6 @@ impl Listeners {
         self.rows.named(name)
     }
 
-    /// The listener of this number.
-    pub(crate) fn numbered(&self, number: Gen) -> Option<&Shared<RoutedListener>>
-        ensures row { option_copied result ≡ numbered (λ (l : ServedListener). l.number) self.now number }
-        ensures order { IsInOrder (λ (l : ServedListener). l.number) (λ (l : ServedListener). l.name) self.now }
-    {
-        self.rows.numbered(number)
-    }
-
     /// Whether there is one of this number. It looks at no other.
     pub(crate) fn has(&self, number: Gen) -> bool
         ensures { result ≡ has_number number (map (λ (l : ServedListener). l.number) self.now) }

@@ -86,17 +86,6 @@ pub struct Cluster {
     pub body_text: Text,
 }
 
-impl TryCopy for Cluster {
-    fn copy(&self, alloc: Global) -> Result<Cluster, AllocError> {
-        Ok(Cluster {
-            name: self.name.copy(alloc)?,
-            discovery: self.discovery.copy(alloc)?,
-            checked: self.checked,
-            body_text: self.body_text.copy(alloc)?,
-        })
-    }
-}
-
 impl PartialEq for Cluster {
     ghost use Rattle.std.specs.Cmp.{decided, partial_equiv_from_equiv};
     ghost use Rattle.ev_types.specs.SameClusters.{cluster_same, cluster_decides};

@@ -113,16 +113,6 @@ pub enum Body {
     Beat,
 }
 
-impl TryCopy for Body {
-    fn copy(&self, alloc: Global) -> Result<Body, AllocError> {
-        match self {
-            Body::Good(content) => Ok(Body::Good(content.copy(alloc)?)),
-            Body::Bad(rule) => Ok(Body::Bad(*rule)),
-            Body::Beat => Ok(Body::Beat),
-        }
-    }
-}
-
 /// A resource of a response, with its outer name and its version as they came.
 /// Where the body is good or a heartbeat, the name has 1 to 512 bytes; a good body of a cluster or listener has it as its own.
 /// A heartbeat has a time to live.
@@ -163,17 +153,6 @@ impl Item {
     }
 }
 
-impl TryCopy for Item {
-    fn copy(&self, alloc: Global) -> Result<Item, AllocError> {
-        Ok(Item {
-            name: self.name.copy(alloc)?,
-            version: self.version.copy(alloc)?,
-            ttl: self.ttl,
-            body: self.body.copy(alloc)?,
-        })
-    }
-}
-
 /// A response of the incremental protocol. Where its type is none of the four, both lists are empty;
 /// a good body has the content of its type. Its nonce has at least one byte.
 #[derive(Drop)]
@@ -195,17 +174,6 @@ impl Model for Response {
     ghost view = { λ r. record { kind = r.kind; nonce = r.nonce; items = r.items; removed = r.removed } };
 
     ghost invariant = { λ r. IsResponse record { kind = r.kind; nonce = r.nonce; items = r.items; removed = r.removed } };
-}
-
-impl TryCopy for Response {
-    fn copy(&self, alloc: Global) -> Result<Response, AllocError> {
-        Ok(Response {
-            kind: self.kind,
-            nonce: self.nonce.copy(alloc)?,
-            items: self.items.copy(alloc)?,
-            removed: self.removed.copy(alloc)?,
-        })
-    }
 }
 
 /// A request of the incremental protocol. A request that answers a response has its nonce, and an error where it refuses.

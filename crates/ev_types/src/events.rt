@@ -302,34 +302,12 @@ pub struct Entry {
     pub answer: Answer,
 }
 
-impl TryCopy for Entry {
-    fn copy(&self, alloc: Global) -> Result<Entry, AllocError> {
-        Ok(Entry {
-            actor: self.actor,
-            at: self.at,
-            step: self.step,
-            event: self.event.copy(alloc)?,
-            answer: self.answer.copy(alloc)?,
-        })
-    }
-}
-
 /// One line of a script after its header, by its number.
 #[derive(Drop)]
 pub struct Line {
     pub at: u32,
     pub actor: Actor,
     pub event: Event,
-}
-
-impl TryCopy for Line {
-    fn copy(&self, alloc: Global) -> Result<Line, AllocError> {
-        Ok(Line {
-            at: self.at,
-            actor: self.actor,
-            event: self.event.copy(alloc)?,
-        })
-    }
 }
 
 /// How the resources of a script are read.
@@ -390,17 +368,4 @@ impl Model for Script {
       lines = s.lines;
       count = s.count;
     } };
-}
-
-impl TryCopy for Script {
-    fn copy(&self, alloc: Global) -> Result<Script, AllocError> {
-        Ok(Script {
-            workers: self.workers,
-            auto: self.auto,
-            profile: self.profile,
-            node: self.node.copy(alloc)?,
-            lines: self.lines.copy(alloc)?,
-            count: self.count,
-        })
-    }
 }

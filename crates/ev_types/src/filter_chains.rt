@@ -1,5 +1,4 @@
-use crate::{CidrRange, Seq, Text, TryCopy};
-use std::alloc::{AllocError, Global};
+use crate::{CidrRange, Seq, Text};
 
 /// Which connections a filter chain takes: of each criterion what it asks for, or nothing. Source: Envoy's `FilterChainMatch`.
 #[derive(Drop)]
@@ -16,19 +15,6 @@ pub struct FilterChainMatch {
     pub application_protocols: Seq<Text>,
     /// Whether it asks where the connection comes from, which no script says.
     pub asks_source: bool,
-}
-
-impl TryCopy for FilterChainMatch {
-    fn copy(&self, alloc: Global) -> Result<FilterChainMatch, AllocError> {
-        Ok(FilterChainMatch {
-            destination_port: self.destination_port,
-            prefix_ranges: self.prefix_ranges.copy(alloc)?,
-            server_names: self.server_names.copy(alloc)?,
-            transport_protocol: self.transport_protocol.copy(alloc)?,
-            application_protocols: self.application_protocols.copy(alloc)?,
-            asks_source: self.asks_source,
-        })
-    }
 }
 
 impl PartialEq for FilterChainMatch {

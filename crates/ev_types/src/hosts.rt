@@ -79,17 +79,6 @@ impl Model for HostRow {
     ghost invariant = { λ r. 1 ≤ r.weight };
 }
 
-impl TryCopy for HostRow {
-    fn copy(&self, alloc: Global) -> Result<HostRow, AllocError> {
-        Ok(HostRow {
-            host: self.host.copy(alloc)?,
-            weight: self.weight,
-            priority: self.priority,
-            usable: self.usable,
-        })
-    }
-}
-
 impl PartialEq for HostRow {
     ghost use Rattle.std.specs.Cmp.{decided, partial_equiv_from_equiv};
     ghost use Rattle.ev_types.specs.SameHosts.{host_row_same, host_row_decides};
@@ -215,15 +204,6 @@ fn walk_to(rows: &[HostRow], host: &Host) -> Option<u32>
         }
     }
     None
-}
-
-impl TryCopy for Assignment {
-    fn copy(&self, alloc: Global) -> Result<Assignment, AllocError> {
-        Ok(Assignment {
-            rows: self.rows.copy(alloc)?,
-            index: self.index.copy(alloc)?,
-        })
-    }
 }
 
 impl PartialEq for Assignment {

@@ -1,8 +1,6 @@
 ghost use Rattle.std.specs.Prelude.{◌≡◌, ◌≤◌, ◌<◌};
 ghost use Rattle.ev_types.specs.Ips.{ip_of, width, front, range_within};
 
-use crate::TryCopy;
-use std::alloc::{AllocError, Global};
 use std::net::IpAddr;
 use std::str::FromStr;
 
@@ -90,12 +88,6 @@ fn first_bits(ip: Ip, length: u32) -> Ip
         Ip::V4(bits) => Ip::V4(bits >> (32 - length)),
         Ip::V6(_) if length == 0 => Ip::V6(0),
         Ip::V6(bits) => Ip::V6(bits >> (128 - length)),
-    }
-}
-
-impl TryCopy for CidrRange {
-    fn copy(&self, _alloc: Global) -> Result<CidrRange, AllocError> {
-        Ok(*self)
     }
 }
 

@@ -1,5 +1,4 @@
-use crate::{Actor, Answer, Op, TryCopy};
-use std::alloc::{AllocError, Global};
+use crate::{Actor, Answer, Op};
 
 /// One line of a journal as it is written: it has the event's word, and not the event.
 #[derive(Drop)]
@@ -9,18 +8,6 @@ pub struct Row {
     pub step: u32,
     pub op: Op,
     pub answer: Answer,
-}
-
-impl TryCopy for Row {
-    fn copy(&self, alloc: Global) -> Result<Row, AllocError> {
-        Ok(Row {
-            actor: self.actor,
-            at: self.at,
-            step: self.step,
-            op: self.op,
-            answer: self.answer.copy(alloc)?,
-        })
-    }
 }
 
 /// Which rules a journal follows, as its first line says.

@@ -3,11 +3,6 @@
 //!
 //! # Choices
 //!
-//! - The type of lists in fields is `Seq`, a `Vec` whose room isn't looked at: two lists with the same elements are
-//!   equal for clauses, whatever their room. So no clause of `Seq` can ask for room, and `push_reserved` isn't a call
-//!   of `Seq`: `reserve` turns the list into a `Reserved`, which clauses see as its elements and how many more have
-//!   room, `push_reserved` is a call of that with no failing case, and `into_seq` turns it back. `reserve` gives the
-//!   list back where there is no memory. A list in a field is taken out for it and put back.
 //! - Contents are shared: the variants of `Content` and `Serve::Inline` hold `Shared<..>`, a count over one value, so
 //!   a copy of a content takes no memory. Clauses and definitions see what is held: the types that definitions match
 //!   on are as before. `share` can be refused, since the kit's `Arc` stops at 2^63 - 1 owners and says so; so it
@@ -50,7 +45,6 @@ mod limits;
 mod listeners;
 mod lists;
 mod matchers;
-mod reserved;
 mod routes;
 mod rows;
 mod shared;
@@ -73,7 +67,6 @@ pub use matchers::{
     HeaderMatcher, HeaderTest, PathSpecifier, RouteCondition, RouteMatch, StringMatcher,
     StringPattern,
 };
-pub use reserved::Reserved;
 pub use routes::{
     Action, PathMatch, Route, RouteTable, Target, VirtualHost, WeightedCluster, WeightedClusters,
 };

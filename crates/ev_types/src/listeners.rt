@@ -1,5 +1,4 @@
-use crate::{FilterChainMatch, Host, Name, RouteTable, Seq, Shared, Target, Text, TryCopy};
-use std::alloc::{AllocError, Global};
+use crate::{FilterChainMatch, Host, Name, RouteTable, Seq, Shared, Target, Text};
 
 /// What a filter chain serves.
 #[derive(Drop)]
@@ -17,20 +16,6 @@ pub enum Serve {
     Tcp(Target),
     /// Something else: other filters, or routes by scopes.
     Other,
-}
-
-impl TryCopy for Serve {
-    fn copy(&self, alloc: Global) -> Result<Serve, AllocError> {
-        match self {
-            Serve::Rds { name, limited } => Ok(Serve::Rds {
-                name: name.copy(alloc)?,
-                limited: *limited,
-            }),
-            Serve::Inline(table) => Ok(Serve::Inline(table.copy(alloc)?)),
-            Serve::Tcp(target) => Ok(Serve::Tcp(target.copy(alloc)?)),
-            Serve::Other => Ok(Serve::Other),
-        }
-    }
 }
 
 impl PartialEq for Serve {
@@ -73,15 +58,6 @@ pub struct FilterChain {
     pub serve: Serve,
 }
 
-impl TryCopy for FilterChain {
-    fn copy(&self, alloc: Global) -> Result<FilterChain, AllocError> {
-        Ok(FilterChain {
-            criteria: self.criteria.copy(alloc)?,
-            serve: self.serve.copy(alloc)?,
-        })
-    }
-}
-
 impl PartialEq for FilterChain {
     ghost use Rattle.std.specs.Cmp.{decided, partial_equiv_from_equiv};
     ghost use Rattle.ev_types.specs.SameListeners.{filter_chain_same, filter_chain_decides};
@@ -116,19 +92,6 @@ pub struct Listener {
     /// The text of its body, by which a change of any field is told. It is empty where only the fields that are read
     /// count.
     pub body_text: Text,
-}
-
-impl TryCopy for Listener {
-    fn copy(&self, alloc: Global) -> Result<Listener, AllocError> {
-        Ok(Listener {
-            name: self.name.copy(alloc)?,
-            address: self.address.copy(alloc)?,
-            takes_every_address: self.takes_every_address,
-            filter_chains: self.filter_chains.copy(alloc)?,
-            default_filter_chain: self.default_filter_chain.copy(alloc)?,
-            body_text: self.body_text.copy(alloc)?,
-        })
-    }
 }
 
 impl PartialEq for Listener {

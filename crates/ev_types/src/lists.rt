@@ -4,7 +4,7 @@ ghost use Rattle.std.specs.Fn.{CalledAt};
 ghost use Rattle.std.specs.Slice.Iter.{iter_rest};
 ghost use Rattle.std.specs.Iterator.Adapters.{IterYieldsInOrder, IterYieldsInReverse};
 
-use crate::{Reserved, TryCopy};
+use crate::TryCopy;
 use std::alloc::{AllocError, Global};
 use std::marker::Model;
 use std::slice::Iter;
@@ -118,28 +118,6 @@ impl<T> Seq<T> {
         ensures filtered { IsFiltered (CalledAt F.FnMut) test self.old self.new }
     {
         self.items.retain(test);
-    }
-
-    /// Keeps the first elements, as many as `count`, or all where there are fewer.
-    pub fn truncate(&mut self, count: usize)
-    where
-        T: Drop,
-        ensures { self.new ≡ take count self.old }
-    {
-        self.items.truncate(count);
-    }
-
-    /// Makes room for `additional` more elements. The list comes back where there is no memory for it.
-    pub fn reserve(self, additional: usize) -> Result<Reserved<T>, Seq<T>>
-        ensures elements { IfOk result (λ reserved. reserved.0 ≡ self) }
-        ensures room { IfOk result (λ reserved. additional ≤ reserved.1) }
-        ensures err { IfErr result (λ list. list ≡ self) }
-    {
-        let mut items = self.items;
-        match items.reserve(additional) {
-            Ok(_) => Ok(Reserved::from_vec(items)),
-            Err(_) => Err(Seq { items }),
-        }
     }
 }
 

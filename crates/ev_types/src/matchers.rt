@@ -1,5 +1,4 @@
-use crate::{PathMatch, Seq, Text, TryCopy};
-use std::alloc::{AllocError, Global};
+use crate::{PathMatch, Seq, Text};
 
 /// What a text is held against. Source: the patterns of Envoy's `StringMatcher`.
 #[derive(Drop)]
@@ -12,17 +11,6 @@ pub enum StringPattern {
     Suffix(Text),
     /// Those that have it as a part.
     Contains(Text),
-}
-
-impl TryCopy for StringPattern {
-    fn copy(&self, alloc: Global) -> Result<StringPattern, AllocError> {
-        match self {
-            StringPattern::Exact(text) => Ok(StringPattern::Exact(text.copy(alloc)?)),
-            StringPattern::Prefix(text) => Ok(StringPattern::Prefix(text.copy(alloc)?)),
-            StringPattern::Suffix(text) => Ok(StringPattern::Suffix(text.copy(alloc)?)),
-            StringPattern::Contains(text) => Ok(StringPattern::Contains(text.copy(alloc)?)),
-        }
-    }
 }
 
 impl PartialEq for StringPattern {
@@ -59,15 +47,6 @@ pub struct StringMatcher {
     pub ignore_case: bool,
 }
 
-impl TryCopy for StringMatcher {
-    fn copy(&self, alloc: Global) -> Result<StringMatcher, AllocError> {
-        Ok(StringMatcher {
-            pattern: self.pattern.copy(alloc)?,
-            ignore_case: self.ignore_case,
-        })
-    }
-}
-
 impl PartialEq for StringMatcher {
     ghost use Rattle.std.specs.Cmp.{decided, partial_equiv_from_equiv};
     ghost use Rattle.ev_types.specs.SameMatchers.{string_matcher_same, string_matcher_decides};
@@ -97,16 +76,6 @@ pub enum HeaderTest {
     Present,
     /// Something that isn't decided here: a regular expression, a range of numbers, or an extension.
     Open,
-}
-
-impl TryCopy for HeaderTest {
-    fn copy(&self, alloc: Global) -> Result<HeaderTest, AllocError> {
-        match self {
-            HeaderTest::Text(matcher) => Ok(HeaderTest::Text(matcher.copy(alloc)?)),
-            HeaderTest::Present => Ok(HeaderTest::Present),
-            HeaderTest::Open => Ok(HeaderTest::Open),
-        }
-    }
 }
 
 impl PartialEq for HeaderTest {
@@ -146,17 +115,6 @@ pub struct HeaderMatcher {
     pub treat_missing_header_as_empty: bool,
 }
 
-impl TryCopy for HeaderMatcher {
-    fn copy(&self, alloc: Global) -> Result<HeaderMatcher, AllocError> {
-        Ok(HeaderMatcher {
-            name: self.name.copy(alloc)?,
-            test: self.test.copy(alloc)?,
-            invert_match: self.invert_match,
-            treat_missing_header_as_empty: self.treat_missing_header_as_empty,
-        })
-    }
-}
-
 impl PartialEq for HeaderMatcher {
     ghost use Rattle.std.specs.Cmp.{decided, partial_equiv_from_equiv};
     ghost use Rattle.ev_types.specs.SameMatchers.{header_matcher_same, header_matcher_decides};
@@ -189,16 +147,6 @@ pub enum RouteCondition {
     Grpc,
     /// Something that isn't decided here: a fraction of requests, a certificate, query parameters, metadata, or filter state.
     Open,
-}
-
-impl TryCopy for RouteCondition {
-    fn copy(&self, alloc: Global) -> Result<RouteCondition, AllocError> {
-        match self {
-            RouteCondition::Header(matcher) => Ok(RouteCondition::Header(matcher.copy(alloc)?)),
-            RouteCondition::Grpc => Ok(RouteCondition::Grpc),
-            RouteCondition::Open => Ok(RouteCondition::Open),
-        }
-    }
 }
 
 impl PartialEq for RouteCondition {
@@ -239,17 +187,6 @@ pub enum PathSpecifier {
     Open,
 }
 
-impl TryCopy for PathSpecifier {
-    fn copy(&self, alloc: Global) -> Result<PathSpecifier, AllocError> {
-        match self {
-            PathSpecifier::Cased(path) => Ok(PathSpecifier::Cased(path.copy(alloc)?)),
-            PathSpecifier::Folded(path) => Ok(PathSpecifier::Folded(path.copy(alloc)?)),
-            PathSpecifier::Connect => Ok(PathSpecifier::Connect),
-            PathSpecifier::Open => Ok(PathSpecifier::Open),
-        }
-    }
-}
-
 impl PartialEq for PathSpecifier {
     ghost use Rattle.std.specs.Cmp.{decided, partial_equiv_from_equiv};
     ghost use Rattle.ev_types.specs.SameMatchers.{path_specifier_same, path_specifier_decides};
@@ -281,15 +218,6 @@ impl Eq for PathSpecifier {
 pub struct RouteMatch {
     pub path: PathSpecifier,
     pub conditions: Seq<RouteCondition>,
-}
-
-impl TryCopy for RouteMatch {
-    fn copy(&self, alloc: Global) -> Result<RouteMatch, AllocError> {
-        Ok(RouteMatch {
-            path: self.path.copy(alloc)?,
-            conditions: self.conditions.copy(alloc)?,
-        })
-    }
 }
 
 impl PartialEq for RouteMatch {

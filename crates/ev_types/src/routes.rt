@@ -165,17 +165,6 @@ pub enum Action {
     Elsewhere,
 }
 
-impl TryCopy for Action {
-    fn copy(&self, alloc: Global) -> Result<Action, AllocError> {
-        match self {
-            Action::Forward(target) => Ok(Action::Forward(target.copy(alloc)?)),
-            Action::Redirect => Ok(Action::Redirect),
-            Action::Local(status) => Ok(Action::Local(*status)),
-            Action::Elsewhere => Ok(Action::Elsewhere),
-        }
-    }
-}
-
 impl PartialEq for Action {
     ghost use Rattle.std.specs.Cmp.{decided, partial_equiv_from_equiv};
     ghost use Rattle.ev_types.specs.SameRoutes.{action_same, action_decides};
@@ -213,16 +202,6 @@ pub enum PathMatch {
     Separated(Text),
 }
 
-impl TryCopy for PathMatch {
-    fn copy(&self, alloc: Global) -> Result<PathMatch, AllocError> {
-        match self {
-            PathMatch::Prefix(text) => Ok(PathMatch::Prefix(text.copy(alloc)?)),
-            PathMatch::Path(text) => Ok(PathMatch::Path(text.copy(alloc)?)),
-            PathMatch::Separated(text) => Ok(PathMatch::Separated(text.copy(alloc)?)),
-        }
-    }
-}
-
 impl PartialEq for PathMatch {
     ghost use Rattle.std.specs.Cmp.{decided, partial_equiv_from_equiv};
     ghost use Rattle.ev_types.specs.SamePaths.{path_match_same, path_match_decides};
@@ -256,15 +235,6 @@ pub struct Route {
     pub action: Action,
 }
 
-impl TryCopy for Route {
-    fn copy(&self, alloc: Global) -> Result<Route, AllocError> {
-        Ok(Route {
-            route_match: self.route_match.copy(alloc)?,
-            action: self.action.copy(alloc)?,
-        })
-    }
-}
-
 impl PartialEq for Route {
     ghost use Rattle.std.specs.Cmp.{decided, partial_equiv_from_equiv};
     ghost use Rattle.ev_types.specs.SameRoutes.{route_same, route_decides};
@@ -293,16 +263,6 @@ pub struct VirtualHost {
     pub routes: Seq<Route>,
 }
 
-impl TryCopy for VirtualHost {
-    fn copy(&self, alloc: Global) -> Result<VirtualHost, AllocError> {
-        Ok(VirtualHost {
-            name: self.name.copy(alloc)?,
-            domains: self.domains.copy(alloc)?,
-            routes: self.routes.copy(alloc)?,
-        })
-    }
-}
-
 impl PartialEq for VirtualHost {
     ghost use Rattle.std.specs.Cmp.{decided, partial_equiv_from_equiv};
     ghost use Rattle.ev_types.specs.SameRoutes.{virtual_host_same, virtual_host_decides};
@@ -327,14 +287,6 @@ impl Eq for VirtualHost {
 #[derive(Drop)]
 pub struct RouteTable {
     pub hosts: Seq<VirtualHost>,
-}
-
-impl TryCopy for RouteTable {
-    fn copy(&self, alloc: Global) -> Result<RouteTable, AllocError> {
-        Ok(RouteTable {
-            hosts: self.hosts.copy(alloc)?,
-        })
-    }
 }
 
 impl PartialEq for RouteTable {

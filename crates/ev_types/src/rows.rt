@@ -96,18 +96,6 @@ pub struct GenRow {
     pub status: RowStatus,
 }
 
-impl TryCopy for GenRow {
-    fn copy(&self, alloc: Global) -> Result<GenRow, AllocError> {
-        Ok(GenRow {
-            kind: self.kind,
-            number: self.number,
-            name: self.name.copy(alloc)?,
-            content: self.content.copy(alloc)?,
-            status: self.status,
-        })
-    }
-}
-
 /// A live generation: one that warms or serves.
 #[derive(Drop)]
 pub struct Live {
@@ -119,30 +107,10 @@ pub struct Live {
     pub warming: bool,
 }
 
-impl TryCopy for Live {
-    fn copy(&self, alloc: Global) -> Result<Live, AllocError> {
-        Ok(Live {
-            kind: self.kind,
-            number: self.number,
-            name: self.name.copy(alloc)?,
-            content: self.content.copy(alloc)?,
-            warming: self.warming,
-        })
-    }
-}
-
 /// The live generations, in the order of their numbers.
 #[derive(Drop)]
 pub struct Lives {
     pub rows: Seq<Live>,
-}
-
-impl TryCopy for Lives {
-    fn copy(&self, alloc: Global) -> Result<Lives, AllocError> {
-        Ok(Lives {
-            rows: self.rows.copy(alloc)?,
-        })
-    }
 }
 
 /// The version that is kept for a name of a kind.
@@ -153,17 +121,6 @@ pub struct KeptVersion {
     pub version: Text,
     /// Whether the resource's life is bounded: it came with a time to live that has not ended.
     pub bounded: bool,
-}
-
-impl TryCopy for KeptVersion {
-    fn copy(&self, alloc: Global) -> Result<KeptVersion, AllocError> {
-        Ok(KeptVersion {
-            kind: self.kind,
-            name: self.name.copy(alloc)?,
-            version: self.version.copy(alloc)?,
-            bounded: self.bounded,
-        })
-    }
 }
 
 /// How far the proxy has booted. A phase never goes back.
@@ -190,16 +147,4 @@ pub enum Arrival {
     TimedOut,
     /// The end of a time to live, with what is held from then on. The control plane has said nothing by it.
     Ended(Content),
-}
-
-impl TryCopy for Arrival {
-    fn copy(&self, alloc: Global) -> Result<Arrival, AllocError> {
-        match self {
-            Arrival::Value(content) => Ok(Arrival::Value(content.copy(alloc)?)),
-            Arrival::Absent => Ok(Arrival::Absent),
-            Arrival::Bad => Ok(Arrival::Bad),
-            Arrival::TimedOut => Ok(Arrival::TimedOut),
-            Arrival::Ended(content) => Ok(Arrival::Ended(content.copy(alloc)?)),
-        }
-    }
 }

@@ -11,28 +11,14 @@ use crate::made::Made;
 use crate::rules::rule_of;
 use ev_keys::Keys;
 use ev_mentions::{LiveRow, Mentions};
-use ev_types::{Body, Content, Host, Item, Kind, Response, Seq, Verdict};
+use ev_types::{Body, Content, Host, Item, Kind, Seq, Verdict};
 use std::alloc::{AllocError, Global};
 use std::hash::{DefaultHasher, Hash};
 
-/// The verdict on each resource of a response, in its order, by what is known before it. The response's type is one of the four.
-/// Each resource costs a few look-ups, and a heap allocation where it is a listener; nothing that is known is copied.
+/// The verdict on each resource of a response, in its order, by what is known before it, for a caller who has what the response
+/// mentions. Each resource costs a few look-ups, and a heap allocation where it is a listener; nothing that is known is copied.
 ///
 /// It is out of memory where a list or table has no room.
-pub fn verdicts<K: Known>(
-    alloc: Global,
-    known: &K,
-    response: &Response,
-) -> Result<Seq<Verdict>, AllocError>
-    requires { IsSome response.now.kind }
-    ensures verdicts { IfOk result (λ verdicts. AreVerdicts (K.answers known.now) response.now verdicts) }
-    ensures one_each { IfOk result (λ verdicts. length verdicts ≡ length response.now.items) }
-{
-    let mentions = Mentions::of(alloc, response)?;
-    verdicts_by_mentions(alloc, known, &mentions)
-}
-
-/// The verdicts on a response, for a caller who has what it mentions: as `verdicts`.
 pub fn verdicts_by_mentions<K: Known>(
     alloc: Global,
     known: &K,

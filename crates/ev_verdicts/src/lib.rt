@@ -4,7 +4,7 @@
 //! # Choices
 //!
 //! - What is known before a response is asked by look-ups (`Known`: the newest generation of a name, those that hold
-//!   an address, whether a name is watched, whether a version is kept), and not given as lists from which `verdicts`
+//!   an address, whether a name is watched, whether a version is kept), and not given as lists from which the verdicts
 //!   would build tables at each response: an update of one cluster's endpoints would then cost a walk over all
 //!   clusters. The managers keep such tables anyhow. Its contract speaks of every list of live generations and of
 //!   versions whose answers these are (`Tells`).
@@ -17,7 +17,6 @@
 //! - Live generations are borrowed rows, `LiveRow`, which clauses see as `Live`: no name and no content is copied.
 //! - The loop over the resources gets what the response mentions by reference: a loop that owned those three sets
 //!   would drop them at each way out of it, and be expensive to prove.
-//! - `Listed` answers by a search of lists. It is for tests and for callers with few generations.
 //! - What a response mentions, texts as keys and live rows are in ev_mentions, below this crate: the managers and
 //!   the subscription need these and nothing else of it, so they don't wait for the verdicts' proofs.
 //! - Whether a heartbeat is heard is asked of the live generations after the response's removals, as the watched
@@ -29,10 +28,8 @@ mod addresses;
 mod judging;
 mod keys;
 mod known;
-mod listed;
 mod made;
 mod rules;
 
-pub use judging::{verdicts, verdicts_by_mentions};
+pub use judging::verdicts_by_mentions;
 pub use known::Known;
-pub use listed::Listed;

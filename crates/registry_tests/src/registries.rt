@@ -5,11 +5,9 @@ ghost use Rattle.ev_actors.specs.Journals.{world_now};
 use ev_actors::Journaled;
 use ev_journal::render_journal;
 use ev_keys::Keys;
-use ev_mentions::LiveRow;
 use ev_model_laws::{acknowledges_exactly, has_a_replay, has_one_replay, replay_holds_operations};
 use ev_registry::Registry;
-use ev_types::{Actor, Body, Event, Format, Gen, Profile, Response, Shared, Text, Verdict};
-use ev_verdicts::{Listed, verdicts};
+use ev_types::{Actor, Event, Format, Profile, Response, Shared, Text};
 use ev_wire::read_response;
 use serde_json::Value;
 use std::alloc::Global;
@@ -19,60 +17,6 @@ use std::test::Fail;
 fn read(alloc: Global, message: &str) -> Result<Response, Fail> {
     let tree = Value::from_str(alloc, message)?;
     Ok(read_response(alloc, Profile::Own, &tree)?)
-}
-
-// The resources of a response as live generations.
-fn live<'a>(alloc: Global, response: &'a Response) -> Result<Vec<LiveRow<'a>>, Fail> {
-    let mut rows = Vec::new(alloc);
-    for item in response.items.as_slice() {
-        if let (Some(kind), Body::Good(content)) = (response.kind, &item.body) {
-            rows.push(LiveRow {
-                kind,
-                number: Gen::new(1),
-                name: item.name.as_str(),
-                content,
-                warming: false,
-            })?;
-        }
-    }
-    Ok(rows)
-}
-
-const LISTENER_A: &str =
-    "{\"typeUrl\":\"type.googleapis.com/envoy.config.listener.v3.Listener\",\"nonce\":\"1\",\"resources\":[{\"name\":\"a\",\"resource\":{\"@type\":\"type.googleapis.com/envoy.config.listener.v3.Listener\",\"name\":\"a\",\"address\":{\"socketAddress\":{\"address\":\"10.1.0.1\",\"portValue\":80}},\"filterChains\":[{\"filters\":[{\"typedConfig\":{\"@type\":\"type.googleapis.com/envoy.extensions.filters.network.tcp_proxy.v3.TcpProxy\",\"cluster\":\"c\"}}]}]}}]}";
-
-const LISTENER_B: &str =
-    "{\"typeUrl\":\"type.googleapis.com/envoy.config.listener.v3.Listener\",\"nonce\":\"1\",\"resources\":[{\"name\":\"b\",\"resource\":{\"@type\":\"type.googleapis.com/envoy.config.listener.v3.Listener\",\"name\":\"b\",\"address\":{\"socketAddress\":{\"address\":\"10.1.0.1\",\"portValue\":80}},\"filterChains\":[{\"filters\":[{\"typedConfig\":{\"@type\":\"type.googleapis.com/envoy.extensions.filters.network.tcp_proxy.v3.TcpProxy\",\"cluster\":\"c\"}}]}]}}]}";
-
-// The first verdict on a response beside the resources of another, which live.
-fn judge(alloc: Global, earlier: &Response, response: &Response) -> Result<Option<Verdict>, Fail> {
-    if response.kind.is_none() {
-        return Ok(None);
-    }
-    let lives = live(alloc, earlier)?;
-    let known = Listed {
-        lives: lives.as_slice(),
-        versions: &[],
-    };
-    let found = verdicts(alloc, &known, response)?;
-    Ok(found.as_slice().first().copied())
-}
-
-// The same, of a message beside another.
-fn judge_messages(alloc: Global, earlier: &str, message: &str) -> Result<Option<Verdict>, Fail> {
-    let earlier = read(alloc, earlier)?;
-    let response = read(alloc, message)?;
-    let judged = judge(alloc, &earlier, &response);
-    drop(response);
-    drop(earlier);
-    judged
-}
-
-#[test]
-fn judges_by_listed_generations(rt: HostRuntime) -> Result<(), Fail> {
-    let judged = judge_messages(rt.alloc(), LISTENER_A, LISTENER_B)?;
-    assert_eq!(rt; judged, Some(Verdict::Refused(15)));
-    Ok(())
 }
 
 const TWO_CLUSTERS: &str =

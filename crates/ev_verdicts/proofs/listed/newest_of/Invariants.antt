@@ -1,6 +1,0 @@
-use Rattle.std.proofs.Common.{◌≡◌, drop, option_map}
-use Rattle.ev_model.specs.Live.{newest_of}
-use Rattle.ev_verdicts.proofs.listed.newest_of.Given as goal
-
-abbrev pub invariant-loop-place : goal.invariant-loop-place
-invariant-loop-place l = option_map (λ live. live.now) l.newest ≡ newest_of (drop l.place l.lives) l.kind l.name
