@@ -16,33 +16,31 @@ use Rattle.ev_script.specs.Members.{tree_of}
 use Rattle.ev_script.specs.Content.{IsKeptOf}
 use Rattle.ev_script.specs.ReadLines.{AreLinesKept}
 use Rattle.ev_script.specs.ReadInput.{input_of, IsAnswer, IsTold}
-use Rattle.ev_chains.specs.declared.events.ChainEvent.{ChainEvent}
-use Rattle.ev_chains.specs.Events.{seen}
 use Rattle.ev_chains.specs.Steps.{Event}
-use Rattle.ev_chain_lines.specs.Lines.{event_of, chain_lines, events_from, events_behind}
+use Rattle.ev_chain_lines.specs.Lines.{event_of, event_told, chain_lines, events_from, events_behind}
 use Rattle.ev_chain_lines.specs.Texts.{chains_text}
 use Rattle.ev_chain_lines.specs.Inputs.{TakesChains, IsMadeOf, MakesChains}
 
 -- an event is kept, whatever the profile
-abbrev pub IsEvent : Profile → ℕ → Data → ChainEvent → Type 0
-IsEvent profile at tree event = event_of tree ≡ Some (seen event)
+abbrev pub IsEvent : Profile → ℕ → Data → List ℕ → Type 0
+IsEvent profile at tree event = event_of tree ≡ Some (event_told event)
 
 -- the events of lines that were kept
-events_by : (profile : Profile) (at : ℕ) (texts : List (List ℕ)) (kept : List ChainEvent) → length texts ≡ length kept
-    → ((i : ℕ) (other : ChainEvent) → i < length kept → IsKeptOf (IsEvent profile) (at + i) (tree_of (get_or texts i [])) (get_or kept i other))
-    → events_from texts ≡ Some (map seen kept)
+events_by : (profile : Profile) (at : ℕ) (texts : List (List ℕ)) (kept : List (List ℕ)) → length texts ≡ length kept
+    → ((i : ℕ) (other : List ℕ) → i < length kept → IsKeptOf (IsEvent profile) (at + i) (tree_of (get_or texts i [])) (get_or kept i other))
+    → events_from texts ≡ Some (map event_told kept)
 events_by profile at [] [] e h = refl
 events_by profile at [] (event ∷ kept) e h = absurd (omega (arith, e))
 events_by profile at (text ∷ texts) [] e h = absurd (omega (arith, e))
 events_by profile at (text ∷ texts) (event ∷ kept) e h =
     let k : IsKeptOf (IsEvent profile) (at + 0) (tree_of text) event = h 0 event (omega arith) in
-    let here : option_and_then event_of (tree_of text) ≡ Some (seen event) = ap (option_and_then event_of) k.is ∙ k.holds in
-    let others : events_from texts ≡ Some (map seen kept) = events_by profile (at + 1) texts kept (omega (arith, e)) (λ i other within.
+    let here : option_and_then event_of (tree_of text) ≡ Some (event_told event) = ap (option_and_then event_of) k.is ∙ k.holds in
+    let others : events_from texts ≡ Some (map event_told kept) = events_by profile (at + 1) texts kept (omega (arith, e)) (λ i other within.
     let r = h (suc i) other (omega arith) in record { tree = r.tree; is = r.is; holds = r.holds }) in
     ap (λ (found : Option Event). option_and_then (λ (l : Event). option_map (λ (ls : List Event). l ∷ ls) (events_from texts)) found) here
-    ∙ ap (option_map (λ (ls : List Event). seen event ∷ ls)) others
+    ∙ ap (option_map (λ (ls : List Event). event_told event ∷ ls)) others
 
-behind_first : (profile : Profile) (texts : List (List ℕ)) (kept : List ChainEvent) → length texts ≡ length kept + 1 → AreLinesKept (IsEvent profile) texts kept → events_behind texts ≡ Some (map seen kept)
+behind_first : (profile : Profile) (texts : List (List ℕ)) (kept : List (List ℕ)) → length texts ≡ length kept + 1 → AreLinesKept (IsEvent profile) texts kept → events_behind texts ≡ Some (map event_told kept)
 behind_first profile [] kept long are = absurd (omega (arith, long))
 behind_first profile (first ∷ texts) kept long are =
     events_by profile 2 texts kept (omega (arith, long)) (λ i other h.
@@ -63,11 +61,11 @@ taken_input before after state bytes takes taken within ended = record {
 }
 
 -- what the reader of lines ensures
-abbrev pub Reads : Option (List ℕ) → Option (List ℕ) → LinesState → Result (ReadLines ⊤ ChainEvent) ScriptFault → Type 0
+abbrev pub Reads : Option (List ℕ) → Option (List ℕ) → LinesState → Result (ReadLines ⊤ (List ℕ)) ScriptFault → Type 0
 Reads before after state result = (bytes : List ℕ) × Takes before after bytes × HasTaken state bytes × IsAnswer chain_lines (λ tree head. ⊤) IsEvent (input_of false state bytes) result
 
-pub makes_text : (before after : Option (List ℕ)) (state : LinesState) (read : ReadLines ⊤ ChainEvent) (text : Vec ℕ Global) → IsWithin state → (IsTrue state.ended → IsAtEnd after)
-    → Reads before after state (Ok read) → text.items ≡ chains_text (map seen read.kept.items) → MakesChains before after (Ok text)
+pub makes_text : (before after : Option (List ℕ)) (state : LinesState) (read : ReadLines ⊤ (List ℕ)) (text : Vec ℕ Global) → IsWithin state → (IsTrue state.ended → IsAtEnd after)
+    → Reads before after state (Ok read) → text.items ≡ chains_text (map event_told read.kept.items) → MakesChains before after (Ok text)
 makes_text before after state read text within ended r answers =
     let input = input_of false state r.0 in
     let ends = r.3.1 in
@@ -77,7 +75,7 @@ makes_text before after state read text within ended r answers =
       is = record {
         ended = ends.ended;
         sound = ends.sound;
-        text_of = record { events = map seen read.kept.items; reads = behind_first read.settings.profile (lines_of r.0) read.kept.items ends.lines r.3.0.kept; answers = answers };
+        text_of = record { events = map event_told read.kept.items; reads = behind_first read.settings.profile (lines_of r.0) read.kept.items ends.lines r.3.0.kept; answers = answers };
       };
     }
 
@@ -92,7 +90,7 @@ makes_fault before after state fault within ended r =
     record { input = input_of false state r.0; takes = taken_input before after state r.0 r.1 r.2 within ended; is = told (input_of false state r.0) fault r.3 }
 
 -- there was no memory for the text
-pub makes_none : (before after : Option (List ℕ)) (state : LinesState) (read : ReadLines ⊤ ChainEvent) → IsWithin state → (IsTrue state.ended → IsAtEnd after)
+pub makes_none : (before after : Option (List ℕ)) (state : LinesState) (read : ReadLines ⊤ (List ℕ)) → IsWithin state → (IsTrue state.ended → IsAtEnd after)
     → Reads before after state (Ok read) → MakesChains before after (Err OutOfMemory)
 makes_none before after state read within ended r =
     record { input = input_of false state r.0; takes = taken_input before after state r.0 r.1 r.2 within ended; is = tt }

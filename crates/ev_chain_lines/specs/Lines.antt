@@ -1,5 +1,5 @@
 -- The lines of an input of filter chains, and the events that they are.
-use Rattle.std.specs.Prelude.{ℕ, Bool, true, false, List, [], ◌∷◌, if◌then◌else◌, codes, Option, None, Some, option_map, option_and_then}
+use Rattle.std.specs.Prelude.{ℕ, Bool, true, false, List, [], ◌∷◌, if◌then◌else◌, codes, Option, None, Some, option_map, option_and_then, unwrap_or}
 use Rattle.std.specs.Str.{bytes_eq}
 use Rattle.serde_json.specs.Data.{Data}
 use Rattle.serde_json.specs.Find.{as_str, as_bool}
@@ -10,7 +10,7 @@ use Rattle.ev_io.specs.Lines.{lines_of}
 use Rattle.ev_script.specs.declared.forms.Settings.{Settings}
 use Rattle.ev_script.specs.Faults.{LineForms}
 use Rattle.ev_script.specs.LineForms.{with_only}
-use Rattle.ev_script.specs.Members.{tree_of, has_only, whole_within, text_within, member_of, member_or}
+use Rattle.ev_script.specs.Members.{tree_of, tree_told, has_only, whole_within, text_within, member_of, member_or}
 use Rattle.ev_chains.specs.Steps.{Event, Update, Accept, Close, DrainTimeout, Reap}
 use Rattle.ev_chain_lines.specs.declared.limits.TheConstants.{MAX_NUMBER, MAX_PORT_NUMBER}
 
@@ -75,6 +75,10 @@ event_by op tree =
 -- the event that a tree is, or none where it isn't one
 abbrev pub event_of : Data → Option Event
 event_of tree = option_and_then (λ op. event_by op tree) (member_of as_str (codes "op") tree)
+
+-- the event of a line of this text, which is one
+abbrev pub event_told : List ℕ → Event
+event_told text = unwrap_or (event_of (tree_told text)) Reap
 
 -- ---- inputs
 

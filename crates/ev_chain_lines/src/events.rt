@@ -1,37 +1,37 @@
-ghost use Rattle.std.specs.Prelude.{◌≡◌, IfOk, option_map, codes, Option};
+ghost use Rattle.std.specs.Prelude.{◌≡◌, option_map, codes, Option};
 ghost use Rattle.serde_json.specs.View.{view};
 ghost use Rattle.ev_tree.specs.Forms.{object_in};
 ghost use Rattle.ev_script.specs.Members.{member_of};
 ghost use Rattle.ev_chains.specs.Events.{seen};
 ghost use Rattle.ev_chain_lines.specs.Lines.{header_of, event_of, event_by, listener_event, accept_event, asked_in, close_event, conn_in, port_in, server_in, bare_event};
 
+use crate::event_line::EventLine;
 use crate::limits::{MAX_NUMBER, MAX_PORT_NUMBER};
 use ev_chains::ChainEvent;
 use ev_script::{
     FormedHead, FormedLine, Forms, Settings, flag_at, has_only, number_at, text_or, word_at,
 };
-use ev_types::{MAX_NAME_LENGTH, Profile, Text};
+use ev_types::{MAX_NAME_LENGTH, Profile};
 use serde_json::Value;
 use std::alloc::{AllocError, Global};
 
-/// The lines of an input of filter chains, each kept as its event.
+/// The lines of an input of filter chains, each kept as the text of its event.
 #[derive(Clone, Copy, Debug)]
 pub struct ChainLines;
 
 impl Forms for ChainLines {
     ghost use Rattle.std.specs.Prelude.{Some, ⊤};
-    ghost use Rattle.ev_chains.specs.Events.{seen};
-    ghost use Rattle.ev_chain_lines.specs.Lines.{chain_lines, event_of};
+    ghost use Rattle.ev_chain_lines.specs.Lines.{chain_lines, event_of, event_told};
 
     type Head = ();
 
-    type Kept = ChainEvent;
+    type Kept = EventLine;
 
     ghost forms = { chain_lines };
 
     ghost keeps_head = { λ tree head. ⊤ };
 
-    ghost keeps = { λ profile at tree event. event_of tree ≡ Some (seen event) };
+    ghost keeps = { λ profile at tree line. event_of tree ≡ Some (event_told line) };
 
     fn read_head(&self, _alloc: Global, tree: Value) -> Result<Option<FormedHead<()>>, AllocError> {
         match header(&tree) {
@@ -45,16 +45,16 @@ impl Forms for ChainLines {
         alloc: Global,
         _profile: Profile,
         _at: u32,
-        _text: &[u8],
+        text: &[u8],
         tree: Value,
-    ) -> Result<Option<FormedLine<ChainEvent>>, AllocError> {
-        match read_event(alloc, &tree)? {
-            Some(event) => Ok(Some(FormedLine {
-                kept: event,
-                worker: None,
-            })),
-            None => Ok(None),
+    ) -> Result<Option<FormedLine<EventLine>>, AllocError> {
+        if read_event(&tree).is_none() {
+            return Ok(None);
         }
+        Ok(Some(FormedLine {
+            kept: EventLine::new(alloc, text)?,
+            worker: None,
+        }))
     }
 }
 
@@ -75,42 +75,39 @@ fn header(tree: &Value) -> Option<Settings>
 }
 
 /// The event that a line's tree is, or none where it isn't one: its operation, or one of its members, hasn't its form.
-///
-/// # Errors
-/// `AllocError` where there is no memory for it.
-pub fn read_event(alloc: Global, tree: &Value) -> Result<Option<ChainEvent>, AllocError>
-    ensures { IfOk result (λ event. option_map seen event ≡ event_of (view tree.now)) }
+pub fn read_event(tree: &Value) -> Option<ChainEvent<'_>>
+    ensures { option_map seen result ≡ event_of (view tree.now) }
 {
     match word_at(tree, "op") {
-        Some(op) => event_by(alloc, op, tree),
-        None => Ok(None),
+        Some(op) => event_by(op, tree),
+        None => None,
     }
 }
 
 // The event of an operation.
-fn event_by(alloc: Global, op: &str, tree: &Value) -> Result<Option<ChainEvent>, AllocError>
-    ensures { IfOk result (λ event. option_map seen event ≡ event_by op.now (view tree.now)) }
+fn event_by<'a>(op: &str, tree: &'a Value) -> Option<ChainEvent<'a>>
+    ensures { option_map seen result ≡ event_by op.now (view tree.now) }
 {
     match op {
         "listener" => listener_event(tree),
-        "accept" => accept_event(alloc, tree),
-        "close" => Ok(close_event(tree)),
-        "drainTimeout" => Ok(bare_event(ChainEvent::DrainTimeout, tree)),
-        "reap" => Ok(bare_event(ChainEvent::Reap, tree)),
-        _ => Ok(None),
+        "accept" => accept_event(tree),
+        "close" => close_event(tree),
+        "drainTimeout" => bare_event(ChainEvent::DrainTimeout, tree),
+        "reap" => bare_event(ChainEvent::Reap, tree),
+        _ => None,
     }
 }
 
 // A `listener`: the listener comes in a version.
-fn listener_event(tree: &Value) -> Result<Option<ChainEvent>, AllocError>
-    ensures { IfOk result (λ event. option_map seen event ≡ listener_event (view tree.now)) }
+fn listener_event(tree: &Value) -> Option<ChainEvent<'_>>
+    ensures { option_map seen result ≡ listener_event (view tree.now) }
 {
     if !has_only(tree, &["op", "message"]) {
-        return Ok(None);
+        return None;
     }
     match message_in(tree) {
-        Some(message) => Ok(Some(ChainEvent::Listener(message.clone()?))),
-        None => Ok(None),
+        Some(message) => Some(ChainEvent::Listener(message)),
+        None => None,
     }
 }
 
@@ -127,38 +124,31 @@ fn message_in(tree: &Value) -> Option<&Value>
 }
 
 // An `accept`: a connection comes.
-fn accept_event(alloc: Global, tree: &Value) -> Result<Option<ChainEvent>, AllocError>
-    ensures { IfOk result (λ event. option_map seen event ≡ accept_event (view tree.now)) }
+fn accept_event(tree: &Value) -> Option<ChainEvent<'_>>
+    ensures { option_map seen result ≡ accept_event (view tree.now) }
 {
     if !has_only(tree, &["op", "conn", "port", "serverName"]) {
-        return Ok(None);
+        return None;
     }
-    let asked = asked_in(alloc, tree)?;
-    Ok(asked)
+    asked_in(tree)
 }
 
 // A connection's number, port and server.
-fn asked_in(alloc: Global, tree: &Value) -> Result<Option<ChainEvent>, AllocError>
-    ensures { IfOk result (λ event. option_map seen event ≡ asked_in (view tree.now)) }
+fn asked_in(tree: &Value) -> Option<ChainEvent<'_>>
+    ensures { option_map seen result ≡ asked_in (view tree.now) }
 {
-    let Some(conn) = number_at(tree, "conn", 0, MAX_NUMBER) else {
-        return Ok(None);
-    };
-    let Some(port) = number_at(tree, "port", 0, MAX_PORT_NUMBER) else {
-        return Ok(None);
-    };
-    let Some(server) = text_or(tree, "serverName", 0, MAX_NAME_LENGTH, "") else {
-        return Ok(None);
-    };
-    Ok(Some(ChainEvent::Accept {
+    let conn = number_at(tree, "conn", 0, MAX_NUMBER)?;
+    let port = number_at(tree, "port", 0, MAX_PORT_NUMBER)?;
+    let server = text_or(tree, "serverName", 0, MAX_NAME_LENGTH, "")?;
+    Some(ChainEvent::Accept {
         conn,
         port: port as u16,
-        server: Text::new(alloc, server)?,
-    }))
+        server,
+    })
 }
 
 // A `close`: a connection closes.
-fn close_event(tree: &Value) -> Option<ChainEvent>
+fn close_event(tree: &Value) -> Option<ChainEvent<'_>>
     ensures { option_map seen result ≡ close_event (view tree.now) }
 {
     if !has_only(tree, &["op", "conn"]) {
@@ -171,8 +161,8 @@ fn close_event(tree: &Value) -> Option<ChainEvent>
 }
 
 // An operation without members.
-fn bare_event(event: ChainEvent, tree: &Value) -> Option<ChainEvent>
-    ensures { option_map seen result ≡ bare_event (seen event) (view tree.now) }
+fn bare_event<'a>(event: ChainEvent<'a>, tree: &'a Value) -> Option<ChainEvent<'a>>
+    ensures { option_map seen result ≡ bare_event (seen event.entry) (view tree.now) }
 {
     if has_only(tree, &["op"]) {
         Some(event)

@@ -3,7 +3,7 @@ ghost use Rattle.ev_io.specs.Outside.{Rose};
 ghost use Rattle.ev_chain_lines.specs.Inputs.{MakesChains};
 
 use crate::events::ChainLines;
-use crate::texts::answer_events;
+use crate::texts::answer_lines;
 use ev_io::{Lines, ScriptFault, Source};
 use ev_script::{ReadLines, read_lines_with};
 use std::alloc::Global;
@@ -25,7 +25,7 @@ pub fn make_chains<S: Source>(alloc: Global, source: &mut S) -> Result<Vec<u8>, 
         return Err(ScriptFault::OutOfMemory);
     };
     match read_lines_with(alloc, &ChainLines, &mut lines, source) {
-        Ok(ReadLines { kept, .. }) => match answer_events(alloc, lines.keys(), kept.as_slice()) {
+        Ok(ReadLines { kept, .. }) => match answer_lines(alloc, lines.keys(), kept.as_slice()) {
             Ok(text) => Ok(text),
             Err(_) => Err(ScriptFault::OutOfMemory),
         },

@@ -5,11 +5,14 @@ ghost use Rattle.ev_journal.specs.Rendering.{end_tree, number_tree};
 ghost use Rattle.ev_listener_json.specs.Chains.{chains_of};
 ghost use Rattle.ev_chains.specs.Events.{seen};
 ghost use Rattle.ev_chains.specs.Steps.{Update, chain_step};
+ghost use Rattle.ev_chain_lines.specs.Lines.{event_told};
 ghost use Rattle.ev_chain_lines.specs.Texts.{answer_tree, line_tree, chains_text};
 
 use crate::answers::{
     accepted_value, changed_value, closed_value, drained_value, reaped_value, refused_value,
 };
+use crate::event_line::EventLine;
+use crate::events::read_event;
 use ev_chains::{ChainEvent, Chains};
 use ev_io::MAX_LINES;
 use ev_keys::Keys;
@@ -18,43 +21,55 @@ use ev_trees::push_line;
 use serde_json::{Value, json};
 use std::alloc::{AllocError, Global};
 
-/// The text that answers events: a line for each, and one with their number. They are the events of an input's lines after
-/// the first. Chains are found by tables of these keys.
+/// The text that answers the lines of an input after the first: a line for each event, and one with their number. Chains are found
+/// by tables of these keys.
 ///
 /// # Errors
 /// `AllocError` where there is no memory for it, or more than 2^32 - 1 chains would have to be numbered.
-pub fn answer_events(
-    alloc: Global,
-    keys: Keys,
-    events: &[ChainEvent],
-) -> Result<Vec<u8>, AllocError>
-    requires few { length events.now < MAX_LINES }
-    ensures text { IfOk result (λ text. text.items ≡ chains_text (map seen events.now)) }
+pub fn answer_lines(alloc: Global, keys: Keys, lines: &[EventLine]) -> Result<Vec<u8>, AllocError>
+    requires few { length lines.now < MAX_LINES }
+    ensures text { IfOk result (λ text. text.items ≡ chains_text (map event_told lines.now)) }
 {
     let mut chains = Chains::new(alloc, keys);
     let mut text = Vec::new(alloc);
-    for (place, event) in events.iter().enumerate() {
-        let answer = answer_event(alloc, &mut chains, event)?;
-        let line = line_value(alloc, place + 2, answer)?;
-        push_line(alloc, &mut text, &line)?;
+    for (place, line) in lines.iter().enumerate() {
+        let answer = answer_line(alloc, &mut chains, line)?;
+        let answered = line_value(alloc, place + 2, answer)?;
+        push_line(alloc, &mut text, &answered)?;
     }
-    push_line(alloc, &mut text, &end_value(alloc, events.len())?)?;
+    push_line(alloc, &mut text, &end_value(alloc, lines.len())?)?;
     Ok(text)
 }
 
-// The answer to an event, which changes the chains. Out of memory, nothing is said of them.
-fn answer_event(alloc: Global, chains: &mut Chains, event: &ChainEvent) -> Result<Value, AllocError>
-    ensures answer { IfOk result (λ v. view v ≡ answer_tree (chain_step chains.old (seen event.now)).1) }
-    ensures state { OnOk result (chains.new ≡ (chain_step chains.old (seen event.now)).0) }
+// The answer to a line's event, which changes the chains. Out of memory, nothing is said of them.
+fn answer_line(alloc: Global, chains: &mut Chains, line: &EventLine) -> Result<Value, AllocError>
+    ensures answer { IfOk result (λ v. view v ≡ answer_tree (chain_step chains.old (event_told line.now)).1) }
+    ensures state { OnOk result (chains.new ≡ (chain_step chains.old (event_told line.now)).0) }
+{
+    let tree = line.read(alloc)?;
+    match read_event(&tree) {
+        Some(event) => answer_event(alloc, chains, event),
+        None => unreachable!(),
+    }
+}
+
+// The answer to an event.
+fn answer_event(
+    alloc: Global,
+    chains: &mut Chains,
+    event: ChainEvent<'_>,
+) -> Result<Value, AllocError>
+    ensures answer { IfOk result (λ v. view v ≡ answer_tree (chain_step chains.old (seen event.entry)).1) }
+    ensures state { OnOk result (chains.new ≡ (chain_step chains.old (seen event.entry)).0) }
 {
     match event {
         ChainEvent::Listener(message) => answer_listener(alloc, chains, message),
         ChainEvent::Accept { conn, port, server } => {
-            let asked = chains.accept(alloc, *conn, server.as_str(), *port)?;
+            let asked = chains.accept(alloc, conn, server, port)?;
             let value = accepted_value(alloc, asked)?;
             Ok(value)
         }
-        ChainEvent::Close(conn) => closed_value(alloc, chains.close(*conn)),
+        ChainEvent::Close(conn) => closed_value(alloc, chains.close(conn)),
         ChainEvent::DrainTimeout => drained_value(alloc, chains.drain(alloc)?.as_slice()),
         ChainEvent::Reap => reaped_value(alloc, chains.reap(alloc)?.as_slice()),
     }

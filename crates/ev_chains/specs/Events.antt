@@ -6,8 +6,8 @@ use Rattle.ev_chains.specs.Steps.{Event, Update, Accept, Close, DrainTimeout, Re
 
 -- the event that is held
 abbrev pub seen : ChainEvent → Event
-seen (held.Listener message) = Update (view message)
-seen (held.Accept conn port server) = Accept conn port server
+seen (held.Listener message) = Update (view message.now)
+seen (held.Accept conn port server) = Accept conn port server.now
 seen (held.Close conn) = Close conn
 seen held.DrainTimeout = DrainTimeout
 seen held.Reap = Reap

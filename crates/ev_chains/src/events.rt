@@ -1,11 +1,10 @@
-use ev_types::Text;
 use serde_json::Value;
 
 /// What happens to a listener's filter chains.
-#[derive(Drop)]
-pub enum ChainEvent {
+#[derive(Clone, Copy)]
+pub enum ChainEvent<'a> {
     /// The listener in a version, as its message's tree.
-    Listener(Value),
+    Listener(&'a Value),
     /// A connection comes.
     Accept {
         /// Its number.
@@ -13,7 +12,7 @@ pub enum ChainEvent {
         /// The port that it comes to.
         port: u16,
         /// The server that it names, or the empty text.
-        server: Text,
+        server: &'a str,
     },
     /// A connection closes.
     Close(u64),

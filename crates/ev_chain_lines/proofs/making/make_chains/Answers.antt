@@ -1,6 +1,6 @@
 use Rattle.std.proofs.Common.{◌≡◌, ◌∙◌, Err, ap, map}
 use Rattle.ev_io.specs.declared.faults.ScriptFault.TheVariants.{Read}
-use Rattle.ev_chains.specs.Events.{seen}
+use Rattle.ev_chain_lines.specs.Lines.{event_told}
 use Rattle.ev_chain_lines.specs.Texts.{chains_text}
 use Rattle.ev_chain_lines.proofs.InputLemmas.{makes_text, makes_fault, makes_none, makes_nothing}
 use Rattle.ev_chain_lines.proofs.making.make_chains.Goals as goal
@@ -8,11 +8,11 @@ use Rattle.ev_chain_lines.proofs.making.make_chains.Goals as goal
 pub returns-in_default-clause-made : goal.returns-in_default-clause-made
 returns-in_default-clause-made g c = makes_nothing (g.S.Source.left c.args.source.now)
 
-pub returns-in-Ok-answer_events-clause-made : goal.returns-in-Ok-answer_events-clause-made
-returns-in-Ok-answer_events-clause-made g c =
-    makes_text (g.S.Source.left c.args.source.now) (g.S.Source.left c.read_lines_with.new.source) c.read_lines_with.new.lines c.in-Ok-read_lines_with.field-0 c.in-Ok-answer_events.text
+pub returns-in-Ok-answer_lines-clause-made : goal.returns-in-Ok-answer_lines-clause-made
+returns-in-Ok-answer_lines-clause-made g c =
+    makes_text (g.S.Source.left c.args.source.now) (g.S.Source.left c.read_lines_with.new.source) c.read_lines_with.new.lines c.in-Ok-read_lines_with.field-0 c.in-Ok-answer_lines.text
     c.in-Ok-read_lines_with.ensures.at_most c.in-Ok-read_lines_with.ensures.at_end c.in-Ok-read_lines_with.ensures.reads
-    (c.in-Ok-answer_events.ensures.text ∙ ap (λ events. chains_text (map seen events)) c.as_slice.ensures.value)
+    (c.in-Ok-answer_lines.ensures.text ∙ ap (λ lines. chains_text (map event_told lines)) c.as_slice.ensures.value)
 
 pub returns-in-Ok-read_lines_with-clause-made : goal.returns-in-Ok-read_lines_with-clause-made
 returns-in-Ok-read_lines_with-clause-made g c =
