@@ -10,7 +10,7 @@ ghost use Rattle.ev_expand.specs.Placing.{IsPlaced, placed_entries};
 ghost use Rattle.ev_tree.specs.Forms.{tree_of};
 
 use crate::editing::{with_value, without};
-use crate::expanding::Expansion;
+use crate::expansion::Expansion;
 use crate::following::{private_name, response_value};
 use crate::fronts::message_of;
 use crate::keys::Key;

@@ -11,6 +11,7 @@
 
 mod editing;
 mod expanding;
+mod expansion;
 mod following;
 mod fronts;
 mod guarding;
@@ -20,7 +21,8 @@ mod outcome;
 mod private;
 mod text_so_far;
 
-pub use expanding::{Expansion, expand_with};
+pub use expanding::expand_with;
+pub use expansion::Expansion;
 pub use following::Due;
 pub use fronts::message_of;
 pub use keys::Key;
