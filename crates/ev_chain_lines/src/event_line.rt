@@ -46,7 +46,8 @@ impl EventLine {
     /// # Errors
     /// `AllocError` where there is no memory for it.
     pub fn read(&self, alloc: Global) -> Result<Value, AllocError>
-        ensures { IfOk result (λ tree. event_of (view tree) ≡ Some (event_told self.now)) }
+        ensures tree { IfOk result (λ tree. view tree ≡ tree_told self.now) }
+        ensures event { IfOk result (λ tree. event_of (view tree) ≡ Some (event_told self.now)) }
     {
         self.line.read(alloc)
     }

@@ -4,12 +4,10 @@ use Rattle.std.specs.List.{flat_map}
 use Rattle.std.proofs.lemmas.List.{append-nil, map-append, take_more}
 use Rattle.std.proofs.lemmas.Grind.{flat_map-append}
 use Rattle.ev_types.specs.declared.events.Entry.{Entry}
-use Rattle.ev_script.specs.Members.{tree_told}
 use Rattle.ev_sotw_lines.specs.Searches.{with_before}
-use Rattle.ev_sotw_lines.specs.Lines.{version_in}
 use Rattle.ev_sotw_lines.proofs.SearchLemmas.{with_before_more}
 use Rattle.ev_sotw.specs.Stated.{Stated, sotw_line}
-use Rattle.ev_sotw.specs.Text.{stated_by, versions_in, lines_told}
+use Rattle.ev_sotw.specs.Text.{stated_by, lines_told}
 
 pub stated_more : (versions : List (List ℕ)) (journal : List Entry) (i : ℕ) (entry : Entry) → i < length journal → entry ≡ get_or journal i entry
     → map (stated_by versions) (take (i + 1) journal) ≡ map (stated_by versions) (take i journal) ++ stated_by versions entry ∷ []
@@ -32,12 +30,3 @@ pub lines_more : (first : List ℕ) (entries : List Stated) (stated : Stated) (t
 lines_more first entries stated text is =
     ap (λ xs. xs ++ sotw_line entries stated) is ∙ append_assoc first (lines_told entries) (sotw_line entries stated)
     ∙ ap (λ xs. first ++ xs) (sym (told_more entries stated))
-
--- the versions of a line more
-pub versions_more : (lines : List (List ℕ)) (i : ℕ) (line : List ℕ) → i < length lines → line ≡ get_or lines i line
-    → versions_in (map tree_told (take (i + 1) lines)) ≡ versions_in (map tree_told (take i lines)) ++ version_in (tree_told line) ∷ []
-versions_more lines i line within is =
-    ap (λ ls. versions_in (map tree_told ls)) (take_more lines i line within)
-    ∙ ap versions_in (map-append tree_told (take i lines) (get_or lines i line ∷ []))
-    ∙ map-append version_in (map tree_told (take i lines)) (tree_told (get_or lines i line) ∷ [])
-    ∙ ap (λ l. versions_in (map tree_told (take i lines)) ++ version_in (tree_told l) ∷ []) (sym is)

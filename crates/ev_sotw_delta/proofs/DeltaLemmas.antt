@@ -1,8 +1,7 @@
 -- What lines become, as they come one after another.
-use Rattle.std.proofs.Common.{◌≡◌, ◌∙◌, ℕ, ◌+◌, ◌<◌, List, [], ◌∷◌, ◌++◌, length, map, take, drop, get_or, sym, ap, append_assoc}
-use Rattle.std.proofs.lemmas.List.{map-append, append-nil, take_more, take-append-drop}
+use Rattle.std.proofs.Common.{◌≡◌, ◌∙◌, List, [], ◌∷◌, ◌++◌, map, sym, ap, append_assoc}
+use Rattle.std.proofs.lemmas.List.{map-append, append-nil}
 use Rattle.serde_json.specs.Data.{Data}
-use Rattle.ev_script.specs.Members.{tree_told}
 use Rattle.ev_tree.specs.Floats.{whole}
 use Rattle.ev_sotw_lines.specs.Searches.{with_before}
 use Rattle.ev_sotw_lines.specs.Deltas.{delta_of, deltas_of}
@@ -37,13 +36,3 @@ pub written_front : (head : Data) (lines more : List Data)
     → written_lines head (lines ++ more) ≡ written_lines head lines ++ map whole (map placed_delta (with_before lines more))
 written_front head lines more =
     ap (λ ds. map whole (head ∷ ds)) (deltas_front lines more) ∙ map-append whole (head ∷ deltas_of lines) (map placed_delta (with_before lines more))
-
--- the lines up to the next
-pub viewed_more : (values : List (List ℕ)) (i : ℕ) (value : List ℕ) → i < length values → value ≡ get_or values i value
-    → map tree_told (take (i + 1) values) ≡ map tree_told (take i values) ++ tree_told value ∷ []
-viewed_more values i value within is =
-    ap (map tree_told) (take_more values i value within) ∙ map-append tree_told (take i values) (get_or values i value ∷ [])
-    ∙ ap (λ v. map tree_told (take i values) ++ tree_told v ∷ []) (sym is)
-
-pub viewed_parts : (values : List (List ℕ)) (i : ℕ) → map tree_told values ≡ map tree_told (take i values) ++ map tree_told (drop i values)
-viewed_parts values i = ap (map tree_told) (sym (take-append-drop i values)) ∙ map-append tree_told (take i values) (drop i values)
