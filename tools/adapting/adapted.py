@@ -1,4 +1,4 @@
-"""Inputs as they come, made a script: what tools/adapt and tools/look share."""
+"""Inputs as they come, made a script: what tools/adapt, tools/look and tools/plan share."""
 from shared.shown import read_file, shown
 
 from .capture import Unreadable, documents, kind_of, text_of
@@ -9,7 +9,12 @@ SOURCES = ('auto', 'config-dump', 'delta', 'sotw', 'envoy-log')
 
 def adapted(chosen, report):
     """The lines of the script."""
-    maker = ScriptOf(chosen, report)
+    return taken(chosen, report).finish()
+
+
+def taken(chosen, report, keeps=False):
+    """What makes the script, with all inputs taken. With `keeps` it keeps its lines as they were read."""
+    maker = ScriptOf(chosen, report, keeps)
     for number, path in enumerate(chosen.input):
         before = maker.known
         for document in documents_of(path):
@@ -20,7 +25,7 @@ def adapted(chosen, report):
             raise Unreadable(f'{shown(path)} has no config dump, response, body, script or event')
     with maker.placing():
         maker.tell_state()
-    return maker.finish()
+    return maker
 
 
 def documents_of(path):

@@ -8,6 +8,7 @@ import zlib
 from shared.fields import DISCOVERY, WRONG, camel, enumeration
 from shared.json_text import NotJson, fraction
 from shared.progress import Progress
+from shared.statuses import Unreadable
 from shared.urls import KINDS
 
 BLANK = re.compile(r'[ \t\r\n\ufeff\x1e,]*')
@@ -16,10 +17,6 @@ LOG_LINE = re.compile(r'\[?\d{4}-\d\d-\d\d[ T]')
 REQUEST = ('response_nonce', 'resource_names', 'resource_names_subscribe', 'resource_names_unsubscribe', 'error_detail', 'initial_resource_versions')
 # The most that a gzip file may unpack to: four times the most of a script.
 MAX_UNPACKED = 268435456
-
-
-class Unreadable(Exception):
-    """The input can't be read: in words."""
 
 
 class Document:

@@ -1,24 +1,37 @@
-"""The script that is made, read by the rules of scripts before it is written."""
+"""The lines of a script that is made, read by the rules of scripts as they are written: each once."""
 from shared import script
-from shared.progress import Progress
+from shared.statuses import Unreadable
 from shared.whole import Whole
 
-from .capture import Unreadable
+
+class NoScript(Unreadable):
+    """A line that was made is none of a script: its place in the script and in the input, in words."""
 
 
-def check(lines, origins, is_whole):
-    """Unreadable where these lines are no script, with the place in the script and in the input. `origins` says of each line what it
-    was made of."""
-    reading = script.Reading()
-    reading.whole = Whole() if is_whole else None
-    progress = Progress('adapt', 'line', len(lines))
-    for number, text, fault in script.cut(b'\n'.join(lines) + b'\n'):
-        progress.at(number)
-        fault = fault or script.read_line(reading, number, text, False)
+class Checked:
+    """`reading` has what was read of the header, and with `keeps` of each line."""
+
+    def __init__(self, is_whole, keeps):
+        self.reading, self.keeps = script.Reading(), keeps
+        self.reading.whole = Whole() if is_whole else None
+
+    def head(self, data, origin):
+        """Reads the header. `origin` says what it was made of."""
+        self.refuse(script.read_line(self.reading, 1, data, False), origin)
+
+    def line(self, number, data):
+        """(the line, None), or (None, the fault)."""
+        _, _, fault = next(script.cut(data))
         if fault:
-            raise Unreadable(words_of(fault, origins[min(number, len(origins)) - 1]))
-        reading.lines.clear()
-    progress.end()
+            fault.line = number
+        fault = fault or script.read_line(self.reading, number, data, False)
+        if fault:
+            return None, fault
+        return self.reading.lines[-1] if self.keeps else self.reading.lines.pop(), None
+
+    def refuse(self, fault, origin):
+        if fault:
+            raise NoScript(words_of(fault, origin))
 
 
 def words_of(fault, origin):

@@ -1,5 +1,9 @@
 """An admin config dump, or bodies that stand alone, as messages: a state, told as the responses that would bring it about."""
+import hashlib
+import json
+
 from shared.fields import DISCOVERY, enumeration
+from shared.spelling import snake
 from shared.urls import URLS
 
 from .capture import Unreadable, get, statuses_in, text_in, type_of_body
@@ -57,7 +61,7 @@ class Dump:
         self.static, self.clusters, self.warming_clusters = [], [], []
         self.endpoints, self.routes, self.statuses, self.route_names = [], [], [], {''}
         self.draining, self.listeners, self.warming_listeners = [], [], []
-        self.failed = {kind: [] for kind in NAMES}
+        self.failed, self.static_listeners = {kind: [] for kind in NAMES}, []
 
     def joins(self, tree, source):
         """Whether a document is of this state: none of its parts came from another source. A second such part begins another state."""
@@ -91,7 +95,7 @@ class Dump:
         if name in readers:
             readers[name](part)
         else:
-            self.report.add('not-sent', name=name, before='a part of the dump that no response of the four types brings')
+            self.report.add('not-sent', name=name, before='a part of the dump that no response of the four types brings', after=digest(part))
 
     def bootstrap(self, part):
         self.node = text_in(get(get(part, 'bootstrap'), 'node'), 'id') or self.node
@@ -119,6 +123,7 @@ class Dump:
     def of_listeners(self, part):
         for _, body in entries(part, 'static_listeners', 'listener'):
             self.listeners.append(wrapped('lds', body, ''))
+            self.static_listeners.append(self.listeners[-1])
             self.give_name(self.listeners[-1])
         states = {'active_state': self.listeners, 'warming_state': self.warming_listeners, 'draining_state': self.draining}
         for entry in listed(part, 'dynamic_listeners'):
@@ -169,6 +174,10 @@ class Dump:
             else:
                 self.report.add('not-sent', 'eds', name, before='hosts of a cluster that doesn\'t ask for endpoints')
 
+    def fixed(self):
+        """(type, name) of what Envoy has from its bootstrap, which no control plane sends."""
+        return [('cds', resource['name']) for resource in self.static] + [('lds', resource['name']) for resource in self.static_listeners]
+
     def active_clusters(self):
         return [resource['name'] for resource in self.static + self.clusters]
 
@@ -201,6 +210,17 @@ def configs_of(tree):
     if isinstance(get(tree, 'bootstrap'), dict) and not text_in(tree, '@type'):
         return [{'@type': 'BootstrapConfigDump', **tree}]
     return listed(tree, 'configs') if 'configs' in tree else [tree]
+
+
+def digest(part):
+    """A text by which two parts of dumps are told apart, whatever their versions and times are."""
+    return hashlib.sha256(json.dumps(timeless(part), sort_keys=True).encode()).hexdigest()[:16]
+
+
+def timeless(tree):
+    if isinstance(tree, dict):
+        return {name: timeless(value) for name, value in tree.items() if snake(name) not in ('last_updated', 'version_info')}
+    return [timeless(one) for one in tree] if isinstance(tree, list) else tree
 
 
 def part_name(part):

@@ -3,6 +3,7 @@ import contextlib
 import copy
 import json
 
+from shared.probes import Probes
 from shared.profiles import ENVOY, OF_OPTIONS, OWN, USUAL
 from shared.resources import read_message
 from shared.script import ASK_OF_ENVOY, MAX_INPUT, MAX_LINE, MAX_LINES
@@ -12,10 +13,9 @@ from shared.words import counted
 
 from . import envoy_log
 from .capture import Unreadable, get, kind_of, list_in, text_in
-from .checked import check
+from .checked import Checked, NoScript
 from .dump import Dump, message_of, wrapped
 from .passed import passed_over
-from .probe import Probes
 from .project import PROJECTIONS, key_of, take_out
 from .whole_of import WholeOf
 
@@ -36,16 +36,23 @@ def kind_in(message):
     return KINDS.get(text_in(message, 'type_url'))
 
 
-class ScriptOf:
-    """`take` each document, then `finish`; `lines` are the script's, each bytes without its end."""
+def no_response(complaints):
+    return Unreadable('a message is no response: ' + '; '.join(f'{path} {words}' for path, words in complaints[:3]))
 
-    def __init__(self, chosen, report):
-        self.chosen, self.report = chosen, report
+
+class ScriptOf:
+    """`take` each document, then `finish`; `lines` are the script's, each bytes without its end. With `keeps` the `reading` of the script
+    has its lines as they were read. `came` are the types of which the input tells a state, and `fixed` the (type, name) of what Envoy has
+    from its bootstrap."""
+
+    def __init__(self, chosen, report, keeps=False):
+        self.chosen, self.report, self.checked = chosen, report, Checked(chosen.sotw, keeps)
+        self.reading, self.came, self.fixed = self.checked.reading, set(), set()
         self.profile, self.probes = OWN, Probes()
         self.go_by(OF_OPTIONS.get(chosen.profile, USUAL))
         self.whole = WholeOf(report) if chosen.sotw else None
         self.header, self.lines, self.size = {}, [], 0
-        self.place, self.origins, self.header_place = 'no input', [], 'the header'  # what a line is made of
+        self.place, self.header_place = 'no input', 'the header'  # what a line is made of
         self.state, self.documents = None, 0  # the state of the documents that came last
         self.open, self.nonces, self.known, self.last_full = False, 0, 0, {}
         self.clusters, self.hosts = {}, {}  # what clusters and endpoints were told to be; None of endpoints that broke a rule or timed out
@@ -64,6 +71,8 @@ class ScriptOf:
         self.place = place
         for key in document.repeated:
             self.report.add('repeated-key', member=key, before=f'stands twice in an object of {place}', after='the last of them')
+        if found in ('script', 'delta', 'sotw'):
+            self.came.add(kind_in(tree.get('message') if found == 'script' else tree))
         wanted = self.chosen.source
         if wanted in ('delta', 'sotw') and found in ('delta', 'sotw'):
             found = wanted
@@ -84,6 +93,8 @@ class ScriptOf:
         """What is wrong with the input in the block is told with its place."""
         try:
             yield
+        except NoScript:
+            raise
         except Unreadable as error:
             raise Unreadable(f'{self.place}: {error}') from None
         except RecursionError:
@@ -155,6 +166,8 @@ class ScriptOf:
         state, self.state = self.state, None
         self.named(state.node)
         state.finish()
+        self.came.update(state.came)
+        self.fixed.update(state.fixed())
         self.lacks_endpoints(state)
         failed = [(kind, resource) for kind in state.failed for resource in state.failed[kind]]
         kept = {(kind, resource['name']): copy.deepcopy(state.kept(kind, resource['name'])) for kind, resource in failed}
@@ -279,7 +292,7 @@ class ScriptOf:
         else:
             self.report.add('passed-over', name=text_in(message, 'type_url'), before='a response of a type that isn\'t read')
         if self.whole and kind:
-            self.look_at(message)
+            self.look_at(self.read_alone(message), self.resources(message))
             self.write_response(self.whole.response(kind, message, whole_version))
             return
         take_out(message, *[name for name in ('resources', 'removed_resources') if get(message, name) == []])
@@ -328,9 +341,13 @@ class ScriptOf:
                 raise Unreadable(f'a response has more than {MAX_LINE} bytes, the most of a line, and one of the state of the world can\'t be split')
             self.split(message, resources)
             return
+        line, fault = self.read(data)
+        if fault and fault.kind == 6:
+            raise no_response(fault.complaints)
+        self.checked.refuse(fault, self.place)
         if not self.whole:
-            self.look_at(message)
-        self.put(data)
+            self.look_at(line.response, resources)
+        self.keep(data)
 
     def split(self, message, resources):
         half = len(resources) // 2
@@ -343,15 +360,19 @@ class ScriptOf:
                 take_out(one, 'removed_resources')
             self.write_response(one)
 
-    def look_at(self, message):
-        """Notes what is refused or passed over in a response as it is written."""
+    def read_alone(self, message):
+        """An incremental response that isn't written as it is."""
         response, complaints = read_message(message, profile=self.profile)
         if response is None:
-            raise Unreadable('a message is no response: ' + '; '.join(f'{path} {words}' for path, words in complaints[:3]))
+            raise no_response(complaints)
+        return response
+
+    def look_at(self, response, resources):
+        """Notes what is refused or passed over in a response that was read."""
         if response.kind is None:
             return
         self.note(response)
-        for item, resource in zip(response.items, self.resources(message)):
+        for item, resource in zip(response.items, resources):
             if item.least:
                 self.report.refused(response.kind, item)
             for member, path in passed_over(resource.get('resource')).items():
@@ -374,9 +395,19 @@ class ScriptOf:
             self.report.add('made', before='a stream that was lost', after='connect')
         self.put(compact(operation))
 
+    def read(self, data):
+        """(the line that is written next, as it is read, or None, its fault)."""
+        if not self.lines:
+            self.checked.head(self.head(), self.header_place)
+        return self.checked.line(len(self.lines) + 2, data)
+
     def put(self, data):
+        _, fault = self.read(data)
+        self.checked.refuse(fault, self.place)
+        self.keep(data)
+
+    def keep(self, data):
         self.lines.append(data)
-        self.origins.append(self.place)
         self.size += len(data) + 1
         self.report.line = len(self.lines) + 2
         if len(self.lines) >= MAX_LINES or self.size > MAX_INPUT - 4096:
@@ -392,12 +423,10 @@ class ScriptOf:
                 self.report.add('unreached', 'lds', name, 'filter_chains', before=words)
             for operation in found:
                 self.put(compact(operation))
-        if self.chosen.workers:
-            self.header['workers'] = self.chosen.workers
-        if self.chosen.auto:
-            self.header['auto'] = True
-        if self.profile != OWN:
-            self.header['profile'] = self.profile
-        lines = [compact({'workers': 1, **self.header}), *self.lines]
-        check(lines, [self.header_place, *self.origins], self.chosen.sotw)
-        return lines
+        self.checked.head(self.head(), self.header_place)
+        return [self.head(), *self.lines]
+
+    def head(self):
+        """The header, as far as it is known."""
+        more = {'workers': self.chosen.workers, 'auto': self.chosen.auto, 'profile': self.profile}
+        return compact({'workers': 1, **self.header, **{name: value for name, value in more.items() if value}})

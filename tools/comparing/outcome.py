@@ -1,5 +1,6 @@
 """What a script came to by its journal: generations by name, refusals, what connections got, and what was sent and isn't read."""
 from shared.bodies import resources_of, sent
+from shared.changes import result_of
 from shared.envoy_waits import EnvoyWaits
 from shared.fields import Reader
 from shared.pair import NotTheJournal
@@ -55,7 +56,7 @@ class Outcome:
         elif row.op == 'accept' and row.answer != 'inUse':
             members = line.members
             ask = members['address'], members['port'], members['host'], members['path'], members['pick'], more_asked(members)
-            self.asks.setdefault(ask, []).append(self.result(row.answer))
+            self.asks.setdefault(ask, []).append(result_of(row.answer, self.names.get))
 
     def respond(self, line, answer, number):
         response = line.response
@@ -99,16 +100,6 @@ class Outcome:
         removed = Reader().any(line.members['message'], 'removed_resources', '')
         for name in removed if isinstance(removed, list) else []:
             self.unjudged.setdefault((of, name if isinstance(name, str) else ''), self.none_sent()).add({'removed': True})
-
-    def result(self, answer):
-        """What a connection got: (result, name of the cluster or status, host)."""
-        if not isinstance(answer, dict):
-            return answer, None, None
-        if answer['result'] == 'served':
-            return 'served', self.names.get(answer['cluster']), (answer['address'], answer['port'])
-        if answer['result'] == 'elsewhere':
-            return 'elsewhere', self.names.get(answer.get('cluster')), None
-        return answer['result'], answer.get('status'), None
 
     def live(self, key):
         """(generation that serves, generation that warms) of a cluster or listener now."""

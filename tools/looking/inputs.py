@@ -1,9 +1,9 @@
 """What tools/look is given: files as they are, and of a recording's folder its scripts, with what its clients refused."""
-import glob
 import os
 
-from adapting.capture import Unreadable, documents, get, text_in, text_of
-from shared.shown import quoted, read_file
+from adapting.capture import documents, get, text_in, text_of
+from shared.recordings import scripts_of
+from shared.shown import read_file
 from shared.urls import KINDS
 
 
@@ -11,16 +11,11 @@ def inputs_of(paths):
     """(files for adapt, files of requests) of paths. The requests of a recording are those of a client that was relayed."""
     files, requests = [], []
     for path in paths:
-        if not os.path.isdir(path):
-            files.append(path)
-            continue
-        found = sorted(glob.glob(f'{glob.escape(path)}/stream-[0-9][0-9][0-9].jsonl'))
-        requests += [name for name in (f'{one[:-len(".jsonl")]}.requests.jsonl' for one in found) if os.path.exists(name)]
-        alone = os.path.join(path, 'client.jsonl')
-        found += [alone] if os.path.exists(alone) else []
-        if not found:
-            raise Unreadable(f'{quoted(path, 200)} is no recording of tools/record: it has no client.jsonl and no stream-001.jsonl')
+        found = scripts_of(path)
         files += found
+        if os.path.isdir(path):
+            streams = [one for one in found if os.path.basename(one).startswith('stream-')]
+            requests += [name for name in (f'{one[:-len(".jsonl")]}.requests.jsonl' for one in streams) if os.path.exists(name)]
     return files, requests
 
 

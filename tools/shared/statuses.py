@@ -18,5 +18,9 @@ class WrongInput(Exception):
     """The input isn't what is read, in words: status INPUT."""
 
 
+class Unreadable(Exception):
+    """What a helper was given can't be read, or made a script: in words."""
+
+
 class CantWrite(OSError):
     """A write failed: status WRITE. Made of the errno and its words."""

@@ -2,18 +2,30 @@
 import ipaddress
 import itertools
 
-from shared.choices import NO, Ask, by_range, chain_for, condition_says, path_says
-from shared.fields import MAX_NAME, size
-from shared.routes import ELSEWHERE, PATHS, TEXT_TESTS
-from shared.script import MAX_LINES, MAX_PATH
-from shared.shown import quoted
-from shared.words import chains_of
+from .choices import NO, Ask, by_range, chain_for, condition_says, path_says
+from .fields import MAX_NAME, size
+from .routes import ELSEWHERE, PATHS, TEXT_TESTS
+from .script import MAX_LINES, MAX_PATH
+from .shown import quoted
+from .words import chains_of, clusters_of
 
 HOST = 'probe.invalid'
 VALUE, OTHER = 'probe', 'other'
 # How many values of one criterion of a filter chain are tried.
 MOST_TRIED = 4
 TAKEN = 'takes none of the connections that were tried'
+
+
+class Probe:
+    """A connection that is tried: what its accept asks for, the names of its listener and of the routes of its filter chain (None where it
+    has no such name), the words for that chain, and the clusters to which its route leads."""
+
+    def __init__(self, ask, listener, chain, clusters):
+        self.ask, self.listener, self.chain, self.routes, self.clusters = ask, listener, chain['label'], chain['serves'].get('rds'), clusters
+
+    def fits(self):
+        """Whether a line of a script may ask so."""
+        return (max(size(self.ask['host']), size(self.ask.get('serverName', ''))) <= MAX_NAME and size(self.ask['path']) <= MAX_PATH)
 
 
 class Probes:
@@ -38,15 +50,18 @@ class Probes:
 
     def lines(self, room):
         """At most `room` lines; the second result says whether more were wanted."""
-        asks = {repr(ask): ask for name in self.listeners for ask in self.asks(name, self.listeners[name])
-                if max(size(ask['host']), size(ask.get('serverName', ''))) <= MAX_NAME and size(ask['path']) <= MAX_PATH}
-        kept = list(asks.values())[:max(0, min(room, MAX_LINES) - 2)]
+        probes = self.all()
+        kept = probes[:max(0, min(room, MAX_LINES) - 2)]
         found = [{'op': 'publish'}, {'op': 'settle', 'worker': 0}]
-        found += [{'op': 'accept', 'worker': 0, 'conn': place, **ask} for place, ask in enumerate(kept, self.conn + 1)]
-        return found, len(kept) < len(asks)
+        found += [{'op': 'accept', 'worker': 0, 'conn': place, **probe.ask} for place, probe in enumerate(kept, self.conn + 1)]
+        return found, len(kept) < len(probes)
 
-    def asks(self, name, listener):
-        """Members of an accept, for each filter chain of a listener and each way on from there."""
+    def all(self):
+        """All connections to try, none of them twice."""
+        return list({repr(probe.ask): probe for name in self.listeners for probe in self.of_listener(name, self.listeners[name]) if probe.fits()}.values())
+
+    def of_listener(self, name, listener):
+        """A probe for each filter chain of a listener and each way on from there."""
         for chain in chains_of(listener):
             words = obstacle(chain['match'], listener)
             begun = None if words else begun_for(chain, listener)
@@ -54,23 +69,23 @@ class Probes:
                 self.unreached.append((name, f'{chain["label"]} {words or TAKEN}'))
                 continue
             asks = list(self.asks_of(chain['serves']))
-            for ask in asks:
-                yield {'address': begun['address'], 'port': begun['port'], **ask, **begun}
+            for ask, names in asks:
+                yield Probe({'address': begun['address'], 'port': begun['port'], **ask, **begun}, name, chain, names)
             for other in others_than(begun, chain['match'], listener):
-                yield {'address': other['address'], 'port': other['port'], **asks[0], **other}
+                yield Probe({'address': other['address'], 'port': other['port'], **asks[0][0], **other}, name, chain, asks[0][1])
 
     def asks_of(self, serves):
-        """Host, path and pick for each way of what a filter chain serves, with headers where a route asks for some."""
+        """(host, path and pick, with headers where a route asks for some; the clusters) for each way of what a filter chain serves."""
         if 'target' in serves:
-            yield from ({'host': '', 'path': '/', 'pick': pick} for pick in picks(serves['target']))
+            yield from (({'host': '', 'path': '/', 'pick': pick}, clusters_of(serves['target'])) for pick in picks(serves['target']))
             return
         table = self.routes.get(serves['rds'], ()) if serves.get('rds') else serves.get('routes') or ()
         if not table:
-            yield {'host': HOST, 'path': '/', 'pick': 0}
+            yield {'host': HOST, 'path': '/', 'pick': 0}, []
         for _, domains, routes in table:
             for place, domain in enumerate(domains):
-                for found in ways(routes if place == 0 else routes[:1]):
-                    yield {'host': host_of(domain), **found}
+                for found, names in ways(routes if place == 0 else routes[:1]):
+                    yield {'host': host_of(domain), **found}, names
 
 
 # The filter chain
@@ -150,9 +165,9 @@ def host_of(domain):
 
 
 def ways(routes):
-    """Path and pick for each route, and for each cluster that it gives a weight; headers where it asks for some."""
+    """(path and pick, with headers where it asks for some; the clusters) for each route, and for each cluster that it gives a weight."""
     if not routes:
-        yield {'path': '/', 'pick': 0}
+        yield {'path': '/', 'pick': 0}, []
     for match, actions, action in routes:
         way, *text = match[0] if match else ('prefix', None)
         path, headers = text[0] if way in PATHS and text[0] else '/', headers_for(way, match[1:])
@@ -160,7 +175,7 @@ def ways(routes):
         path = asked if match and path_says(match[0], asked.encode(), asked.encode().partition(b'?')[0], headers) != NO else path
         headers.pop(':authority', None)
         for pick in picks(action) if 'route' in actions else [0]:
-            yield {'path': path, 'pick': pick, **({'headers': headers} if headers else {})}
+            yield {'path': path, 'pick': pick, **({'headers': headers} if headers else {})}, clusters_of(action) if 'route' in actions else []
 
 
 def headers_for(way, conditions):
