@@ -13,6 +13,8 @@ PARTLY = {'health_checks', 'connect_timeout', 'redirect', 'initial_fetch_timeout
 MOST_LABEL, MOST_PATH = 60, 240
 # Members of a resource that aren't its body's, and that are told otherwise or not at all.
 OUTER = ('name', 'version', 'resource', MEMBER)
+# Members of a route's match that ask for a path.
+PATH_MATCHES = ('prefix', 'path', 'pathSeparatedPrefix')
 
 
 class Difference:
@@ -192,11 +194,28 @@ def first_of(labels, count):
 
 
 def label_of(part):
-    """What an element of a list is known by: its name, its address, its match; else nothing, and its place counts."""
+    """What an element of a list is known by: its name, its address, the path of its match; else nothing, and its place counts."""
     if not isinstance(part, dict):
         return ''
     name = part.get('name')
-    if isinstance(name, str) and name:
-        return name[:MOST_LABEL]
-    known = part.get('endpoint') or part.get('match')
-    return text_of(known)[:MOST_LABEL] if known else ''
+    found = name if isinstance(name, str) and name else address_of(part.get('endpoint')) or path_of(part.get('match'))
+    return found[:MOST_LABEL]
+
+
+def address_of(endpoint):
+    """The address of a host in a few letters."""
+    address = part_of(endpoint, 'address')
+    socket, pipe = part_of(address, 'socketAddress'), part_of(address, 'pipe')
+    return f'{socket.get("address")}:{socket.get("portValue", socket.get("namedPort"))}' if socket else str(pipe.get('path', '')) if pipe else ''
+
+
+def path_of(match):
+    """What a route's match asks of the path; empty where that is no text."""
+    found = [match[name] for name in PATH_MATCHES if isinstance(match.get(name), str)] if isinstance(match, dict) else []
+    return found[0] if found else ''
+
+
+def part_of(holder, name):
+    """A member that is an object; an empty one where it isn't there."""
+    found = holder.get(name) if isinstance(holder, dict) else None
+    return found if isinstance(found, dict) else {}

@@ -1,0 +1,151 @@
+"""Follows the journal of a push: what was said of each resource, what warmed, served and drained when, and what connections got."""
+import collections
+
+from shared.changes import result_of
+from shared.choices import Ask, chain_for, chain_words
+from shared.machine import Machine
+from shared.pair import Pair
+from shared.words import clusters_of, chains_of
+
+from .transition import KEEPER, OPEN, PROBE, PUSH, SERVE, TIMEOUTS
+
+# What a step said of a resource: its number, its type, what was read, the verdict, and the resource.
+Said = collections.namedtuple('Said', 'step kind item verdict resource')
+# What connections see at one time: by name the hosts of clusters that serve, and what they lack; the names of the clusters to which each
+# serving listener leads, by the type and name of what says so.
+Sight = collections.namedtuple('Sight', 'hosts lacks leads')
+
+
+class Journey:
+    """`generations` has all generations by number; those of `waiting` warmed before the push. `said` are the verdicts of the push and
+    `refused_today` those of what was there before. `results` has for each stage with probes what each of them got."""
+
+    def __init__(self, transition, journal):
+        self.transition, self.journal, reading = transition, journal, transition.reading()
+        pair = Pair('plan', reading, journal)
+        self.machine = Machine(reading.workers, pair.format, reading.profile)
+        self.generations, self.said, self.refused_today = {}, [], {}
+        self.opened, self.closed, self.moved, self.results = {}, [], [], {}
+        self.served_at, self.drained_at, self.hung, self.without = {}, {}, {}, {}
+        self.waiting, self.before, self.after, self.stage = {}, None, None, None
+        for entry in pair.entries():
+            self.take(entry)
+        self.enter(None)
+
+    def take(self, entry):
+        row, line = entry.row, entry.line
+        stage = self.transition.stage_of(row.at)
+        if stage != self.stage:
+            self.enter(stage)
+        if row.op == 'accept':
+            self.accept(stage, entry.worker, line.members['conn'], row.answer)
+        elif row.op == 'settle':
+            self.settle(entry.worker, row.answer)
+        elif row.op != 'close':
+            first = self.machine.next
+            self.machine.step(line, row.op, row.answer, entry.worker, row.at)
+            self.note(stage, first)
+            if row.op == 'response' and isinstance(row.answer, dict):
+                self.respond(stage, line, row.answer['verdicts'])
+
+    def enter(self, stage):
+        """A stage begins: what is to be seen before it is kept."""
+        before, self.stage = self.stage, stage
+        if stage and stage.name in (OPEN, PROBE, TIMEOUTS):
+            self.results[stage] = {}
+        if before and before.name == SERVE:
+            self.waiting = {row.number: self.machine.waits(row) for row in self.warming()}
+        if before and before.name == OPEN:
+            self.before = self.after = self.sight()
+        if before and before.name == PROBE:
+            self.after = self.sight()
+            self.hung = {row.number: self.machine.waits(row) for row in self.warming() if row.number not in self.waiting}
+        if before and before.name == TIMEOUTS:
+            self.without = {number: self.machine.without(self.generations[number]) for number in self.hung
+                            if self.generations[number].status == 'active'}
+
+    def warming(self):
+        return [row for row in self.machine.rows.values() if row.status == 'warming']
+
+    def note(self, stage, first):
+        """Keeps the generations that an entry made, and when one came to serve or to drain."""
+        for number in range(first, self.machine.next):
+            self.generations[number] = self.machine.rows[number]
+        for number in self.machine.changes:
+            status = self.generations[number].status
+            if status in ('active', 'draining'):
+                (self.served_at if status == 'active' else self.drained_at).setdefault(number, stage)
+
+    def respond(self, stage, line, verdicts):
+        resources = line.members['message'].get('resources') or []
+        for item, verdict, resource in zip(line.response.items, verdicts, resources):
+            said = Said(stage.step, line.response.kind, item, verdict, resource)
+            if stage.name == PUSH:
+                self.said.append(said)
+            elif verdict[0] == 'V':
+                self.refused_today[said.kind, item.name] = said
+            else:
+                self.refused_today.pop((said.kind, item.name), None)
+        if stage.name != PUSH:
+            for name in line.response.removed:
+                self.refused_today.pop((line.response.kind, name), None)
+
+    def accept(self, stage, worker, conn, answer):
+        self.results[stage][conn] = self.result(answer)
+        if worker == KEEPER and isinstance(answer, dict):
+            self.opened[conn] = answer
+
+    def settle(self, worker, answer):
+        if worker == KEEPER:
+            self.closed += answer['closed']
+            self.moved += answer.get('moved', [])
+
+    def result(self, answer):
+        """What a connection got, with its filter chain where the answer tells one."""
+        found = result_of(answer, lambda number: self.generations[number].name if number in self.generations else None)
+        if not isinstance(answer, dict) or 'chain' not in answer:
+            return found
+        content, place = self.generations[answer['listener']].content, answer['chain']
+        chain = content['default'] if place == 'default' else content['chains'][place]
+        return (*found, repr(chain['match']))
+
+    # What is to be seen
+
+    def sight(self):
+        serving = [self.machine.rows[number] for kind in ('cds', 'lds') for number in self.machine.active[kind]]
+        clusters = [row for row in serving if row.kind == 'cds']
+        hosts = {row.name: None if 'elsewhere' in row.content else row.shows() for row in clusters}
+        lacks = {row.name: self.machine.without(row) for row in clusters if row.lacking()}
+        leads = {}
+        for row in serving:
+            if row.kind == 'lds' and self.machine.phase == 'serving':
+                self.lead(row, leads)
+        return Sight(hosts, lacks, leads)
+
+    def lead(self, row, leads):
+        """Notes to which clusters a listener leads, by what says so."""
+        for chain in chains_of(row.content):
+            serves = chain['serves']
+            key = ('rds', serves['rds']) if serves.get('rds') else ('lds', row.name)
+            names = leads.setdefault(key, {})
+            if key[0] == 'rds' and names:
+                continue
+            if 'target' in serves:
+                names.update(dict.fromkeys(clusters_of(serves['target'])))
+            for _, _, routes in (row.tables.get(key, ()) if key[0] == 'rds' else serves.get('routes') or ()):
+                for _, actions, action in routes:
+                    if 'route' in actions:
+                        names.update(dict.fromkeys(clusters_of(action)))
+
+    def chain_of(self, conn):
+        """The words for the filter chain that an open connection came to."""
+        row, ask = self.generations[self.opened[conn]['listener']], self.transition.asks[conn - 1]
+        found, why = chain_for(row.content['chains'], row.content['default'], Ask({'host': '', 'path': '/', 'pick': 0, **ask}))
+        return chain_words(found) if found else why
+
+    def stages(self):
+        """The stages in which all connections were tried, in order; the first is that of today."""
+        return list(self.results)
+
+    def is_hung_for_ever(self, number):
+        return self.generations[number].status == 'warming'

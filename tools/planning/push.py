@@ -1,0 +1,120 @@
+"""What a control plane sends so that a proxy has what another input says: what differs, in responses a type, in an order."""
+from shared.machine import dependencies_of
+from shared.urls import URLS, WORDS
+
+# The order in which a control plane sends the types, as far as they are read.
+ORDER = tuple(kind for kind in ('cds', 'eds', 'sds', 'lds', 'rds', 'ecds') if kind in URLS)
+LISTENERS_FIRST = tuple(sorted(ORDER, key=lambda kind: kind in ('cds', 'eds', 'sds')))
+NEW, CHANGED, AGAIN = 'new', 'changed', 'again'
+# Types of which a resource comes only where a cluster or listener asks for it.
+ASKED_FOR = tuple(kind for kind in ORDER if kind not in ('cds', 'lds'))
+
+
+class Change:
+    """A name that is sent: `how` is new, changed, or again; `before` and `after` are what was held of it and what comes."""
+
+    def __init__(self, kind, name, how, before, after):
+        self.kind, self.name, self.how, self.before, self.after = kind, name, how, before, after
+
+    def asks(self):
+        """The (type, name) that it asks for and waits for."""
+        good = self.after.last[-1].item.content
+        return [key for key, _ in dependencies_of(self.kind, good)] if good is not None and self.kind in ('cds', 'lds') else []
+
+
+class Way:
+    """How a push is sent: the order of the types, whether clusters and endpoints are removed last, in responses of their own, and whether
+    endpoints that didn't change come again for the clusters that did."""
+
+    def __init__(self, order=ORDER, safe=False, again=True):
+        self.order, self.safe, self.again = order, safe, again
+
+    def words(self, other):
+        """What is otherwise in another way."""
+        parts = ['--order safe' if other.safe else f'--order {",".join(other.order)}'] if (self.order, self.safe) != (other.order, other.safe) else []
+        return ', '.join(parts + (['endpoints sent again' if other.again else 'endpoints not sent again'] if self.again != other.again else []))
+
+
+class Step:
+    """One response of a push: the changes that it sends, and the names that it removes."""
+
+    def __init__(self, kind, changes, removed):
+        self.kind, self.changes, self.removed = kind, changes, removed
+
+    def title(self):
+        counts = {how: sum(change.how == how for change in self.changes) for how in (NEW, CHANGED, AGAIN)}
+        parts = [f'{count} {"sent again" if how == AGAIN else how}' for how, count in counts.items() if count]
+        return f'{WORDS[self.kind]} ({", ".join(parts + [f"{len(self.removed)} removed"] * bool(self.removed))})'
+
+    def key(self):
+        """What tells two steps apart."""
+        return self.kind, tuple((change.name, change.how) for change in self.changes), tuple(self.removed)
+
+
+class Push:
+    """What differs between two states. `unasked`, `fixed` and `lacking` are what differs and isn't sent: resources that nothing asks for, those
+    of the bootstrap, and types of which the second input tells nothing, whose resources stay. `awaited` are the (type, name) that new and
+    changed clusters and listeners ask for."""
+
+    def __init__(self, current, following):
+        self.current, self.following = current, following
+        self.lacking = [kind for kind in ORDER if kind not in following.came and current.held[kind] and not following.held[kind]]
+        for kind in self.lacking:
+            following.held[kind] = current.held[kind]
+        self.changes, self.removed = {kind: [] for kind in ORDER}, {kind: [] for kind in ORDER}
+        self.unasked, self.fixed, self.same = [], [], {kind: 0 for kind in ORDER}
+        for kind in ('cds', 'lds'):
+            self.compare(kind)
+        self.awaited = dict.fromkeys(key for kind in ('cds', 'lds') for change in self.changes[kind] for key in change.asks())
+        for kind in ASKED_FOR:
+            self.compare(kind)
+
+    def compare(self, kind):
+        had, has = self.current.held[kind], self.following.held[kind]
+        for name, held in has.items():
+            self.look_at(kind, name, had.get(name), held)
+        for name in had:
+            if name not in has and self.is_sent(kind, name):
+                self.removed[kind].append(name)
+
+    def look_at(self, kind, name, before, held):
+        is_same = before is not None and before.equals(held)
+        is_known = kind in ('cds', 'lds') or (kind, name) in self.current.asked
+        if is_same and is_known:
+            self.same[kind] += 1
+            if kind == 'eds' and (kind, name) in self.awaited:
+                self.changes[kind].append(Change(kind, name, AGAIN, before, held))
+        elif kind in ASKED_FOR and (kind, name) not in self.following.asked:
+            self.same[kind] += is_same
+            self.unasked += [(kind, name)] * (not is_same)
+        elif self.is_sent(kind, name):
+            is_new = before is None or not is_known
+            self.changes[kind].append(Change(kind, name, NEW if is_new else CHANGED, before, held))
+
+    def is_sent(self, kind, name):
+        """Whether a control plane sends it; what the bootstrap has, and what nothing asks for, is noted or passed over."""
+        if (kind, name) in self.current.fixed | self.following.fixed:
+            self.fixed.append((kind, name))
+            return False
+        return kind in ('cds', 'lds') or (kind, name) in self.current.asked | self.following.asked
+
+    def is_empty(self):
+        return not any(self.removed.values()) and not any(change.how != AGAIN for changes in self.changes.values() for change in changes)
+
+    def touched(self):
+        """(type, name) of all that it changes or removes."""
+        return {(kind, change.name) for kind in ORDER for change in self.changes[kind] if change.how != AGAIN} | {
+            (kind, name) for kind in ORDER for name in self.removed[kind]}
+
+    def steps(self, way):
+        """The responses in their order."""
+        last = [kind for kind in ('cds', 'eds') if way.safe]
+        found = [Step(kind, [change for change in self.changes[kind] if change.how != AGAIN or way.again], [] if kind in last else self.removed[kind])
+                 for kind in way.order]
+        found += [Step(kind, [], self.removed[kind]) for kind in last]
+        return [step for step in found if step.changes or step.removed]
+
+    def versions(self):
+        """How many have another body with the version of today."""
+        return sum(change.how == CHANGED and change.before.same_version(change.after) and bool(change.after.last[-1].item.version)
+                   for changes in self.changes.values() for change in changes)

@@ -1,0 +1,123 @@
+"""What a proxy has by an input: of each type and name the resource that came last, and what adapt says of the rest."""
+import argparse
+import functools
+
+from adapting.adapted import taken
+from adapting.report import Report
+from shared.bodies import canonical, original, outer, resources_of, text_of
+from shared.machine import dependencies_of
+from shared.profiles import ENVOY
+from shared.recordings import scripts_of
+from shared.urls import URLS
+
+# How adapt is asked beside what is chosen.
+ASKED = {'source': 'auto', 'sotw': False, 'workers': None, 'auto': False, 'stable': False, 'probe': False}
+# Operations of a script that bring a proxy to where it is; connections, pictures and reaps are the plan's own.
+HISTORY = ('connect', 'response', 'disconnect', 'health', 'fetchTimeout', 'ttlExpired', 'drainTimeout')
+
+
+class Piece:
+    """A resource as it stands in a response, with what was read of it."""
+
+    def __init__(self, resource, item):
+        self.resource, self.item = resource, item
+
+    @functools.cached_property
+    def text(self):
+        """All that was sent but name and version, as it came: a text to compare."""
+        return text_of([outer(self.resource), canonical(original(self.resource))])
+
+
+class Held:
+    """What came of a name: `last` are the pieces of the response that had it last, more than one only where it stood there twice; `good` is
+    the last piece that breaks no rule of its own, or None."""
+
+    def __init__(self):
+        self.last, self.good = [], None
+
+    def take(self, pieces):
+        self.last = pieces
+        for piece in pieces:
+            if piece.item.content is not None:
+                self.good = piece
+
+    def equals(self, other):
+        """Whether another's last is what this one has, or had refused last."""
+        texts = [piece.text for piece in other.last]
+        return texts == [piece.text for piece in self.last] or self.good is not None and texts == [self.good.text]
+
+    def same_version(self, other):
+        return [piece.item.version for piece in self.last] == [piece.item.version for piece in other.last]
+
+
+class State:
+    """`held` has by type and name what is there at the end, `others` the resources of types that aren't read by (URL, name). `lines` are the
+    lines that bring it about, each with its bytes."""
+
+    def __init__(self, maker, report):
+        self.report, self.profile, self.node = report, maker.profile, maker.header.get('node')
+        self.came, self.fixed = maker.came - {None}, maker.fixed
+        self.held, self.others, self.is_open = {kind: {} for kind in URLS}, {}, False
+        self.lines = [(line, data) for line, data in zip(maker.reading.lines, maker.lines) if line.op in HISTORY]
+        for line, _ in self.lines:
+            self.take(line)
+
+    def take(self, line):
+        if line.op in ('connect', 'disconnect'):
+            self.is_open = line.op == 'connect'
+        elif line.op == 'response' and self.is_open:
+            self.respond(line)
+        elif line.op == 'ttlExpired':
+            held = self.held[line.members['type']]
+            if held.get(line.members['name']) and held[line.members['name']].last[-1].item.ttl:
+                del held[line.members['name']]
+
+    def respond(self, line):
+        response, found = line.response, {}
+        if response.kind is None:
+            self.others.update(((response.url or '', name_of(resource)), resource) for resource in resources_of(line))
+            return
+        for item, resource in zip(response.items, resources_of(line)):
+            if not item.beat:
+                found.setdefault(item.name, []).append(Piece(resource, item))
+        held, beats = self.held[response.kind], {item.name for item in response.items}
+        for name in response.removed:
+            if name not in beats:
+                held.pop(name, None)
+        for name, pieces in found.items():
+            held.setdefault(name, Held()).take(pieces)
+
+    def good(self, kind):
+        """(name, what it contains) of each that breaks no rule of its own."""
+        return ((name, held.good.item.content) for name, held in self.held[kind].items() if held.good)
+
+    @functools.cached_property
+    def asked(self):
+        """(type, name) of the resources that its clusters and listeners ask for."""
+        return {key for kind in ('cds', 'lds') for _, content in self.good(kind) for key, _ in dependencies_of(kind, content)}
+
+    def not_sent(self):
+        """By name what was told of parts that no response brings."""
+        return {line['name']: line['after'] for line in self.report.lines if line['action'] == 'not-sent' and line['type'] is None and line['name']}
+
+
+def name_of(resource):
+    name = resource.get('name') if isinstance(resource, dict) else None
+    return name if isinstance(name, str) else ''
+
+
+def state_of(path, chosen, profile):
+    """The state of an input; `profile` is the option that asks for one, or None."""
+    report = Report()
+    how = argparse.Namespace(input=scripts_of(path), project=chosen.project, profile=profile, no_endpoints=chosen.no_endpoints, **ASKED)
+    maker = taken(how, report, keeps=True)
+    maker.finish()
+    return State(maker, report)
+
+
+def states_of(current, following, chosen):
+    """The states of both inputs, by one profile: that which is asked for, and else `envoy` where one of them has it."""
+    found = [state_of(path, chosen, chosen.profile) for path in (current, following)]
+    if len({state.profile for state in found}) == 1:
+        return found
+    return [state if state.profile == ENVOY else state_of(path, chosen, '--envoy-profile') for state, path in zip(found, (current, following))]
