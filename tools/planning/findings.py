@@ -95,8 +95,7 @@ class Findings:
             yield Finding(TODAY, said.kind, said.item.name, f'is refused {words}', details)
         for number, waits in self.journey.waiting.items():
             row = self.journey.generations[number]
-            if row.status == 'warming':
-                yield Finding(TODAY, row.kind, row.name, 'warms', [f'{quoted(row.name)} waits for {few(waits)}'], generation=number)
+            yield Finding(TODAY, row.kind, row.name, 'warms', [f'{quoted(row.name)} waits for {few(waits)}'], generation=number)
 
     # Generations
 
@@ -382,8 +381,9 @@ def unjudged(push, paths, probes):
         yield Finding(UNJUDGED, 'input', None, f'the second input has no {WORDS[kind]}: those of the first stay')
     yield from parts(push.current, push.following)
     yield from stand_ins(push)
-    for name, words in probes.unreached:
-        yield Finding(UNJUDGED, 'lds', name, 'has filter chains to which no connection of a script comes', [words])
+    if probes.unreached:
+        words = f'{counted(len(probes.unreached), "filter chain")} to which no connection of a script comes, as of {quoted(probes.unreached[0][0], 100)}'
+        yield Finding(UNJUDGED, 'input', None, words, [f'{quoted(name, 100)}: {why}' for name, why in probes.unreached])
     if probes.left:
         yield Finding(UNJUDGED, 'input', None, f'{counted(probes.left, "connection")} over the limit of {len(probes.asks)}')
     if push.versions():

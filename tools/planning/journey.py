@@ -2,7 +2,7 @@
 import collections
 
 from shared.changes import result_of
-from shared.choices import Ask, chain_for, chain_words
+from shared.choices import Ask, chain_for
 from shared.machine import Machine
 from shared.pair import Pair
 from shared.words import clusters_of, chains_of
@@ -17,7 +17,8 @@ Sight = collections.namedtuple('Sight', 'hosts lacks leads')
 
 
 class Journey:
-    """`generations` has all generations by number; those of `waiting` warmed before the push. `said` are the verdicts of the push and
+    """`generations` has all generations by number; those of `waiting` warmed before the push
+    and after it, those of `hung` after it alone. `said` are the verdicts of the push and
     `refused_today` those of what was there before. `results` has for each stage with probes what each of them got."""
 
     def __init__(self, transition, journal):
@@ -59,7 +60,9 @@ class Journey:
             self.before = self.after = self.sight()
         if before and before.name == PROBE:
             self.after = self.sight()
-            self.hung = {row.number: self.machine.waits(row) for row in self.warming() if row.number not in self.waiting}
+            warming = {row.number: self.machine.waits(row) for row in self.warming()}
+            self.hung = {number: waits for number, waits in warming.items() if number not in self.waiting}
+            self.waiting = {number: waits for number, waits in self.waiting.items() if number in warming}
         if before and before.name == TIMEOUTS:
             self.without = {number: self.machine.without(self.generations[number]) for number in self.hung
                             if self.generations[number].status == 'active'}
@@ -141,7 +144,7 @@ class Journey:
         """The words for the filter chain that an open connection came to."""
         row, ask = self.generations[self.opened[conn]['listener']], self.transition.asks[conn - 1]
         found, why = chain_for(row.content['chains'], row.content['default'], Ask({'host': '', 'path': '/', 'pick': 0, **ask}))
-        return chain_words(found) if found else why
+        return str(found['label']) if found else why
 
     def stages(self):
         """The stages in which all connections were tried, in order; the first is that of today."""

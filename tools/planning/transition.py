@@ -77,6 +77,15 @@ class Transition:
         stages = self.lines.stages
         return stages[min(at - 2, len(stages) - 1)]
 
+    def marks(self):
+        """(line, words) of the first line of each response of the push, of the timeouts and of the drain times."""
+        found = {}
+        for line, stage in zip(self.lines.lines, self.lines.stages):
+            if line.op in ('response', 'fetchTimeout', 'drainTimeout') and stage.name in (PUSH, TIMEOUTS, DRAIN):
+                found.setdefault(stage, line.at)
+        return [(at, f'{stage.step} {self.steps[stage.step - 1].title()}' if stage.name == PUSH else 'fetch timeouts' if stage.name == TIMEOUTS else 'drain times')
+                for stage, at in found.items()]
+
     # The push
 
     def respond(self, number, step):

@@ -10,6 +10,7 @@ from .cards import CLASSES, TAG_WORDS, cards
 
 FOLDER = os.path.dirname(os.path.realpath(__file__))
 MANY_LINES = 1000
+MARKED = 'stroke:var(--red);stroke-dasharray:4 3'
 MOST_WORDS = 6
 MANY_QUIET = 40
 MOST_FOLDED = 500
@@ -99,6 +100,7 @@ def zooms(view):
 
 def grid(view):
     lines = ''.join(f'<line x1="{x:g}%" x2="{x:g}%" y1="0" y2="100%"/>' for x in map(view.percent, rows.ticks(view)))
+    lines += ''.join(f'<line style="{MARKED}" x1="{x:g}%" x2="{x:g}%" y1="0" y2="100%"/>' for x in (view.percent(at) for at, _ in view.marks if view.at(at)))
     return f'<svg class="grid" aria-hidden="true">{lines}</svg>'
 
 

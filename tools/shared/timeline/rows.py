@@ -46,6 +46,13 @@ def axis(view):
     return Row('', 'line of the script', [], marks + write(98.8, 12, end, end=True), 20, style='axis')
 
 
+def mark_rows(view):
+    """The words of the lines that are drawn across all rows, one below the other; no row where there is none."""
+    found = [(x, words) for x, words in view.marks if view.at(x)]
+    parts = [write(view.percent(x), 11 + 13 * place, words, 'red', view.percent(x) > 70) for place, (x, words) in enumerate(found)]
+    return [Row('', 'push', [counted(len(found), 'response')], ''.join(parts), 16 + 13 * len(found))] if found else []
+
+
 def stream(view):
     history, parts = view.history, []
     open_at = [span for span in history.streams if view.overlaps(*span)]
@@ -138,7 +145,7 @@ def head_rows(view):
     """(rows that stand above the names, rows of more workers)."""
     workers = [worker_row(view, holding) for holding in holdings(view)]
     shown_workers = sorted(workers[:MOST_WORKERS_OPEN], key=lambda row: row.name)
-    rows = [stream(view), picture_row(view)] + ([lost_row(view)] if view.lost() else []) + shown_workers
+    rows = mark_rows(view) + [stream(view), picture_row(view)] + ([lost_row(view)] if view.lost() else []) + shown_workers
     return rows, workers[MOST_WORKERS_OPEN:]
 
 

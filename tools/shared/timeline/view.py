@@ -1,4 +1,5 @@
-"""What of a history is shown: the lines and names that were chosen, and in which order the names stand."""
+"""What of a history is shown: the lines and names that were chosen, and in which order the names stand. `marks` are (line, words) of places
+that are drawn as lines across all rows."""
 import fnmatch
 
 RANKS = 5
@@ -14,8 +15,8 @@ def number_of(x):
 class View:
     """`first` and `after` bound the axis; `only` is a pattern of names."""
 
-    def __init__(self, history, first=None, last=None, only=None):
-        self.history, self.only = history, only
+    def __init__(self, history, first=None, last=None, only=None, marks=()):
+        self.history, self.only, self.marks = history, only, list(marks)
         self.first = max(1, first or 1)
         self.after = min(history.end, last + 1) if last is not None else history.end
         self.after = max(self.after, self.first + 1)
