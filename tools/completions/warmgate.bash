@@ -23,7 +23,7 @@ _warmgate_helper() {
 }
 
 complete -o filenames -F _warmgate warmgate ./warmgate
-for _warmgate_name in adapt diff explain look record tally timeline why; do
+for _warmgate_name in adapt diff explain look plan record tally timeline why; do
     complete -o filenames -F _warmgate_helper "warmgate-$_warmgate_name" "tools/$_warmgate_name"
 done
 unset _warmgate_name

@@ -30,7 +30,7 @@ PLACE = re.compile(r'\[[^\]]*\]')
 class Finding:
     """`words` say it of its name; findings of one class, type and words are told as one. `details` are lines beside it, `paths` the places that
     differ, `connections` how many open connections it concerns, `probes` the numbers of those that show it, `step` that of its response. `answer`
-    is what the probes get, where it is of answers."""
+    is what it says without its time, where it is of answers, or of what holds between two responses."""
 
     def __init__(self, kind, of, name, words, details=(), paths=(), generation=None, connections=None, probes=(), step=None, answer=None):
         self.kind, self.of, self.name, self.words, self.details, self.answer = kind, of, name, words, list(details), answer
@@ -46,7 +46,9 @@ class Finding:
 
     def keys(self):
         """What tells it from those of another way to push: each of its probes by itself."""
-        return [(self.kind, self.answer, place) for place in self.probes] if self.answer else [(self.kind, self.of, self.name, self.words)]
+        if self.answer and self.probes:
+            return [(self.kind, self.answer, place) for place in self.probes]
+        return [(self.kind, self.of, self.name, self.answer or self.words)]
 
 
 def placeless(path):
@@ -68,7 +70,7 @@ class Findings:
         self.journey, self.push, self.paths = journey, journey.transition.push, paths
         self.stages = journey.stages()
         self.count = len(journey.transition.asks)
-        parts = (self.refused, self.hangs, self.drains, self.nowhere, self.without, self.answers, self.between, self.hosts, self.anew, self.values, self.today)
+        parts = (self.refused, self.hangs, self.drains, self.nowhere, self.without, self.answers, self.between, self.between_unseen, self.hosts, self.anew, self.values, self.today)
         self.found = [finding for part in parts for finding in part()] if journey.transition.steps else list(self.today())
 
     def step_words(self, number):
@@ -217,15 +219,13 @@ class Findings:
 
     def nowhere(self):
         """Routes that name a cluster that isn't there, and didn't before."""
-        before, after = self.journey.before, self.journey.after
-        for (kind, name), names in after.leads.items():
-            for cluster in names:
-                had = cluster in before.leads.get((kind, name), ()) and cluster not in before.hosts
-                if cluster not in after.hosts and not had:
-                    why = 'it is removed' if cluster in self.push.removed['cds'] else 'it is refused, warms or never came'
-                    places = list(places_of(self.push.following, kind, name, cluster))
-                    yield Finding(NOWHERE, kind, name, f'lead to cluster {quoted(cluster)}, which isn\'t there: {why}' if kind == 'rds'
-                                  else f'leads to cluster {quoted(cluster)}, which isn\'t there: {why}', [f'at {few(places, 2)}'] if places else [])
+        before = set(missing(self.journey.before))
+        for (kind, name), cluster in missing(self.journey.after):
+            if ((kind, name), cluster) not in before:
+                why = 'it is removed' if cluster in self.push.removed['cds'] else 'it is refused, warms or never came'
+                places = list(places_of(self.push.following, kind, name, cluster))
+                words = f'{leads(kind)} to cluster {quoted(cluster)}, which isn\'t there: {why}'
+                yield Finding(NOWHERE, kind, name, words, [f'at {few(places, 2)}'] if places else [])
 
     def without(self):
         before, after = self.journey.before, self.journey.after
@@ -282,6 +282,18 @@ class Findings:
             words = f'{self.step_words(begun)} and {self.step_words(ended)}: {len(places)} of {self.count}: {answer}'
             yield Finding(BETWEEN, 'connection', None, words, self.asked(places), probes=places, step=begun, answer=answer)
 
+    def between_unseen(self):
+        """Routes that lead to a cluster that isn't there between two responses alone, where no probe shows that."""
+        steps = [stage for stage in self.stages if stage.name == PROBE]
+        found, ends = collections.defaultdict(list), {*missing(self.journey.before), *missing(self.journey.after)}
+        for stage in steps[:-1]:
+            if not any(result[0] == 'noCluster' for result in self.journey.results[stage].values()):
+                for key, cluster in set(missing(self.journey.sights[stage])) - ends:
+                    found[key, cluster].append(stage.step)
+        for ((kind, name), cluster), at in sorted(found.items()):
+            words = f'{leads(kind)} to cluster {quoted(cluster)}, which isn\'t there'
+            yield Finding(BETWEEN, kind, name, f'{words}, between {self.step_words(at[0])} and {self.step_words(at[-1] + 1)}', step=at[0], answer=words)
+
     def asked(self, places):
         return [ask_words(self.journey.transition.asks[place - 1]) for place in places]
 
@@ -305,6 +317,16 @@ def refusal(said):
     details = [f'{spelled(said.resource, path.split("].", 1)[-1])} {words}' for path, words in complaints[:2]]
     whose = {rules.ENVOY: 'Envoy too', rules.PROFILE: 'here alone'}.get(item.whose(said.kind, said.verdict), 'not known whether by Envoy')
     return f'by {said.verdict} ({whose}): {words}', details
+
+
+def missing(sight):
+    """((type, name), cluster) of each cluster to which something leads and that isn't there."""
+    return [(key, cluster) for key, names in sight.leads.items() for cluster in names if cluster not in sight.hosts]
+
+
+def leads(kind):
+    """`leads` or `lead`, as it is of a listener or of routes."""
+    return 'leads' if kind == 'lds' else 'lead'
 
 
 def without_host(result):

@@ -28,7 +28,7 @@ class Journey:
         self.generations, self.said, self.refused_today = {}, [], {}
         self.opened, self.closed, self.moved, self.results = {}, [], [], {}
         self.served_at, self.drained_at, self.hung, self.without = {}, {}, {}, {}
-        self.waiting, self.before, self.after, self.stage = {}, None, None, None
+        self.waiting, self.before, self.after, self.sights, self.stage = {}, None, None, {}, None
         for entry in pair.entries():
             self.take(entry)
         self.enter(None)
@@ -59,7 +59,7 @@ class Journey:
         if before and before.name == OPEN:
             self.before = self.after = self.sight()
         if before and before.name == PROBE:
-            self.after = self.sight()
+            self.after = self.sights[before] = self.sight()
             warming = {row.number: self.machine.waits(row) for row in self.warming()}
             self.hung = {number: waits for number, waits in warming.items() if number not in self.waiting}
             self.waiting = {number: waits for number, waits in self.waiting.items() if number in warming}

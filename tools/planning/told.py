@@ -40,7 +40,8 @@ class Teller:
         for kind in CLASSES:
             self.groups(kind, [finding for finding in plan.findings if finding.kind == kind], plan)
         for other in plan.others:
-            self.other(other)
+            if other.more or any(finding.kind != BETWEEN for finding in other.less):
+                self.other(other)
         self.head('same', same_words(plan))
 
     def groups(self, kind, findings, plan):

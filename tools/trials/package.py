@@ -116,7 +116,7 @@ def commands_of_pages(check, folder, package):
 
 # The Debian package
 
-HELPERS = ('adapt', 'diff', 'explain', 'look', 'record', 'tally', 'timeline', 'why')
+HELPERS = ('adapt', 'diff', 'explain', 'look', 'plan', 'record', 'tally', 'timeline', 'why')
 
 
 def made_deb(check, module, folder, program):
