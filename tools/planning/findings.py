@@ -378,7 +378,8 @@ class Paths:
         if key not in self.known:
             change = self.changes.get(key)
             before = change and (change.before.good or change.before.last[-1])
-            self.known[key] = list(differences(kind, before.resource, change.after.last[-1].resource, True, self.profile)) if change else []
+            after = change and (change.pieces or change.further)[-1]
+            self.known[key] = list(differences(kind, before.resource, after.resource, True, self.profile)) if change else []
         return self.known[key]
 
     def unread(self):
@@ -402,6 +403,10 @@ def unjudged(push, paths, probes):
     for kind in push.lacking:
         yield Finding(UNJUDGED, 'input', None, f'the second input has no {WORDS[kind]}: those of the first stay')
     yield from parts(push.current, push.following)
+    sent = {(kind, change.name) for kind in ORDER for change in push.changes[kind] if change.further}
+    for kind, name, words in push.following.nacks():
+        if (kind, name, words) not in push.current.nacks() and (kind, name) not in sent:
+            yield Finding(UNJUDGED, kind or 'input', name, 'Envoy refused it, and no rule here does', [quoted(words, 300)])
     yield from stand_ins(push)
     if probes.unreached:
         words = f'{counted(len(probes.unreached), "filter chain")} to which no connection of a script comes, as of {quoted(probes.unreached[0][0], 100)}'

@@ -35,7 +35,7 @@ class Plan:
         self.chosen, self.program = chosen, program
         states = states_of(current, following, chosen)
         self.push = Push(*states)
-        most = chosen.probes
+        most = self.push.room(chosen.probes)
         self.connections = (connections.of_script(chosen.connections, states[0].profile, most) if chosen.connections
                             else connections.of_states(*states, self.push, most))
         self.opened, self.paths = Opened(states[0], self.connections.asks), Paths(self.push)

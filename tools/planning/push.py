@@ -1,25 +1,29 @@
 """What a control plane sends so that a proxy has what another input says: what differs, in responses a type, in an order."""
 from shared.machine import dependencies_of
+from shared.script import MAX_LINES
 from shared.urls import URLS, WORDS
 
 # The order in which a control plane sends the types, as far as they are read.
 ORDER = tuple(kind for kind in ('cds', 'eds', 'sds', 'lds', 'rds', 'ecds') if kind in URLS)
 LISTENERS_FIRST = tuple(sorted(ORDER, key=lambda kind: kind in ('cds', 'eds', 'sds')))
 NEW, CHANGED, AGAIN = 'new', 'changed', 'again'
+# The most lines that a push has beside its resources and connections: publications, settles, and parts of responses.
+LINES_OF_STEPS = 1000
 # Types of which a resource comes only where a cluster or listener asks for it.
 ASKED_FOR = tuple(kind for kind in ORDER if kind not in ('cds', 'lds'))
 
 
 class Change:
-    """A name that is sent: `how` is new, changed, or again; `before` and `after` are what was held of it and what comes."""
+    """A name that is sent: `how` is new, changed, or again; `before` and `after` are what was held of it and what comes. `pieces` are sent, and
+    `further` ones in a response after them."""
 
-    def __init__(self, kind, name, how, before, after):
-        self.kind, self.name, self.how, self.before, self.after = kind, name, how, before, after
+    def __init__(self, kind, name, how, before, after, pieces, further=()):
+        self.kind, self.name, self.how, self.before, self.after, self.pieces, self.further = kind, name, how, before, after, pieces, list(further)
 
     def asks(self):
         """The (type, name) that it asks for and waits for."""
-        good = self.after.last[-1].item.content
-        return [key for key, _ in dependencies_of(self.kind, good)] if good is not None and self.kind in ('cds', 'lds') else []
+        contents = [piece.item.content for piece in self.pieces if piece.item.content is not None] if self.kind in ('cds', 'lds') else []
+        return [key for content in contents for key, _ in dependencies_of(self.kind, content)]
 
 
 class Way:
@@ -78,18 +82,19 @@ class Push:
                 self.removed[kind].append(name)
 
     def look_at(self, kind, name, before, held):
-        is_same = before is not None and before.equals(held)
+        pieces, further = held.sent_onto(before)
+        is_same = not pieces and not further
         is_known = kind in ('cds', 'lds') or (kind, name) in self.current.asked
         if is_same and is_known:
             self.same[kind] += 1
             if kind == 'eds' and (kind, name) in self.awaited:
-                self.changes[kind].append(Change(kind, name, AGAIN, before, held))
+                self.changes[kind].append(Change(kind, name, AGAIN, before, held, held.last))
         elif kind in ASKED_FOR and (kind, name) not in self.following.asked:
             self.same[kind] += is_same
             self.unasked += [(kind, name)] * (not is_same)
         elif self.is_sent(kind, name):
             is_new = before is None or not is_known
-            self.changes[kind].append(Change(kind, name, NEW if is_new else CHANGED, before, held))
+            self.changes[kind].append(Change(kind, name, NEW if is_new else CHANGED, before, held, held.last if is_same else pieces, further))
 
     def is_sent(self, kind, name):
         """Whether a control plane sends it; what the bootstrap has, and what nothing asks for, is noted or passed over."""
@@ -105,6 +110,22 @@ class Push:
         """(type, name) of all that it changes or removes."""
         return {(kind, change.name) for kind in ORDER for change in self.changes[kind] if change.how != AGAIN} | {
             (kind, name) for kind in ORDER for name in self.removed[kind]}
+
+    def checked_hosts(self):
+        """(cluster, host) of the health checked clusters that are new or changed, or whose endpoints are."""
+        changed = {(kind, change.name) for kind in ('cds', 'eds') for change in self.changes[kind]}
+        endpoints = dict(self.following.good('eds'))
+        for name, content in self.following.good('cds'):
+            asked = content.get('eds')
+            if content.get('checked') and (('cds', name) in changed or ('eds', asked) in changed):
+                rows = endpoints.get(asked, ()) if asked else content.get('rows', ())
+                yield from ((name, host) for host in dict.fromkeys(host for host, *_ in rows))
+
+    def room(self, most):
+        """How many connections a script has room for beside the push, at most so many."""
+        others = len(self.current.lines) + sum(1 for _ in self.checked_hosts()) + len(self.awaited) + len(self.changes['lds']) + len(self.removed['lds'])
+        steps = len(ORDER) + 2
+        return max(0, min(most, (MAX_LINES - others - LINES_OF_STEPS) // (1 + 2 * (steps + 1))))
 
     def steps(self, way):
         """The responses in their order."""

@@ -41,10 +41,14 @@ class Held:
             if piece.item.content is not None:
                 self.good = piece
 
-    def equals(self, other):
-        """Whether another's last is what this one has, or had refused last."""
-        texts = [piece.text for piece in other.last]
-        return texts == [piece.text for piece in self.last] or self.good is not None and texts == [self.good.text]
+    def sent_onto(self, before):
+        """(pieces, further pieces) that bring about what this one says where `before` was held, or None was: what is refused by its form comes
+        after what the proxy keeps. What is there, or was refused last, isn't sent."""
+        known = [texts_of(pieces) for pieces in (before.last, [before.good]) if None not in pieces] if before else []
+        if all(piece.item.content is not None for piece in self.last):
+            return ([] if texts_of(self.last) in known else self.last), []
+        kept = [self.good] if self.good is not None and texts_of([self.good]) not in known else []
+        return kept, [] if texts_of(self.last) in known else self.last
 
     def same_version(self, other):
         return [piece.item.version for piece in self.last] == [piece.item.version for piece in other.last]
@@ -96,9 +100,17 @@ class State:
         """(type, name) of the resources that its clusters and listeners ask for."""
         return {key for kind in ('cds', 'lds') for _, content in self.good(kind) for key, _ in dependencies_of(kind, content)}
 
+    def nacks(self):
+        """(type, name, Envoy's words) of what Envoy refused."""
+        return {(line['type'], line['name'], line['before']): None for line in self.report.lines if line['action'] == 'nack' and line['name'] is not None}
+
     def not_sent(self):
         """By name what was told of parts that no response brings."""
         return {line['name']: line['after'] for line in self.report.lines if line['action'] == 'not-sent' and line['type'] is None and line['name']}
+
+
+def texts_of(pieces):
+    return [piece.text for piece in pieces]
 
 
 def name_of(resource):

@@ -98,7 +98,7 @@ class Transition:
             response = Response(step.kind, URLS[step.kind], nonce, [piece.item for piece in pieces], removed)
             self.lines.add(stage, 'response', tree, data_of(tree), response)
         if number == self.last_of_hosts():
-            for cluster, (address, port) in self.checked_hosts():
+            for cluster, (address, port) in self.push.checked_hosts():
                 self.lines.put(stage, 'health', cluster=cluster, address=address, port=port, healthy=True)
         self.lines.seen(stage)
         self.probe(Stage(PROBE, number))
@@ -106,16 +106,6 @@ class Transition:
     def last_of_hosts(self):
         """The number of the last response that may bring hosts."""
         return max((number for number, step in enumerate(self.steps, 1) if step.kind in ('cds', 'eds') and step.changes), default=None)
-
-    def checked_hosts(self):
-        """(cluster, host) of the health checked clusters that are new or changed, or whose endpoints are."""
-        changed = {(kind, change.name) for kind in ('cds', 'eds') for change in self.push.changes[kind]}
-        endpoints = {name: content for name, content in self.push.following.good('eds')}
-        for name, content in self.push.following.good('cds'):
-            asked = content.get('eds')
-            if content.get('checked') and (('cds', name) in changed or ('eds', asked) in changed):
-                rows = endpoints.get(asked, ()) if asked else content.get('rows', ())
-                yield from ((name, host) for host in dict.fromkeys(host for host, *_ in rows))
 
     def probe(self, stage):
         """Each connection once more, by the second worker."""
@@ -145,18 +135,31 @@ class Transition:
 
 
 def parts_of(step):
-    """(resources, removed names) of each line of a response, which is cut where it would be too long; removals come first."""
-    pieces, removed, size = [], step.removed, 0
-    for piece in (piece for change in step.changes for piece in change.after.last):
+    """(resources, removed names) of each line of a response, which is cut where it would be too long; removals come first. What is refused after
+    what is kept of a name has lines of its own."""
+    removed = step.removed
+    for pieces in ([piece for change in step.changes for piece in change.pieces], [piece for change in step.changes for piece in change.further]):
+        for part in cut(pieces):
+            yield part, removed
+            removed = []
+    if removed:
+        yield [], removed
+
+
+def cut(pieces):
+    """Pieces in parts, each of which a line has room for."""
+    part, size = [], 0
+    for piece in pieces:
         more = len(data_of(piece.resource)) + 1
         if more + ROOM > script.MAX_LINE:
             raise Unreadable(f'{piece.item.name} has {more} bytes, and {script.MAX_LINE} are the most of a line')
-        if pieces and size + more + ROOM > script.MAX_LINE:
-            yield pieces, removed
-            pieces, removed, size = [], [], 0
-        pieces.append(piece)
+        if part and size + more + ROOM > script.MAX_LINE:
+            yield part
+            part, size = [], 0
+        part.append(piece)
         size += more
-    yield pieces, removed
+    if part:
+        yield part
 
 
 class Opened:

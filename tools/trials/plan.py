@@ -5,11 +5,14 @@ import re
 import tempfile
 
 import trials
+from planning import push as plan_push
 from shared import schema
 from shared.urls import URLS
 from trials import TOP, content, scripts_in, text_is, written
 from trials.adapt import CAPTURES
-from trials.adapt_dumps import clusters, dump, eds
+from trials.adapt_dumps import cluster as dump_cluster
+from trials.adapt_dumps import clusters, dump, eds, part
+from trials.adapt_dumps import listener as dump_listener
 from trials.data.made import cluster, endpoints, listener, routes
 from trials.look import STAND_IN
 from trials.plan_outages import BASE, CHAINS, Planner, chain, found, push, secret, state, with_chains
@@ -30,7 +33,7 @@ def run(check):
             check(schema.accepts(root, tree, root) and tree['status'] == status, f'docs/plan.schema.json refuses {tree}')
             return status, tree
 
-        for trial in (stories, onto_themselves, harmless, names_and_places, orders, again, health, of_today, other_inputs, limits, counting):
+        for trial in (stories, onto_themselves, harmless, names_and_places, orders, again, health, of_today, other_inputs, of_dumps, limits, counting):
             trial(check, planner, planned)
         for trial in (told, steps, own_connections, page, many, endings):
             trial(check, planner)
@@ -156,6 +159,10 @@ def of_today(check, planner, planned):
     check(not found(tree, 'refused') and found(tree, 'hosts', 'api'), f'plan of a push beside what is refused: {tree["findings"]}')
     status, tree = planned(state(**BASE), refused)
     check(status == 1 and found(tree, 'refused', 'web', 'by V11'), f'plan of what will be refused: {status} {tree["findings"]}')
+    status, tree = planned(refused, state(**{**BASE, 'cds': [cluster('web', lbPolicy='RANDOM'), BASE['cds'][1]]}, then=[push('cds', [bad], version='2')]))
+    check(status == 0 and found(tree, 'new', 'web', 'lbPolicy is new') and not found(tree, 'refused'), f'plan of a change behind what is refused already: {tree["findings"]}')
+    status, tree = planned(state(**BASE), state(**{**BASE, 'cds': [cluster('web', lbPolicy='RANDOM'), BASE['cds'][1]]}, then=[push('cds', [bad], version='2')]))
+    check(status == 1 and found(tree, 'new', 'web') and found(tree, 'refused', 'web'), f'plan of a change behind what will be refused: {tree["findings"]}')
     status, tree = planned(state(**BASE, then=[{'op': 'disconnect'}]), state(**{**BASE, 'rds': [routes('r', 'api')]}))
     check(status == 1 and found(tree, 'answers', None, 'by \'api\', today by \'web\''), f'plan onto a lost stream: {status} {tree["findings"]}')
     empty = '{"workers":1,"node":"edge","profile":"envoy"}\n{"op":"connect"}\n'
@@ -192,6 +199,32 @@ def other_inputs(check, planner, planned):
     check(status == 1 and found(tree, 'answers', None, 'today by \'web\''), f'plan of inputs of two profiles: {status} {tree}')
 
 
+def of_dumps(check, planner, planned):
+    """What Envoy refused of the second input, with a rule here and without; listeners on UDP, and parts that aren't sent."""
+    def text(failed=None, port=53, secret='a'):
+        state_of = {'error_state': {'failed_configuration': failed, 'details': 'no such thing'}} if failed else {}
+        udp = dump_listener('dns', port)
+        udp['address']['socket_address']['protocol'] = 'UDP'
+        return dump(part('Clusters', dynamic_active_clusters=[{'cluster': dump_cluster('c'), **state_of}]),
+                    part('Listeners', dynamic_listeners=[{'name': 'dns', 'active_state': {'listener': udp}}]), part('Secrets', last_updated=secret, dynamic_active_secrets=[secret])).decode()
+
+    bad, strange = dump_cluster('c', connect_timeout='0s'), dump_cluster('c', alt_stat_name='x')
+    status, tree = planned(text(), text(bad))
+    check(status == 1 and found(tree, 'refused', 'c', 'by V11'), f'plan of a failed configuration: {status} {tree["findings"]}')
+    status, tree = planned(text(bad), text(bad))
+    check(status == 0 and [one['class'] for one in tree['findings']] == ['today'], f'plan of a failed configuration of today: {status} {tree["findings"]}')
+    status, tree = planned(text(), text(strange, port=54))
+    check(found(tree, 'unjudged', 'c', 'Envoy refused it, and no rule here does; \'no such thing\''), f'plan of what Envoy alone refuses: {status} {tree["findings"]}')
+    check(found(tree, 'unjudged', 'dns', 'has a stand-in') and found(tree, 'drains', 'dns'), f'plan of a listener on UDP: {status} {tree["findings"]}')
+    status, tree = planned(text(), text(port=54, secret='b'))
+    check(found(tree, 'unjudged', None, 'not read, and other than today: SecretsConfigDump'), f'plan of another part of a dump: {status} {tree["findings"]}')
+    check(not found(planned(text(), text(port=54))[1], 'unjudged', None, 'SecretsConfigDump'), 'plan of the same part of a dump')
+    routed = state(lds=BASE['lds'][:1], rds=BASE['rds'], cds=BASE['cds'], eds=BASE['eds'])
+    parts = dump(clusters(dump_cluster('web')), part('Endpoints')).decode()
+    status, tree = planned(routed, parts)
+    check(found(tree, 'unjudged', None, 'the second input has no listeners: those of the first stay') and not found(tree, 'drains'), f'plan of a part of a dump: {tree["findings"]}')
+
+
 def limits(check, planner, planned):
     """Connections over a limit are left out, first those that the push doesn't touch; what has no room in a script is no input."""
     hosts = [{'name': f'h{place}', 'domains': [f'h{place}.x'], 'routes': [{'match': {'prefix': '/'}, 'route': {'cluster': 'api' if place == 7 else 'web'}}]} for place in range(9)]
@@ -200,6 +233,12 @@ def limits(check, planner, planned):
     check(tree['connections'] == 2 and found(tree, 'unjudged', None, '7 connections over the limit of 2'), f'plan --probes 2: {tree}')
     status, tree = planned(state(**many), state(**{**many, 'cds': [BASE['cds'][0]]}), '--probes', '1')
     check(found(tree, 'answers', None, '1 of 1: its cluster isn\'t there, today by \'api\''), f'plan --probes 1 tries what the push touches: {tree["findings"]}')
+    huge = {**many, 'rds': [{**many['rds'][0], 'virtualHosts': [{**hosts[0], 'name': f'v{place}', 'domains': [f'v{place}.x']} for place in range(60)]}]}
+    kept, plan_push.MAX_LINES = plan_push.MAX_LINES, 1500
+    status, tree = planned(state(**many), state(**huge), '--probes', '200000')
+    plan_push.MAX_LINES = kept
+    left = found(tree, 'unjudged', None, 'over the limit of')
+    check(status == 1 and tree['connections'] < 40 and len(left) == 1, f'plan of more connections than a script has room for: {status} {left}')
     check(planned(state(**many), state(**many), '--probes', '0')[1]['connections'] == 0, 'plan --probes 0')
     large = [cluster(f'c{place}', hosts=[1], altStatName='x' * 1000000) for place in range(9)]
     status, tree = planned(state(), state(then=[push('cds', [body]) for body in large]))
