@@ -4,7 +4,9 @@ import functools
 import re
 
 from shared import rules
-from shared.bodies import canonical, differences, text_of
+from shared.bodies import between, canonical, differences, outer, text_of
+from shared.bodies import walk as walk_bodies
+from shared.came import came
 from shared.changes import host_words, result_words
 from shared.shown import named, quoted
 from shared.spelling import spelled
@@ -81,14 +83,8 @@ class Findings:
 
     def refused(self):
         for said in self.journey.said:
-            if said.verdict[0] != 'V' or self.is_of_today(said):
-                continue
-            yield Finding(REFUSED, said.kind, said.item.name, *refusal(said), step=said.step)
-
-    def is_of_today(self, said):
-        """Whether the same was refused by the same rule before the push."""
-        before = self.journey.refused_today.get((said.kind, said.item.name))
-        return before is not None and before.verdict == said.verdict and before.resource.get('resource') == said.resource.get('resource')
+            if said.verdict[0] == 'V':
+                yield Finding(REFUSED, said.kind, said.item.name, *refusal(said), step=said.step)
 
     def today(self):
         """What is refused or warms already, before the push."""
@@ -366,6 +362,13 @@ def walk(tree, path, cluster):
             yield from walk(value, f'{path}[{place}]', cluster)
 
 
+def differing(kind, before, after, profile):
+    """The differences of two pieces, whatever is read of them."""
+    if came(before.resource) is None and came(after.resource) is None:
+        return [*between(kind, before.body, after.body, profile), *walk_bodies(outer(before.resource), outer(after.resource), None, '')]
+    return differences(kind, before.resource, after.resource, True, profile)
+
+
 class Paths:
     """Where what changes differs from what is there, looked at once."""
 
@@ -379,7 +382,7 @@ class Paths:
             change = self.changes.get(key)
             before = change and (change.before.good or change.before.last[-1])
             after = change and (change.pieces or change.further)[-1]
-            self.known[key] = list(differences(kind, before.resource, after.resource, True, self.profile)) if change else []
+            self.known[key] = list(differing(kind, before, after, self.profile)) if change else []
         return self.known[key]
 
     def unread(self):

@@ -1,6 +1,7 @@
 """What a proxy has by an input: of each type and name the resource that came last, and what adapt says of the rest."""
 import argparse
 import functools
+import json
 
 from adapting.adapted import taken
 from adapting.report import Report
@@ -23,9 +24,19 @@ class Piece:
         self.resource, self.item = resource, item
 
     @functools.cached_property
+    def raw(self):
+        """All that was sent but version, in the spelling and order in which it came: where it is equal, nothing differs."""
+        return json.dumps({name: value for name, value in self.resource.items() if name != 'version'})
+
+    @functools.cached_property
+    def body(self):
+        """The body as it came, as protobuf takes it."""
+        return canonical(original(self.resource))
+
+    @functools.cached_property
     def text(self):
-        """All that was sent but name and version, as it came: a text to compare."""
-        return text_of([outer(self.resource), canonical(original(self.resource))])
+        """All that was sent but name and version: a text to compare."""
+        return text_of([outer(self.resource), self.body])
 
 
 class Held:
@@ -44,6 +55,8 @@ class Held:
     def sent_onto(self, before):
         """(pieces, further pieces) that bring about what this one says where `before` was held, or None was: what is refused by its form comes
         after what the proxy keeps. What is there, or was refused last, isn't sent."""
+        if before and [piece.raw for piece in before.last] == [piece.raw for piece in self.last] and before.good in before.last:
+            return [], []
         known = [texts_of(pieces) for pieces in (before.last, [before.good]) if None not in pieces] if before else []
         if all(piece.item.content is not None for piece in self.last):
             return ([] if texts_of(self.last) in known else self.last), []
@@ -69,7 +82,7 @@ class State:
     def take(self, line):
         if line.op in ('connect', 'disconnect'):
             self.is_open = line.op == 'connect'
-        elif line.op == 'response' and self.is_open:
+        elif line.op == 'response':
             self.respond(line)
         elif line.op == 'ttlExpired':
             held = self.held[line.members['type']]

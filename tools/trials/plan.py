@@ -33,7 +33,7 @@ def run(check):
             check(schema.accepts(root, tree, root) and tree['status'] == status, f'docs/plan.schema.json refuses {tree}')
             return status, tree
 
-        for trial in (stories, onto_themselves, harmless, names_and_places, orders, again, health, of_today, other_inputs, of_dumps, limits, counting):
+        for trial in (stories, onto_themselves, harmless, names_and_places, orders, again, newly_asked, health, of_today, other_inputs, of_dumps, limits, counting):
             trial(check, planner, planned)
         for trial in (told, steps, own_connections, page, many, endings):
             trial(check, planner)
@@ -74,8 +74,9 @@ def harmless(check, planner, planned):
     turned = {kind: bodies[::-1] for kind, bodies in BASE.items()}
     spelled = {**BASE, 'eds': [{'@type': URLS['eds'], 'cluster_name': 'web', 'endpoints': [{'lb_endpoints': group['lbEndpoints']} for group in endpoints('web', [1, 2])['endpoints']]}]}
     beat = {'op': 'response', 'message': {'typeUrl': URLS['cds'], 'nonce': 'b', 'resources': [{'name': 'api', 'version': '1', 'ttl': '9s'}]}}
+    gone = {'op': 'response', 'message': {**beat['message'], 'removedResources': ['api']}}
     for name, text in (('new versions', state(**BASE, version='2')), ('another order', state(**turned)), ('another spelling', state(**spelled)),
-                       ('a heartbeat', state(**BASE, then=[beat])), ('a script on a lost stream', state(**BASE, then=[{'op': 'disconnect'}]))):
+                       ('a heartbeat', state(**BASE, then=[beat])), ('a heartbeat beside a removal', state(**BASE, then=[gone])), ('a script on a lost stream', state(**BASE, then=[{'op': 'disconnect'}]))):
         status, tree = planned(base, text, '--strict')
         check(status == 0 and not tree['findings'] and not tree['push'], f'plan of {name}: {status} {tree["findings"]}')
     status, tree = planned(base, state(**{**BASE, 'cds': [*BASE['cds'], cluster('more', hosts=[9])]}, version='2'))
@@ -138,6 +139,15 @@ def again(check, planner, planned):
     check(status == 0 and found(tree, 'new', 'web') and not found(tree, 'hangs'), f'plan of endpoints that are removed: {status} {tree["findings"]}')
 
 
+def newly_asked(check, planner, planned):
+    """Endpoints and routes that came before, and that nothing asked for till now, come again whoever asks."""
+    more = {'eds': [*BASE['eds'], endpoints('late', [5])], 'rds': [*BASE['rds'], routes('q', 'late')]}
+    asks = {**more, 'cds': [*BASE['cds'], cluster('late')], 'lds': [listener('http', 80, routes='q'), *BASE['lds'][1:]]}
+    status, tree = planned(state(**{**BASE, **more}), state(**asks), '--no-resend')
+    check(found(tree, 'answers', None, 'by \'late\', today by \'web\'') and not found(tree, 'hangs') and [step['new'] for step in tree['push']] == [['late'], ['late'], [], ['q']],
+          f'plan of resources that are newly asked for: {tree["push"]} {tree["findings"]}')
+
+
 def health(check, planner, planned):
     """A checked cluster that changes has its hosts healthy again, so that it doesn't warm for ever."""
     checked = {**BASE, 'cds': [cluster('web', checked=True), BASE['cds'][1]]}
@@ -165,6 +175,11 @@ def of_today(check, planner, planned):
     check(status == 1 and found(tree, 'new', 'web') and found(tree, 'refused', 'web'), f'plan of a change behind what will be refused: {tree["findings"]}')
     status, tree = planned(state(**BASE, then=[{'op': 'disconnect'}]), state(**{**BASE, 'rds': [routes('r', 'api')]}))
     check(status == 1 and found(tree, 'answers', None, 'by \'api\', today by \'web\''), f'plan onto a lost stream: {status} {tree["findings"]}')
+    mended = state(**BASE, then=[push('cds', [bad], version='2'), push('cds', [BASE['cds'][0]])])
+    check(planned(mended, mended)[1]['findings'] == [], 'plan of what was refused and is mended')
+    warms = {**BASE, 'cds': [*BASE['cds'], cluster('slow')]}
+    status, tree = planned(state(**warms), state(**{**warms, 'cds': [*warms['cds'], cluster('more', hosts=[9])]}))
+    check(status == 0 and found(tree, 'today', 'slow', 'warms') and not found(tree, 'hangs'), f'plan beside what warms already: {status} {tree["findings"]}')
     empty = '{"workers":1,"node":"edge","profile":"envoy"}\n{"op":"connect"}\n'
     status, tree = planned(empty, state(**BASE))
     check(status == 1 and tree['connections'] == 0 and found(tree, 'answers', None, 'today no listener') and [step['new'] for step in tree['push']] == [
