@@ -2,11 +2,17 @@
 import json
 import os
 import re
+import sys
 import tempfile
 
 import trials
+from planning import journey as journeys
+from planning import plans
 from planning import push as plan_push
-from shared import schema
+from shared import journal, schema
+from shared.json_text import compact
+from shared.machine import Machine
+from shared.replayed import replayed
 from shared.urls import URLS
 from trials import TOP, content, scripts_in, text_is, written
 from trials.adapt import CAPTURES
@@ -35,7 +41,7 @@ def run(check):
 
         for trial in (stories, onto_themselves, harmless, names_and_places, orders, again, newly_asked, health, of_today, other_inputs, of_dumps, limits, counting):
             trial(check, planner, planned)
-        for trial in (told, steps, own_connections, page, many, endings):
+        for trial in (told, in_place, steps, own_connections, page, many, endings):
             trial(check, planner)
 
 
@@ -287,6 +293,39 @@ def told(check, planner):
     check([line for line in whole.splitlines() if line[:1] != ' '] == brief.splitlines() != whole.splitlines(), f'plan --brief: {brief} and without: {whole}')
     status, out, _ = planner.of(state(**BASE), state(**{**BASE, 'rds': [routes('r', 'api')]}), '--color', 'always')
     check('\x1b[31mANSWERS' in out, f'plan --color always: {out!r}')
+
+
+class InPlace(Machine):
+    """A machine that takes the verdicts of listeners that change in place."""
+
+    def respond(self, response, verdicts):
+        super().respond(response, ['new' if verdict == 'inPlace' else verdict for verdict in verdicts])
+
+
+def in_place(check, planner):
+    """A journal in which a listener changes in place, and connections move: chains that stay aren't closed."""
+    def replays(what, words, data=b''):
+        rows = [json.loads(text) for text in replayed(data).splitlines()]
+        for row in rows[1:-1]:
+            answer = row['answer']
+            if row['op'] == 'response' and row['at'] > 10 and answer['verdicts'] == ['new']:
+                answer['verdicts'] = ['inPlace']
+            elif row['op'] == 'settle' and answer['closed']:
+                answer['closed'], answer['moved'] = answer['closed'][1:], answer['closed'][:1]
+            elif row['op'] == 'accept' and isinstance(answer, dict):
+                answer['chain'] = 0
+        return b''.join(compact(row) + b'\n' for row in rows)
+
+    kept = plans.output_of, journeys.Machine, journal.read_row
+    plans.output_of, journeys.Machine, journal.read_row = replays, InPlace, lambda text, of_sotw=False: (journal.Row(json.loads(text)), None)
+    try:
+        paths = [written(f'{planner.folder}/{side}', state(**body)) for side, body in (('current', BASE), ('next', {**BASE, **with_chains(CHAINS[0])}))]
+        status, out, errors = trials.called(trials.tool('plan'), '--program', sys.executable, '--json', '--order', 'safe', *paths)
+    finally:
+        plans.output_of, journeys.Machine, journal.read_row = kept
+    tree = json.loads(out)
+    check(status == 1 and found(tree, 'in place', 'in', '1 connection of 4 open ones stay') and found(tree, 'drains', 'in', 'has filter chains that go: 1 of 4 open connections is closed'),
+          f'plan of a listener in place: {status} {errors} {tree["findings"]}')
 
 
 def steps(check, planner):

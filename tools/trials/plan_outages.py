@@ -52,11 +52,12 @@ class Planner:
 
     def __init__(self, folder):
         self.folder, self.program = folder, trials.program()
+        self.stands_in = self.program is None
 
     def of_files(self, current, following, *words):
         """(status, standard output, standard error)."""
         kept = plans.output_of
-        plans.output_of = kept if self.program else replays
+        plans.output_of = replays if self.stands_in else kept
         try:
             return called(tool('plan'), '--program', self.program or sys.executable, *words, current, following)
         finally:
