@@ -167,6 +167,7 @@ class Findings:
     def drain(self, row, conns, stage, stays):
         is_gone = row.name in self.push.removed['lds']
         how = 'is removed' if is_gone else 'has filter chains that go' if stays else 'is replaced whole'
+        how += ' once the fetch timeout came' if stage.name == TIMEOUTS else ''
         is_are = 'is' if len(conns) == 1 else 'are'
         chains = collections.Counter(f'{self.journey.chain_of(conn)} (port {self.journey.transition.asks[conn - 1]["port"]})' for conn in conns)
         details = ([] if is_gone else self.chain_details(row)) + [f'{count} of {chain}' for chain, count in chains.items()]
@@ -218,10 +219,16 @@ class Findings:
         before = set(missing(self.journey.before))
         for (kind, name), cluster in missing(self.journey.after):
             if ((kind, name), cluster) not in before:
-                why = 'it is removed' if cluster in self.push.removed['cds'] else 'it is refused, warms or never came'
                 places = list(places_of(self.push.following, kind, name, cluster))
-                words = f'{leads(kind)} to cluster {quoted(cluster)}, which isn\'t there: {why}'
+                words = f'{leads(kind)} to cluster {quoted(cluster)}, which isn\'t there: {self.why_missing(cluster)}'
                 yield Finding(NOWHERE, kind, name, words, [f'at {few(places, 2)}'] if places else [])
+
+    def why_missing(self, cluster):
+        if cluster in self.push.removed['cds']:
+            return 'it is removed'
+        if any(row.number in self.journey.hung or row.number in self.journey.waiting for row in self.by_name.get(('cds', cluster), ())):
+            return 'it warms'
+        return 'it is refused' if cluster in self.push.following.held['cds'] else 'no cluster of that name comes'
 
     def without(self):
         before, after = self.journey.before, self.journey.after

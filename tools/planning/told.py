@@ -55,7 +55,7 @@ class Teller:
 
     def group(self, kind, found, plan):
         self.head(kind, group_words(found) + plan.only_here(found[0]))
-        lines = [line for finding in found for line in finding.details]
+        lines = list(dict.fromkeys(line for finding in found for line in finding.details))
         for line in lines[:MOST_LINES]:
             self.below(line)
         if len(lines) > MOST_LINES:
@@ -98,7 +98,7 @@ def group_words(found):
         what = f'{len(found)} {WORDS.get(one.of, "resources")}, as {quoted(one.name, 100)}'
     else:
         what = f'{WORD.get(one.of) or shown(one.of.rsplit("/", 1)[-1], 60) or "a resource without a type"} {quoted(one.name, 100)}'
-    joint = ',' if one.kind in (HANGS,) and len(found) == 1 else ':' if one.kind in (ANEW, VALUE, UNJUDGED, HOSTS, IN_PLACE) else ''
+    joint = ',' if one.kind == HANGS else ':' if one.kind in (ANEW, VALUE, UNJUDGED, HOSTS, IN_PLACE) else ''
     return f'{what}{joint} {one.words}'
 
 

@@ -103,7 +103,7 @@ OUTAGES = {
                                                           ('drains', 'in', '1 of filter chain 2 \'mail\''), ('answers', None, 'no filter chain, today by \'api\'')]),
     'a chain\'s port changed': (with_chains(CHAINS[0], other_port()), [('drains', 'in', 'filterChains[mail].filterChainMatch.destinationPort is new'),
                                                                        ('answers', None, '1 of 4: no filter chain, today by \'api\'')]),
-    'a route to a cluster that isn\'t there': ({'rds': [routes('r', 'wbe')]}, [('nowhere', 'r', 'cluster \'wbe\', which isn\'t there'), ('nowhere', 'r', 'routes[0].route.cluster'),
+    'a route to a cluster that isn\'t there': ({'rds': [routes('r', 'wbe')]}, [('nowhere', 'r', 'cluster \'wbe\', which isn\'t there: no cluster of that name comes'), ('nowhere', 'r', 'routes[0].route.cluster'),
                                                                                ('answers', None, '1 of 4: its cluster isn\'t there, today by \'web\'')]),
     'a host renamed': ({'eds': [endpoints('web', [1, 3])]}, [('hosts', 'web', 'hosts gone: 10.0.0.2:80; hosts new: 10.0.0.3:80')]),
     'a listener removed': ({'lds': [BASE['lds'][0], BASE['lds'][2]]}, [('drains', 'tcp', 'is removed: 1 of 4 open connections is closed'),
@@ -116,9 +116,12 @@ OUTAGES = {
     'a cluster refused': ({'cds': [cluster('web', connectTimeout='0s'), BASE['cds'][1]]}, [('refused', 'web', 'by V11 (Envoy too)'), ('refused', 'web', 'resource.connectTimeout')]),
     'endpoints that never come': ({'cds': [*BASE['cds'], cluster('new')], 'rds': [routes('r', 'new')]}, [
         ('hangs', 'new', 'until the fetch timeout, nothing of the name serves'), ('hangs', 'new', 'waits for endpoints \'new\''), ('hangs', 'new', 'WITHOUT HOSTS'),
-        ('nowhere', 'r', 'cluster \'new\'')]),
+        ('nowhere', 'r', 'cluster \'new\', which isn\'t there: it warms')]),
     'routes that never come': ({'lds': [listener('http', 80, routes='q'), *BASE['lds'][1:]]}, [
-        ('hangs', 'http', 'until the fetch timeout, the one before serves'), ('hangs', 'http', 'waits for routes \'q\'')]),
+        ('hangs', 'http', 'until the fetch timeout, the one before serves'), ('hangs', 'http', 'waits for routes \'q\''),
+        ('drains', 'http', 'is replaced whole once the fetch timeout came: 1 of 4')]),
+    'a new cluster refused that routes name': ({'cds': [*BASE['cds'], cluster('bad', connectTimeout='0s')], 'rds': [routes('r', 'bad')]}, [
+        ('refused', 'bad', 'by V11'), ('nowhere', 'r', 'it is refused')]),
 }
 
 
