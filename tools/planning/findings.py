@@ -72,7 +72,8 @@ class Findings:
         self.journey, self.push, self.paths = journey, journey.transition.push, paths
         self.stages = journey.stages()
         self.count = len(journey.transition.asks)
-        parts = (self.refused, self.hangs, self.drains, self.nowhere, self.without, self.answers, self.between, self.between_unseen, self.hosts, self.anew, self.values, self.today)
+        parts = (self.refused, self.hangs, self.drains, self.nowhere, self.without, self.answers, self.between, self.between_unseen, self.hosts,
+                 self.anew, self.values, self.today)
         self.found = [finding for part in parts for finding in part()] if journey.transition.steps else list(self.today())
 
     def step_words(self, number):

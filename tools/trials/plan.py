@@ -78,11 +78,13 @@ def harmless(check, planner, planned):
     """New versions, another order of resources, another spelling and heartbeats change nothing."""
     base = state(**BASE)
     turned = {kind: bodies[::-1] for kind, bodies in BASE.items()}
-    spelled = {**BASE, 'eds': [{'@type': URLS['eds'], 'cluster_name': 'web', 'endpoints': [{'lb_endpoints': group['lbEndpoints']} for group in endpoints('web', [1, 2])['endpoints']]}]}
+    hosts = [{'lb_endpoints': group['lbEndpoints']} for group in endpoints('web', [1, 2])['endpoints']]
+    spelled = {**BASE, 'eds': [{'@type': URLS['eds'], 'cluster_name': 'web', 'endpoints': hosts}]}
     beat = {'op': 'response', 'message': {'typeUrl': URLS['cds'], 'nonce': 'b', 'resources': [{'name': 'api', 'version': '1', 'ttl': '9s'}]}}
     gone = {'op': 'response', 'message': {**beat['message'], 'removedResources': ['api']}}
     for name, text in (('new versions', state(**BASE, version='2')), ('another order', state(**turned)), ('another spelling', state(**spelled)),
-                       ('a heartbeat', state(**BASE, then=[beat])), ('a heartbeat beside a removal', state(**BASE, then=[gone])), ('a script on a lost stream', state(**BASE, then=[{'op': 'disconnect'}]))):
+                       ('a heartbeat', state(**BASE, then=[beat])), ('a heartbeat beside a removal', state(**BASE, then=[gone])),
+                       ('a script on a lost stream', state(**BASE, then=[{'op': 'disconnect'}]))):
         status, tree = planned(base, text, '--strict')
         check(status == 0 and not tree['findings'] and not tree['push'], f'plan of {name}: {status} {tree["findings"]}')
     status, tree = planned(base, state(**{**BASE, 'cds': [*BASE['cds'], cluster('more', hosts=[9])]}, version='2'))
@@ -227,7 +229,8 @@ def of_dumps(check, planner, planned):
         udp = dump_listener('dns', port)
         udp['address']['socket_address']['protocol'] = 'UDP'
         return dump(part('Clusters', dynamic_active_clusters=[{'cluster': dump_cluster('c'), **state_of}]),
-                    part('Listeners', dynamic_listeners=[{'name': 'dns', 'active_state': {'listener': udp}}]), part('Secrets', last_updated=secret, dynamic_active_secrets=[secret])).decode()
+                    part('Listeners', dynamic_listeners=[{'name': 'dns', 'active_state': {'listener': udp}}]),
+                    part('Secrets', last_updated=secret, dynamic_active_secrets=[secret])).decode()
 
     bad, strange = dump_cluster('c', connect_timeout='0s'), dump_cluster('c', alt_stat_name='x')
     status, tree = planned(text(), text(bad))
@@ -324,7 +327,8 @@ def in_place(check, planner):
     finally:
         plans.output_of, journeys.Machine, journal.read_row = kept
     tree = json.loads(out)
-    check(status == 1 and found(tree, 'in place', 'in', '1 connection of 4 open ones stay') and found(tree, 'drains', 'in', 'has filter chains that go: 1 of 4 open connections is closed'),
+    check(status == 1 and found(tree, 'in place', 'in', '1 connection of 4 open ones stay')
+          and found(tree, 'drains', 'in', 'has filter chains that go: 1 of 4 open connections is closed'),
           f'plan of a listener in place: {status} {errors} {tree["findings"]}')
 
 
@@ -367,7 +371,8 @@ def many(check, planner):
     status, out, errors = planner.of_files(f'{folder}/was', f'{folder}/is', '--all')
     rows = [line.split() for line in out.splitlines()]
     check(status == 1 and rows[0] == ['status', 'drains', 'answers', 'hosts', 'value', 'unjudged', 'name']
-          and [row[-1] for row in rows[1:3]] == ['drains.jsonl', 'hosts.jsonl'] and rows[1][:4] == ['1', '2', '2', '.'] and rows[2][:4] == ['1', '.', '.', '1'] and 'in the first folder alone' in out, f'plan --all: {status} {out} {errors}')
+          and [row[-1] for row in rows[1:3]] == ['drains.jsonl', 'hosts.jsonl'] and rows[1][:4] == ['1', '2', '2', '.']
+          and rows[2][:4] == ['1', '.', '.', '1'] and 'in the first folder alone' in out, f'plan --all: {status} {out} {errors}')
     lines = planner.of_files(f'{folder}/was', f'{folder}/is', '--all', '--json')[1]
     one = planner.of_files(f'{folder}/was/drains.jsonl', f'{folder}/is/drains.jsonl', '--line')
     check(one[0] == 1 and one[1] in lines, f'plan --line: {one} and {lines}')

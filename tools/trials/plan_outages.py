@@ -103,7 +103,8 @@ OUTAGES = {
                                                           ('drains', 'in', '1 of filter chain 2 \'mail\''), ('answers', None, 'no filter chain, today by \'api\'')]),
     'a chain\'s port changed': (with_chains(CHAINS[0], other_port()), [('drains', 'in', 'filterChains[mail].filterChainMatch.destinationPort is new'),
                                                                        ('answers', None, '1 of 4: no filter chain, today by \'api\'')]),
-    'a route to a cluster that isn\'t there': ({'rds': [routes('r', 'wbe')]}, [('nowhere', 'r', 'cluster \'wbe\', which isn\'t there: no cluster of that name comes'), ('nowhere', 'r', 'routes[0].route.cluster'),
+    'a route to a cluster that isn\'t there': ({'rds': [routes('r', 'wbe')]}, [
+        ('nowhere', 'r', 'cluster \'wbe\', which isn\'t there: no cluster of that name comes'), ('nowhere', 'r', 'routes[0].route.cluster'),
                                                                                ('answers', None, '1 of 4: its cluster isn\'t there, today by \'web\'')]),
     'a host renamed': ({'eds': [endpoints('web', [1, 3])]}, [('hosts', 'web', 'hosts gone: 10.0.0.2:80; hosts new: 10.0.0.3:80')]),
     'a listener removed': ({'lds': [BASE['lds'][0], BASE['lds'][2]]}, [('drains', 'tcp', 'is removed: 1 of 4 open connections is closed'),
