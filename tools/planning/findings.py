@@ -403,8 +403,8 @@ class Paths:
 
 # What nothing here judges
 
-def unjudged(push, paths, probes):
-    """What differs and was not read, sent or compared, and what no connection reaches."""
+def unjudged(push, paths):
+    """What differs and was not read, sent or compared."""
     for kind, name, found in paths.unread():
         yield Finding(UNJUDGED, kind, name, f'not read: {paths_words(found)}', (), found)
     for kind, name in push.unasked:
@@ -419,13 +419,17 @@ def unjudged(push, paths, probes):
         if (kind, name, words) not in push.current.nacks() and (kind, name) not in sent:
             yield Finding(UNJUDGED, kind or 'input', name, 'Envoy refused it, and no rule here does', [quoted(words, 300)])
     yield from stand_ins(push)
+    if push.versions():
+        yield Finding(UNJUDGED, 'input', None, f'{push.versions()} with the version of today and another body')
+
+
+def untried(probes):
+    """What no connection reaches."""
     if probes.unreached:
         words = f'{counted(len(probes.unreached), "filter chain")} to which no connection of a script comes, as of {quoted(probes.unreached[0][0], 100)}'
         yield Finding(UNJUDGED, 'input', None, words, [f'{quoted(name, 100)}: {why}' for name, why in probes.unreached])
     if probes.left:
         yield Finding(UNJUDGED, 'input', None, f'{counted(probes.left, "connection")} over the limit of {len(probes.asks)}')
-    if push.versions():
-        yield Finding(UNJUDGED, 'input', None, f'{push.versions()} with the version of today and another body')
 
 
 def parts(current, following):

@@ -2,7 +2,7 @@
 from shared.running import output_of
 
 from . import connections
-from .findings import BETWEEN, COUNTED, OTHERWISE, UNJUDGED, Findings, Paths, unjudged
+from .findings import BETWEEN, COUNTED, OTHERWISE, UNJUDGED, Findings, Paths, unjudged, untried
 from .journey import Journey
 from .push import LISTENERS_FIRST, Push, Way
 from .state import states_of
@@ -42,8 +42,7 @@ class Plan:
         self.base = self.replayed(chosen.way)
         self.tried = [Other(way, chosen.way.words(way), self.replayed(way), self.base) for way in self.ways()]
         self.others = [other for other in self.tried if other.more or other.less]
-        beside = [] if self.push.is_empty() else unjudged(self.push, self.paths, self.connections)
-        self.findings = [*self.base.found, *beside]
+        self.findings = [*self.base.found, *unjudged(self.push, self.paths), *([] if self.push.is_empty() else untried(self.connections))]
         self.status = self.reckoned()
 
     def replayed(self, way):

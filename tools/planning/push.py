@@ -98,10 +98,11 @@ class Push:
 
     def is_sent(self, kind, name):
         """Whether a control plane sends it; what the bootstrap has, and what nothing asks for, is noted or passed over."""
-        if (kind, name) in self.current.fixed | self.following.fixed:
-            self.fixed.append((kind, name))
+        key = kind, name
+        if key in self.current.fixed or key in self.following.fixed:
+            self.fixed.append(key)
             return False
-        return kind in ('cds', 'lds') or (kind, name) in self.current.asked | self.following.asked
+        return kind in ('cds', 'lds') or key in self.current.asked or key in self.following.asked
 
     def is_empty(self):
         return not any(self.removed.values()) and not any(change.how != AGAIN for changes in self.changes.values() for change in changes)

@@ -193,7 +193,7 @@ def of_today(check, planner, planned):
     check(status == 1 and tree['connections'] == 0 and found(tree, 'answers', None, 'today no listener') and [step['new'] for step in tree['push']] == [
         ['web', 'api'], ['web'], ['http', 'tcp', 'in'], ['r']], f'plan onto nothing: {status} {tree}')
     status, tree = planned(state(**BASE), empty)
-    check(status == 0 and not tree['push'] and len(found(tree, 'unjudged', None, 'those of the first stay')) == 0, f'plan of nothing: {status} {tree["findings"]}')
+    check(status == 0 and not tree['push'] and len(found(tree, 'unjudged', None, 'those of the first stay')) == 4, f'plan of nothing: {status} {tree["findings"]}')
     waits = state(cds=[cluster('web')], lds=[listener('l', 80, target='web')])
     status, tree = planned(waits, state(cds=[cluster('web')], eds=[endpoints('web', [1])], lds=[listener('l', 80, target='web')]))
     check(status == 1 and found(tree, 'answers', None, 'by \'web\', today no listener') and not found(tree, 'today') and not found(tree, 'hangs'),
@@ -205,6 +205,8 @@ def other_inputs(check, planner, planned):
     base = state(**BASE)
     secrets = [state(**BASE, then=[push(SECRET, [{'@type': SECRET, 'name': 's', 'tlsCertificate': text}])]) for text in 'ab']
     more = {'rds': [routes('r', 'api')]}
+    status, tree = planned(*secrets)
+    check(status == 0 and found(tree, 'unjudged', 's') and planned(*secrets, '--strict')[0] == 1, f'plan of another secret alone: {status} {tree["findings"]}')
     status, tree = planned(secrets[0], secrets[1].replace('"cluster": "web"', '"cluster": "api"', 1))
     check(found(tree, 'unjudged', 's', 'its type isn\'t read'), f'plan of another secret: {tree["findings"]}')
     status, tree = planned(base, state(**{**BASE, **more}, node='else'))
@@ -216,7 +218,7 @@ def other_inputs(check, planner, planned):
     texts = [plain.decode().replace('"cluster": {', f'"cluster": {{"connect_timeout": "{seconds}s", ').replace('static_clusters": [{"version_info": "1", ', 'static_clusters": [{')
              for seconds in (1, 2)]
     status, tree = planned(*texts, '--no-endpoints')
-    check(status == 0 and not tree['push'], f'plan of a static cluster that differs: {status} {tree}')
+    check(status == 0 and not tree['push'] and found(tree, 'unjudged', 'a', 'stands in the bootstrap'), f'plan of a static cluster that differs: {status} {tree}')
     own = json.dumps({'workers': 1}) + '\n' + state(**BASE).partition('\n')[2]
     status, tree = planned(own, state(**{**BASE, **more}))
     check(status == 1 and found(tree, 'answers', None, 'today by \'web\''), f'plan of inputs of two profiles: {status} {tree}')
