@@ -148,7 +148,7 @@ class Findings:
         return self.other_answers(last, ended) if ended else []
 
     def drains(self):
-        """Listeners that are replaced whole or removed, and chains that go of one that is changed in place."""
+        """Listeners that are replaced whole or removed, and chains that are removed of one that is changed in place."""
         closed = collections.defaultdict(list)
         for conn in self.journey.closed:
             closed[self.journey.opened[conn]['listener']].append(conn)
@@ -167,7 +167,7 @@ class Findings:
 
     def drain(self, row, conns, stage, stays):
         is_gone = row.name in self.push.removed['lds']
-        how = 'is removed' if is_gone else 'has filter chains that go' if stays else 'is replaced whole'
+        how = 'is removed' if is_gone else 'has filter chains that are removed' if stays else 'is replaced whole'
         how += ' once the fetch timeout came' if stage.name == TIMEOUTS else ''
         is_are = 'is' if len(conns) == 1 else 'are'
         chains = collections.Counter(f'{self.journey.chain_of(conn)} (port {self.journey.transition.asks[conn - 1]["port"]})' for conn in conns)

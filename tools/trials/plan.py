@@ -222,6 +222,10 @@ def other_inputs(check, planner, planned):
     own = json.dumps({'workers': 1}) + '\n' + state(**BASE).partition('\n')[2]
     status, tree = planned(own, state(**{**BASE, **more}))
     check(status == 1 and found(tree, 'answers', None, 'today by \'web\''), f'plan of inputs of two profiles: {status} {tree}')
+    plain = {**BASE, 'lds': BASE['lds'][:2]}
+    status, tree = planned(state(**plain), state(**{**plain, 'cds': [cluster('web', lbPolicy='RANDOM'), {**cluster('api', hosts=[7]), 'type': 'STRICT_DNS'}]}), '--own-profile', '--project', 'none')
+    check(status == 1 and found(tree, 'refused', 'api', 'by V7 (here alone)') and not found(tree, 'new') and found(tree, 'unjudged', 'web', 'lbPolicy is new'),
+          f'plan by the own profile: {status} {tree["findings"]}')
 
 
 def of_dumps(check, planner, planned):
@@ -330,7 +334,7 @@ def in_place(check, planner):
         plans.output_of, journeys.Machine, journal.read_row = kept
     tree = json.loads(out)
     check(status == 1 and found(tree, 'in place', 'in', '1 connection of 4 open ones stay')
-          and found(tree, 'drains', 'in', 'has filter chains that go: 1 of 4 open connections is closed'),
+          and found(tree, 'drains', 'in', 'has filter chains that are removed: 1 of 4 open connections is closed'),
           f'plan of a listener in place: {status} {errors} {tree["findings"]}')
 
 
@@ -402,7 +406,7 @@ def endings(check, planner):
         status, out, errors = planner.of_files(*words)
         check(status == 4 and '/no/such' in errors, f'plan of {words}: {status} {errors}')
     for words in (['--order', 'eds,cds,lds,rds'], ['--order', 'cds'], ['--order', 'rds,lds,cds,eds'], ['--allow', 'nothing'], ['--probes', '-1'], ['--probes', 'x'],
-                  ['--resend-endpoints', '--no-resend'], ['--all', '--line'], ['--table', good]):
+                  ['--resend-endpoints', '--no-resend'], ['--all', '--line'], ['--table', good], ['--html', good]):
         check(planner.of_files(good, good, *words)[0] == 2, f'plan {words}')
     program = planner.program or written(f'{folder}/program', STAND_IN, 0o755)
     tried = (([], 2), ([good], 2), (['-', '-'], 2), (['--version'], 0), (['--help'], 0), (['--program', '/no/such', good, good], 4), (['--program', '/bin/false', good, good], 7),
