@@ -10,10 +10,10 @@ from shared.came import came
 from shared.changes import host_words, result_words
 from shared.shown import named, quoted
 from shared.spelling import spelled
-from shared.urls import WORD, WORDS
+from shared.urls import WORDS
 from shared.words import counted, few
 
-from .push import AGAIN, CHANGED, NEW, ORDER
+from .push import CHANGED, ORDER
 from .transition import OPEN, PROBE, TIMEOUTS
 
 REFUSED, HANGS, DRAINS, NOWHERE, WITHOUT, ANSWERS, BETWEEN, HOSTS = (

@@ -4,8 +4,7 @@ import collections
 from shared.shown import quoted, shown
 from shared.urls import WORD, WORDS
 
-from .findings import (ANEW, ANSWERS, BETWEEN, CLASSES, COUNTED, DRAINS, HANGS, HOSTS, IN_PLACE, NOWHERE, OTHERWISE, REFUSED, TODAY, UNJUDGED, VALUE,
-                       WITHOUT)
+from .findings import ANEW, ANSWERS, BETWEEN, CLASSES, COUNTED, HANGS, HOSTS, IN_PLACE, OTHERWISE, UNJUDGED, VALUE
 
 COLORS = {**dict.fromkeys(COUNTED, '31'), HOSTS: '33', IN_PLACE: '33', ANEW: '33', VALUE: '33', UNJUDGED: '35', OTHERWISE: '35', 'same': '32'}
 CAPITALS = (*COUNTED, UNJUDGED, OTHERWISE)
