@@ -82,13 +82,14 @@ def anchors(text):
 
 
 def paths_in(quoted, tops):
-    """The paths below the top that backquoted words name. One with a word in capitals in place of a name, or a word that has
-    neither a slash nor a file's name, isn't a path."""
+    """The paths that backquoted words name, below the top, or below crates/ where they begin with a crate of the program. One with
+    a word in capitals in place of a name, or a word that has neither a slash nor a file's name, isn't a path."""
     for word in quoted.split():
         word = word.rstrip('.,:;')
         if not PATH.fullmatch(word):
             continue
         first = word[2:] if word.startswith('./') else word.removeprefix('warmgate/')
+        first = f'crates/{first}' if re.match(r'ev_\w+/', first) else first
         is_path = '/' in first and first.split('/')[0] in tops or word.startswith('./') or first in tops and '.' in first
         if is_path and not re.search(r'(?:^|/)[A-Z_]{2,}(?:/|\.|$)', re.sub(r'[A-Z]+\.md$', '', first)) and '/out/' not in first:
             yield first
@@ -185,12 +186,12 @@ def faults_of_printed(block):
 # That a fault is found
 
 PLANTED = [
-    ('[x](docs/NOPE.md)', 'link'), ('[x](docs/FORMATS.md#nope)', 'link'), ('see `tools/nope`', 'link'), ('see `crates/ev_nope/specs/`', 'link'),
+    ('[x](docs/NOPE.md)', 'link'), ('[x](docs/FORMATS.md#nope)', 'link'), ('see `tools/nope`', 'link'), ('see `crates/ev_nope/specs/`', 'link'), ('see `ev_nope/specs/Nope.antt`', 'link'), ('see `ev_types/src/nope.rt`', 'link'),
     ('    parallel warmgate/tools/nope x', 'command'), ('    tools/nope x', 'command'), ('    tools/why --nope x', 'command'), ('    ./warmgate replay x', 'command'),
     ('    ./warmgate nope < x | tools/explain x', 'command'), ('    ./warmgate', 'command'), ('    ./warmgate soak 1', 'command'), ('```\n./warmgate replay < x | tools/explain --nope x\n```', 'command'),
     ('    $ ./warmgate replay < examples/connect.jsonl | tools/explain examples/connect.jsonl\n    nope', 'printed'),
 ]
-SOUND = ['[x](docs/FORMATS.md#faults)', 'see `tools/why --all`, `crates/*/specs/`, `crates/NAME/out/x`, `a/b`', '    tools/why --all x',
+SOUND = ['[x](docs/FORMATS.md#faults)', 'see `tools/why --all`, `crates/*/specs/`, `crates/NAME/out/x`, `a/b`, `ev_types/src/lib.rt`', '    tools/why --all x',
          "    (echo; ./warmgate replay < x 2> y | tools/explain x) && tools/why '{}'", "    parallel 'tools/why {} > y' ::: a b",
          '    ./warmgate replay < {} > journals/{/.}.jsonl', '    ./warmgate soak 0 3000']
 
