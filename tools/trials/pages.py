@@ -1,7 +1,9 @@
 """The pages that are made of the sources are as the sources say, and what is said of a call that fails is what its clauses say."""
 import os
 import subprocess
+from xml.etree import ElementTree
 
+from paging.layers import groups_below
 from trials import loaded
 
 TOP = os.path.dirname(os.path.dirname(os.path.dirname(os.path.realpath(__file__))))
@@ -52,3 +54,34 @@ def run(check):
     for (owner, name, _, clauses), (_, _, wanted) in zip(found, WANTED):
         told = {lent: pages.stands_of(lent, clauses) for lent in wanted}
         check(told == wanted, f'tools/pages says of {owner}::{name}: {told}')
+    shown(check, pages)
+    layers(check, pages)
+
+
+ROOT = '''mod clusters;
+pub use clusters::{
+    Cluster, MAX_HOSTS, read_cluster,
+};
+pub use texts::Text;
+pub struct Own {}
+'''
+
+
+def shown(check, pages):
+    found = pages.main_types('ev_x', ROOT), pages.main_types('ev_x', 'pub use a::{b, c, d, e, f};\npub fn g() {}'), pages.main_types('ev_x', 'mod a;')
+    check(found == ('`Own`, `Cluster`, `Text`', '`g`, `b`, `c`, `d` and 2 more', ''), f'tools/pages finds the types {found}')
+    found = pages.type_comment('/// How it is. More.\n/// Still more.\n#[derive(Drop)]\npub enum Kind {', 'Kind')
+    check(found == 'how it is.', f'tools/pages finds the comment {found!r}')
+
+
+def layers(check, pages):
+    """The picture of the layers has each crate once, each group above those that it depends on, and is well-formed."""
+    tree = ElementTree.parse(f'{TOP}/docs/pictures/layers.svg').getroot()
+    texts = [(it.text, float(it.get('y'))) for it in tree.iter('{http://www.w3.org/2000/svg}text')]
+    names = [text for text, _ in texts]
+    check(all(names.count(name) == 1 for name, _ in pages.crates()), 'docs/pictures/layers.svg has each crate once')
+    below = groups_below(pages.groups(), dict(pages.crates()))
+    high = dict(texts)
+    check(all(high[heading] < high[it] for heading in below for it in below[heading]), 'docs/pictures/layers.svg has each group above what it depends on')
+    right = [float(it.get('x', 0)) + float(it.get('width')) for it in tree.iter('{http://www.w3.org/2000/svg}rect')]
+    check(max(right) <= float(tree.get('width')), 'docs/pictures/layers.svg has all boxes within its width')
