@@ -2,11 +2,11 @@
 import hashlib
 import json
 
-from shared.fields import DISCOVERY, enumeration
+from shared.fields import DISCOVERY, enumeration, get
 from shared.spelling import snake
 from shared.urls import URLS
 
-from .capture import Unreadable, get, statuses_in, text_in, type_of_body
+from .capture import Unreadable, statuses_in, text_in, type_of_body
 from .statuses import assignment_of
 
 NAMES = {'cds': 'name', 'eds': 'cluster_name', 'lds': 'name', 'rds': 'name'}

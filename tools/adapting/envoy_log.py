@@ -1,9 +1,8 @@
 """Events that Envoy's logs tell of. The texts are from memory of Envoy's documentation and were not checked on an Envoy."""
 import re
 
+from shared.fields import get
 from shared.urls import KINDS
-
-from .capture import get
 
 TIMEOUT = re.compile(r'initial fetch timed? ?out for (\S+)')
 DRAINED = re.compile(r'(?:removing draining listener|draining listener removal).*?name=([^,\s]+)')

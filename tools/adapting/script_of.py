@@ -3,6 +3,7 @@ import contextlib
 import copy
 import json
 
+from shared.fields import get, key_of
 from shared.probes import Probes
 from shared.profiles import ENVOY, OF_OPTIONS, OWN, USUAL
 from shared.resources import read_message
@@ -12,11 +13,11 @@ from shared.urls import KINDS
 from shared.words import counted
 
 from . import envoy_log
-from .capture import Unreadable, get, kind_of, list_in, text_in
+from .capture import Unreadable, kind_of, list_in, text_in
 from .checked import Checked, NoScript
 from .dump import Dump, message_of, wrapped
 from .passed import passed_over
-from .project import PROJECTIONS, key_of, take_out
+from .project import PROJECTIONS, take_out
 from .whole_of import WholeOf
 
 RESOURCE = 'envoy.service.discovery.v3.Resource'

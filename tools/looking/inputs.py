@@ -1,7 +1,8 @@
 """What tools/look is given: files as they are, and of a recording's folder its scripts, with what its clients refused."""
 import os
 
-from adapting.capture import documents, get, text_in, text_of
+from adapting.capture import documents, text_in, text_of
+from shared.fields import get
 from shared.recordings import scripts_of
 from shared.shown import read_file
 from shared.urls import KINDS
