@@ -4,7 +4,7 @@ from shared.shown import json_shown
 
 TAKES = {rules.ENVOY: 'refuses', rules.PROFILE: 'takes', rules.UNKNOWN: 'not known'}
 # Actions that change nothing of the input.
-NOTES = ('refused', 'passed-over', 'absent', 'nack', 'unreached')
+NOTES = ('refused', 'passed-over', 'absent', 'nack', 'unreached', 'log')
 
 
 class Report:

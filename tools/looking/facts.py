@@ -1,15 +1,22 @@
-"""What is worth a look: Envoy's own errors, what waits for what, what was refused and by whom, what stands in for what."""
+"""What is worth a look: Envoy's own errors, where its dump says otherwise, what waits for what, what leads nowhere, what was refused and by
+whom, what stands in for what."""
 import json
+import re
 from collections import Counter
 
 from shared import rules
+from shared.changes import LACKING
+from shared.leads import nowhere
 from shared.pictures import follower
 from shared.shown import quoted, shown
-from shared.teller import refusal_words
+from shared.teller import choice_of, refusal_words
 from shared.urls import WORD, WORDS
-from shared.words import counted
+from shared.words import counted, few
 
 MOST_WORDS = 400
+NAME = re.compile(r"'(?:[^'\\]|\\.)*'")
+NUMBER = re.compile(r'\d+')
+STATES = {'warming': 'warms', 'active': 'serves', 'draining': 'drains'}
 
 
 class Section:
@@ -22,14 +29,31 @@ class Section:
     def head(self):
         return f'{self.title}: {self.count or self.none}'
 
+    def folded(self):
+        """(text, the lines that it stands for) of the lines: those that differ in names and numbers alone are one text with their count."""
+        groups = {}
+        for line in self.lines:
+            groups.setdefault(NUMBER.sub('0', NAME.sub("''", line)), []).append(line)
+        return [(like_words(alike), alike) for alike in groups.values()]
+
+
+def like_words(alike):
+    """The first of lines that are alike, with how many more there are, and the names in which they differ."""
+    if len(alike) == 1:
+        return alike[0]
+    names = list(zip(*map(NAME.findall, alike)))
+    differing = next((column for column in names if len(set(column)) > 1), ())
+    return f'{alike[0]}; the same of {len(alike) - 1} more' + (f': {few(differing[1:], 4)}' if differing else '')
+
 
 class Facts:
-    """Follows a journal to its end beside the report of adapt. `errors` are (type, nonce, words) of a relayed client's refusals."""
+    """Follows a journal to its end beside the report of adapt. `errors` are (type, nonce, words) of a relayed client's refusals, `said` the
+    states in which Envoy's dump lists clusters and listeners."""
 
-    def __init__(self, pair, report, errors):
-        self.report, self.errors = report, list(errors)
+    def __init__(self, pair, report, errors, said):
+        self.report, self.errors, self.said = report, list(errors), said
         self.machine = follower(pair.reading, pair.format)
-        self.verdicts, self.by_nonce, self.refusals, self.answers = {}, {}, Counter(), Counter()
+        self.verdicts, self.by_nonce, self.refusals, self.answers, self.lacking = {}, {}, Counter(), Counter(), Counter()
         for entry in pair.entries():
             self.take(entry)
 
@@ -39,7 +63,10 @@ class Facts:
         if row.op == 'response' and isinstance(row.answer, dict):
             self.respond(line, row.answer['verdicts'])
         if row.op == 'accept':
-            self.answers[row.answer if isinstance(row.answer, str) else row.answer['result']] += 1
+            result = row.answer if isinstance(row.answer, str) else row.answer['result']
+            self.answers[result] += 1
+            if result in LACKING:
+                self.lacking[result, choice_of(self.machine, line.members, entry.worker, row.answer).why] += 1
 
     def respond(self, line, verdicts):
         response, said = line.response, []
@@ -60,7 +87,7 @@ class Facts:
     # Sections
 
     def sections(self):
-        return [self.of_envoy(), self.waiting(), self.without(), Section('Refused here', [times(text, count) for text, count in self.refusals.items()]),
+        return [self.of_envoy(), *self.otherwise(), *self.of_log(), self.waiting(), self.without(), *self.nowhere(), Section('Refused here', [times(text, count) for text, count in self.refusals.items()]),
                 self.stand_ins(), self.connections(), *self.unreached()]
 
     def of_envoy(self):
@@ -76,6 +103,36 @@ class Facts:
             here = self.by_nonce.get((kind, nonce), 'no such response was recorded')
             lines.append(f'{WORDS.get(kind, "another type")}, nonce {quoted(nonce)}: {quoted(words, MOST_WORDS)}; here: {here}')
         return Section('Envoy\'s own errors', lines, 'none told')
+
+    def otherwise(self):
+        """Where the dump lists a cluster or listener in another state than it is in here."""
+        here, lines = {}, []
+        for row in self.machine.rows.values():
+            here.setdefault((row.kind, row.name), {})[row.status] = row
+        for key, states in self.said.items():
+            found = here.get(key, {})
+            differ = [state for state in states if state not in found] + (['not warming'] if 'warming' in found and 'warming' not in states else [])
+            lines += [f'{WORD[key[0]]} {quoted(key[1])}: {self.other_state(state, found)}' for state in differ]
+        return [Section('Envoy says otherwise', lines)] if lines else []
+
+    def other_state(self, state, found):
+        """What Envoy says and what is here, in words."""
+        if state == 'not warming':
+            return f'Envoy lists no update of it that warms, and here one waits for {", ".join(self.machine.waits(found["warming"]))}'
+        here = ' and '.join(STATES[status] for status in STATES if status in found) or 'isn\'t there'
+        unread = ': it waits for something that isn\'t read here' if state == 'warming' and 'active' in found else ''
+        return f'Envoy says that it {STATES[state]}, here it {here}{unread}'
+
+    def of_log(self):
+        """The timeouts that a log tells."""
+        how = {'log': 'in the script it is', 'not-sent': 'it isn\'t in the script, since'}
+        lines = [f'{shown(line["before"], 300)}; {how[line["action"]]} {line["after"]}' for line in self.report.lines if line['member'] == 'fetchTimeout' and line['action'] in how]
+        return [Section('Timeouts that the log tells', lines)] if lines else []
+
+    def nowhere(self):
+        lines = [f'{WORD[kind] if kind == "lds" else WORDS[kind]} {quoted(name)}: {way} leads to cluster {quoted(cluster)}, which isn\'t there'
+                 for (kind, name), way, cluster in nowhere(self.machine)]
+        return [Section('Leads to a cluster that isn\'t there', lines)] if lines else []
 
     def waiting(self):
         """What warms at the end, and for what."""
@@ -106,10 +163,10 @@ class Facts:
         words = {'served': 'served', 'local': 'answered directly', 'redirect': 'redirected', 'noRoute': 'no route', 'noCluster': 'no cluster',
                  'noEndpoint': 'no host', 'noListener': 'no listener', 'noChain': 'no filter chain', 'inUse': 'number in use',
                  'undecided': 'undecided', 'elsewhere': 'gone elsewhere, to a host that no script tells'}
-        lines = [f'{count} {words[result]}' for result, count in self.answers.most_common()]
+        lines = [f'{count} {words[result]}' for result, count in self.answers.most_common() if result not in LACKING]
+        lines += [f'{count} {words[result]}' + (f': {why}' if why else '') for (result, why), count in self.lacking.most_common()]
         bad = any(self.answers[result] for result in ('noRoute', 'noCluster', 'noEndpoint', 'noListener', 'noChain'))
         return Section('Connections tried', lines, alarms=bad, count=sum(self.answers.values()))
-
 
     def unreached(self):
         """Filter chains to which no connection of a script comes, where there are some."""
