@@ -1,4 +1,5 @@
 """What tools/diff prints: causes first, with what each did under it, and alike ones in one line. Not proved."""
+from shared.alike import alike_words, pattern
 from shared.shown import quoted, shown
 from shared.urls import WORD, WORDS
 from shared.words import counted, few
@@ -11,15 +12,13 @@ INDENT = ' ' * 12
 
 
 class Group:
-    """Findings that say the same of several names, or one; the first is told, and the names of the others."""
+    """Findings that are alike, or one: the first is told, with the names of the others."""
 
-    def __init__(self, first):
-        self.kind, self.findings = first.kind, [first]
+    def __init__(self, findings):
+        self.kind, self.findings = findings[0].kind, findings
 
     def lines(self):
-        first, rest = self.findings[0], self.findings[1:]
-        names = '' if first.of == 'connection' else f': {few(quoted(one.name, 60) for one in rest)}'
-        return [first.words() + (f'; the same of {len(rest)} more{names}' if rest else ''), *self.effects()]
+        return [alike_words([one.words() for one in self.findings]), *self.effects()]
 
     def effects(self):
         """What the findings did, a line a kind."""
@@ -33,24 +32,30 @@ class Group:
                 yield f'{INDENT}{words}{", as" * (len(effects) > 1)}: {shown(effects[0].words(), MOST_EFFECT)}'
 
 
-def groups_of(findings):
-    """The findings that nothing else caused: the worst first, of each class those that did most, those of connections last."""
+def groups_of(findings, pattern_of):
+    """The findings that nothing else caused: the worst first, of each class those that did most, those of connections last. Those of one
+    class, type and pattern are one group."""
     found = {}
     for finding in findings:
         if finding.cause is None:
-            key = finding.kind, finding.of, finding.said.replace(quoted(finding.name), "''"), finding.generation, bool(finding.effects)
+            key = finding.kind, finding.of, pattern_of(finding), finding.generation, bool(finding.effects)
             found.setdefault(key, []).append(finding)
-    groups = []
-    for alike in found.values():
-        groups.append(Group(alike[0]))
-        groups[-1].findings += alike[1:]
-    return sorted(groups, key=lambda group: (CLASSES.index(group.kind), group.findings[0].of == 'connection',
-                                             -sum(len(one.effects) for one in group.findings)))
+    return sorted(map(Group, found.values()), key=lambda group: (
+        CLASSES.index(group.kind), group.findings[0].of == 'connection', -sum(len(one.effects) for one in group.findings)))
 
 
 def told(findings):
-    """(class, text) of each line; the class is None where a line goes on with the one before. What has no room on a screen has a summary first."""
-    groups = groups_of(findings)
+    """(class, text) of each line; the class is None where a line goes on with the one before. Findings are one line where they say the same of
+    their names, and where a screen has no room for that, where they differ in names and numbers; what has no room even so has a summary."""
+    for pattern_of in (lambda one: one.said.replace(quoted(one.name), "''"), lambda one: pattern(one.said)):
+        groups = groups_of(findings, pattern_of)
+        lines = lines_of(groups)
+        if len(lines) < SCREEN - 1:
+            return lines
+    return [*summary(groups), *lines]
+
+
+def lines_of(groups):
     lines = []
     for kind in CLASSES:
         found = [group for group in groups if group.kind == kind]
@@ -59,7 +64,7 @@ def told(findings):
             lines += [(kind, head), *((None, line) for line in rest)]
         if len(found) > MOST:
             lines.append((kind, f'and {len(found) - MOST} more'))
-    return lines if len(lines) < SCREEN else [*summary(groups), *lines]
+    return lines
 
 
 def summary(groups):
@@ -69,5 +74,5 @@ def summary(groups):
         of = finding.of if finding.of in (*WORD, 'connection', 'run') else 'other'
         found.setdefault((finding.kind, of), {})[finding.title() if of in ('connection', 'run', 'other') else quoted(finding.name, 60)] = None
     for (kind, of), names in found.items():
-        words = {**WORDS, 'connection': 'connections', 'run': 'of all', 'other': 'of other types'}[of]
-        yield kind, f'in all {len(names)} {words}: {few(names)}'
+        words = counted(len(names), 'connection') if of == 'connection' else f'{len(names)} {(WORD if len(names) == 1 else WORDS).get(of, "others")}'
+        yield kind, f'in all {words}: {few(names)}'

@@ -1,21 +1,19 @@
 """What is worth a look: Envoy's own errors, where its dump says otherwise, what waits for what, what leads nowhere, what was refused and by
 whom, what stands in for what."""
 import json
-import re
 from collections import Counter
 
 from shared import rules
+from shared.alike import folded
 from shared.changes import LACKING
 from shared.leads import nowhere
 from shared.pictures import follower
 from shared.shown import quoted, shown
 from shared.teller import choice_of, refusal_words
 from shared.urls import WORD, WORDS
-from shared.words import counted, few
+from shared.words import counted
 
 MOST_WORDS = 400
-NAME = re.compile(r"'(?:[^'\\]|\\.)*'")
-NUMBER = re.compile(r'\d+')
 STATES = {'warming': 'warms', 'active': 'serves', 'draining': 'drains'}
 
 
@@ -30,20 +28,8 @@ class Section:
         return f'{self.title}: {self.count or self.none}'
 
     def folded(self):
-        """(text, the lines that it stands for) of the lines: those that differ in names and numbers alone are one text with their count."""
-        groups = {}
-        for line in self.lines:
-            groups.setdefault(NUMBER.sub('0', NAME.sub("''", line)), []).append(line)
-        return [(like_words(alike), alike) for alike in groups.values()]
-
-
-def like_words(alike):
-    """The first of lines that are alike, with how many more there are, and the names in which they differ."""
-    if len(alike) == 1:
-        return alike[0]
-    names = list(zip(*map(NAME.findall, alike)))
-    differing = next((column for column in names if len(set(column)) > 1), ())
-    return f'{alike[0]}; the same of {len(alike) - 1} more' + (f': {few(differing[1:], 4)}' if differing else '')
+        """(text, the lines that it stands for) of the lines: those that are alike are one text with their count."""
+        return folded(self.lines)
 
 
 class Facts:

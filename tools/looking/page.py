@@ -2,12 +2,13 @@
 import html
 import re
 
-from shared.shown import escaped
+from shared.shown import escaped, shown
 
 # What a screen has of lines, one of them for the page's path.
 SCREEN = 24
-# How many lines of a section the page shows unfolded.
-MOST_SHOWN = 3
+# How many lines of a section the page shows unfolded where all cards are in one row, and how long one may be: so the picture begins on the
+# first screen of a window of 1400 by 900.
+MOST_SHOWN, MOST_LETTERS, IN_A_ROW = 3, 110, 5
 TITLE = re.compile(r'</h1>|<body[^>]*>')
 
 
@@ -37,19 +38,27 @@ def shared_out(wanted, room):
 def with_sections(page, sections):
     """The page with a card below its title for each section that has a line, and one line for those that have none."""
     place = TITLE.search(page).end()
-    quiet = '; '.join(section.head() for section in sections if not section.lines)
-    cards = ''.join(card(section) for section in sections if section.lines)
+    quiet, loud = '; '.join(section.head() for section in sections if not section.lines), [section for section in sections if section.lines]
+    most = MOST_SHOWN if len(loud) <= IN_A_ROW else MOST_SHOWN - 1
+    cards = ''.join(card(section, most) for section in loud)
     told = f'<p>{html.escape(quiet)}</p>' if quiet else ''
     return f'{page[:place]}\n<div class="cards look">{cards}</div>{told}{page[place:]}'
 
 
-def card(section):
-    """A section: a line for those that are alike, and the whole of them folded below it."""
+def card(section, most):
+    """A section: at most so many lines, each short, with the whole of what it stands for folded behind it."""
     style = 'card alert' if section.alarms else 'card'
     lines = section.folded()
-    shown, rest = lines[:MOST_SHOWN], [line for _, alike in lines[MOST_SHOWN:] for line in alike]
-    items = ''.join(f'<li>{text_of(text)}{details(alike, "all of them") if len(alike) > 1 else ""}</li>' for text, alike in shown)
+    items = ''.join(f'<li>{item(text, alike)}</li>' for text, alike in lines[:most])
+    rest = [line for _, alike in lines[most:] for line in alike]
     return f'<div class="{style}"><h2>{text_of(section.head())}</h2><ul>{items}</ul>{details(rest, f"and {len(rest)} more") if rest else ""}</div>'
+
+
+def item(text, alike):
+    if len(alike) == 1 and len(text) <= MOST_LETTERS:
+        return text_of(text)
+    count = f' ({len(alike)} such)' if len(alike) > 1 else ''
+    return details(alike, text_of(shown(alike[0], MOST_LETTERS - len(count)) + count))
 
 
 def details(lines, title):

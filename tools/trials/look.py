@@ -1,5 +1,6 @@
 """tools/look on a dump, on logs, on folders of recordings and on responses: what it prints, its page, and how it ends. Where no program is
 built a stand-in reckons the journals."""
+import html
 import json
 import os
 import re
@@ -131,9 +132,10 @@ def of_many(check, folder, looked):
     check(any("cluster 'w0' waits for endpoints 'w0'; the same of 299 more: 'w1', 'w2'" in line for line in lines), f'look folds no lines: {lines}')
     page = content(f'{folder}/out/page.html').decode()
     top = page[page.index('<div class="cards look">'):page.index('<div class="cards">')]
-    unfolded = re.sub(r'<details>.*?</details>', '', top)
-    check(unfolded.count('<li>') <= 16, f'the top of the page has {unfolded.count("<li>")} lines')
-    check('cluster &#x27;w299&#x27;' in top and 'cluster &#x27;w299&#x27;' not in unfolded, 'the top of the page hasn\'t all lines, or not folded')
+    unfolded = html.unescape(re.sub(r'<details><summary>(.*?)</summary>.*?</details>', r'\1', top))
+    items = re.findall('<li>(.*?)</li>', unfolded)
+    check(len(items) <= 3 * unfolded.count('<h2>') and max(map(len, items)) <= 110, f'the top of the page isn\'t short: {items}')
+    check('cluster &#x27;w299&#x27;' in top and "cluster 'w299'" not in unfolded and '(300 such)' in unfolded, f'the top of the page hasn\'t all lines, or not folded: {items}')
 
 
 def of_two(check, folder, looked):
