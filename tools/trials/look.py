@@ -1,6 +1,8 @@
 """tools/look on a dump, on logs, on folders of recordings and on responses: what it prints, its page, and how it ends. Where no program is
 built a stand-in reckons the journals."""
+import contextlib
 import html
+import io
 import json
 import os
 import re
@@ -10,6 +12,8 @@ import sys
 import tempfile
 
 import trials
+from looking.facts import Section
+from looking.page import print_sections, with_sections
 from shared import script
 from shared.urls import URLS
 from trials import TOP, content
@@ -32,7 +36,7 @@ def run(check):
         def looked(*words, **settings):
             return trials.ran(f'{TOP}/tools/look', '--program', program, '--out', f'{folder}/out', *words, env={**os.environ, 'TMPDIR': folder, **settings})
 
-        for trial in (of_a_dump, of_the_document, of_states, of_a_log, of_nowhere, of_many, of_two, of_its_own, of_recordings, of_responses, opened, endings):
+        for trial in (of_a_dump, of_the_document, of_states, of_a_log, of_nowhere, of_many, of_a_screen, of_two, of_its_own, of_recordings, of_responses, opened, endings):
             trial(check, folder, looked)
 
 
@@ -136,6 +140,21 @@ def of_many(check, folder, looked):
     items = re.findall('<li>(.*?)</li>', unfolded)
     check(len(items) <= 3 * unfolded.count('<h2>') and max(map(len, items)) <= 110, f'the top of the page isn\'t short: {items}')
     check('cluster &#x27;w299&#x27;' in top and "cluster 'w299'" not in unfolded and '(300 such)' in unfolded, f'the top of the page hasn\'t all lines, or not folded: {items}')
+
+
+def of_a_screen(check, folder, looked):
+    """Of lines that aren't alike each section gets as many as there is room for, and the page shows few of them unfolded."""
+    sections = [Section(f'Section {letter}', [letter * count + ' ' + 'y' * 200 for count in range(1, 21)]) for letter in 'abcdefg'] + [Section('Quiet', [], 'nothing')]
+    out = io.StringIO()
+    with contextlib.redirect_stdout(out):
+        print_sections(sections, False, ['more'])
+    lines = out.getvalue().splitlines()
+    heads = [line for line in lines if line.startswith('Section')]
+    check(len(lines) == 23 and len(heads) == 7 and 'Section a: 20 (2 of 20 lines here, all on the page)' in heads, f'a screen of unlike lines: {lines}')
+    page = with_sections('<h1></h1><p>picture</p>', sections)
+    unfolded = html.unescape(re.sub(r'<details><summary>(.*?)</summary>.*?</details>', r'\1', page))
+    check(len(re.findall('<li>', unfolded)) == 14 and '<p>Quiet: nothing</p>' in page and all(line in page for section in sections for line in section.lines),
+          f'the page of unlike lines: {unfolded}')
 
 
 def of_two(check, folder, looked):
