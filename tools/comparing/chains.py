@@ -91,7 +91,8 @@ def serve_changes(before, after):
 
 
 def value_words(value):
-    return 'none' if value is None else shown(few(map(str, value)) if isinstance(value, list) and not any(isinstance(one, dict) for one in value) else value, 80)
+    is_plain = isinstance(value, list) and not any(isinstance(one, dict) for one in value)
+    return 'none' if value is None else shown(few(map(str, value)) if is_plain else value, 80)
 
 
 # Who takes what a chain took
@@ -109,7 +110,9 @@ def taken_by(before, after, old, new):
             others[why or str(found['label'])] = None
     if none:
         return f'no filter chain takes what it took, as {ask_words(none)}', True
-    return (f'what it took goes to {few(others, 3)}' if others else 'it took nothing that was tried' if after is None else 'what it took it still takes'), False
+    if others:
+        return f'what it took goes to {few(others, 3)}', False
+    return ('it took nothing that was tried' if after is None else 'what it took it still takes'), False
 
 
 def ask_words(ask):

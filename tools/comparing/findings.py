@@ -279,7 +279,8 @@ def causes_of(was, now, new):
 def untried_words(new):
     """The filter chains that no connection tried, in words; empty where there is none."""
     found = new.untried()
-    return f'{counted(len(found), "filter chain")} to which no connection came: {few(f"{label} of {quoted(name, 60)}" for name, label in found)}' if found else ''
+    names = few(f'{label} of {quoted(name, 60)}' for name, label in found)
+    return f'{counted(len(found), "filter chain")} to which no connection came: {names}' if found else ''
 
 
 def forms(old, new, also):

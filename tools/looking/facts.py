@@ -67,13 +67,15 @@ class Facts:
 
     def refusal(self, line, place, verdict):
         tag, complaints = refusal_words(line, place, verdict)
-        path, words = complaints[0] if complaints else ('', rules.words(int(verdict[1:]), line.response.items[place].profile, 'a rule that this tool does not know'))
+        profile = line.response.items[place].profile
+        path, words = complaints[0] if complaints else ('', rules.words(int(verdict[1:]), profile, 'a rule that this tool does not know'))
         return f'refused by {verdict} ({tag}): {shown(path, 120)} {shown(words, 200)}'.replace(':  ', ': ')
 
     # Sections
 
     def sections(self):
-        return [self.of_envoy(), *self.otherwise(), *self.of_log(), self.waiting(), self.without(), *self.nowhere(), Section('Refused here', [times(text, count) for text, count in self.refusals.items()]),
+        refused = Section('Refused here', [times(text, count) for text, count in self.refusals.items()])
+        return [self.of_envoy(), *self.otherwise(), *self.of_log(), self.waiting(), self.without(), *self.nowhere(), refused,
                 self.stand_ins(), self.connections(), *self.unreached()]
 
     def of_envoy(self):
@@ -112,7 +114,8 @@ class Facts:
     def of_log(self):
         """The timeouts that a log tells."""
         how = {'log': 'in the script it is', 'not-sent': 'it isn\'t in the script, since'}
-        lines = [f'{shown(line["before"], 300)}; {how[line["action"]]} {line["after"]}' for line in self.report.lines if line['member'] == 'fetchTimeout' and line['action'] in how]
+        found = [line for line in self.report.lines if line['member'] == 'fetchTimeout' and line['action'] in how]
+        lines = [f'{shown(line["before"], 300)}; {how[line["action"]]} {line["after"]}' for line in found]
         return [Section('Timeouts that the log tells', lines)] if lines else []
 
     def nowhere(self):

@@ -26,5 +26,6 @@ def scripts_of(path):
     alone = os.path.join(path, 'client.jsonl')
     found += [alone] if os.path.exists(alone) else []
     if not found:
-        raise Unreadable(f'{quoted(path, 200)} is no recording of tools/record, and no folder of tools/look: it has no client.jsonl, no stream-001.jsonl and no script.jsonl')
+        raise Unreadable(f'{quoted(path, 200)} is no recording of tools/record, and no folder of tools/look: it has no client.jsonl, '
+                         f'no stream-001.jsonl and no {LOOKED_AT}')
     return found
