@@ -7,7 +7,7 @@ from shared.urls import KINDS
 TIMEOUT = re.compile(r'initial fetch timed? ?out for (\S+)')
 DRAINED = re.compile(r'(?:removing draining listener|draining listener removal).*?name=([^,\s]+)')
 REJECTED = re.compile(r'config for (\S+) rejected: (.*)')
-MOST = 200
+MOST = 400
 
 
 def of_text(text, report):

@@ -210,7 +210,7 @@ def results(key, was, now, generation):
 
 def contents(key, old, new):
     was, now = old.generations.get(key, []), new.generations.get(key, [])
-    told = list(chains(key, was[-1], now[-1], len(now))) if key[0] == 'lds' and was and now else []
+    told = list(chains(key, was[-1], now[-1], len(now))) if key[0] == 'lds' and any(old.live(key)) and any(new.live(key)) else []
     yield from told
     for place, (before, after) in enumerate(zip(was, now), 1):
         if before.content != after.content and not (told and place == len(was) == len(now) and before.content['address'] == after.content['address']):

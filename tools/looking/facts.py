@@ -14,6 +14,8 @@ from shared.urls import WORD, WORDS
 from shared.words import counted
 
 MOST_WORDS = 400
+# Results of a connection for which nothing was found.
+LOST = ('noRoute', 'noListener', 'noChain')
 STATES = {'warming': 'warms', 'active': 'serves', 'draining': 'drains'}
 
 
@@ -115,7 +117,7 @@ class Facts:
         """The timeouts that a log tells."""
         how = {'log': 'in the script it is', 'not-sent': 'it isn\'t in the script, since'}
         found = [line for line in self.report.lines if line['member'] == 'fetchTimeout' and line['action'] in how]
-        lines = [f'{shown(line["before"], 300)}; {how[line["action"]]} {line["after"]}' for line in found]
+        lines = [f'{shown(line["before"], MOST_WORDS)}; {how[line["action"]]} {line["after"]}' for line in found]
         return [Section('Timeouts that the log tells', lines)] if lines else []
 
     def nowhere(self):
@@ -152,9 +154,10 @@ class Facts:
         words = {'served': 'served', 'local': 'answered directly', 'redirect': 'redirected', 'noRoute': 'no route', 'noCluster': 'no cluster',
                  'noEndpoint': 'no host', 'noListener': 'no listener', 'noChain': 'no filter chain', 'inUse': 'number in use',
                  'undecided': 'undecided', 'elsewhere': 'gone elsewhere, to a host that no script tells'}
-        lines = [f'{count} {words[result]}' for result, count in self.answers.most_common() if result not in LACKING]
-        lines += [f'{count} {words[result]}' + (f': {why}' if why else '') for (result, why), count in self.lacking.most_common()]
-        bad = any(self.answers[result] for result in ('noRoute', 'noCluster', 'noEndpoint', 'noListener', 'noChain'))
+        lines = [f'{count} {words[result]}' + (f': {why}' if why else '') for (result, why), count in self.lacking.most_common()]
+        others = [(result, count) for result, count in self.answers.most_common() if result not in LACKING]
+        lines += [f'{count} {words[result]}' for result, count in sorted(others, key=lambda pair: pair[0] not in LOST)]
+        bad = any(self.answers[result] for result in (*LACKING, *LOST))
         return Section('Connections tried', lines, alarms=bad, count=sum(self.answers.values()))
 
     def unreached(self):

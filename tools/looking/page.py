@@ -41,7 +41,7 @@ def with_sections(page, sections):
     quiet, loud = '; '.join(section.head() for section in sections if not section.lines), [section for section in sections if section.lines]
     most = MOST_SHOWN if len(loud) <= IN_A_ROW else MOST_SHOWN - 1
     cards = ''.join(card(section, most) for section in loud)
-    told = f'<p>{html.escape(quiet)}</p>' if quiet else ''
+    told = f'<p>{html.escape(quiet)}</p>' if quiet else '<br>'
     return f'{page[:place]}\n<div class="cards look">{cards}</div>{told}{page[place:]}'
 
 
