@@ -111,7 +111,7 @@ def taken_by(before, after, old, new):
     if none:
         return f'no filter chain takes what it took, as {ask_words(none)}', True
     if others:
-        return f'what it took goes to {few(others, 3)}', False
+        return f'what it took is taken by {few(others, 3)} now', False
     return ('it took nothing that was tried' if after is None else 'what it took it still takes'), False
 
 

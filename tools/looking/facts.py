@@ -30,7 +30,7 @@ class Section:
         return f'{self.title}: {self.count or self.none}'
 
     def folded(self):
-        """(text, the lines that it stands for) of the lines: those that are alike are one text with their count."""
+        """(text, the lines that it represents) of the lines: those that are alike are one text with their count."""
         return folded(self.lines)
 
 

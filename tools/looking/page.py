@@ -46,7 +46,7 @@ def with_sections(page, sections):
 
 
 def card(section, most):
-    """A section: at most so many lines, each short, with the whole of what it stands for folded behind it."""
+    """A section: at most so many lines, each short, with the whole of what it represents folded behind it."""
     style = 'card alert' if section.alarms else 'card'
     lines = section.folded()
     items = ''.join(f'<li>{item(text, alike)}</li>' for text, alike in lines[:most])

@@ -13,7 +13,7 @@ def pattern(line):
 
 
 def folded(lines):
-    """(text, the lines that it stands for): lines that are alike are one text, with their count."""
+    """(text, the lines that it represents): lines that are alike are one text, with their count."""
     groups = {}
     for line in lines:
         groups.setdefault(pattern(line), []).append(line)

@@ -180,8 +180,8 @@ def untried(check, before, folder):
     check(status == 0 and len(told) == 1 and "7 filter chains to which no connection came: filter chain 2 'virtualInbound-catchall-http' of 'virtualInbound'" in told[0],
           f'diff of a sidecar with itself: {status} {out}')
     found = facts_of(before, (f'{folder}/chains_gone.script', f'{folder}/chains_gone.journal'))
-    moved = [one['words'] for one in found if one['class'] == 'CHANGED' and 'what it took goes to' in one['words']]
-    check(len(moved) == 2 and moved[0].startswith("filter chain '0.0.0.0_9080': filter_chains[4] is gone; what it took goes to filter chain 3"), f'diff tells not who takes what a chain took: {moved}')
+    moved = [one['words'] for one in found if one['class'] == 'CHANGED' and 'what it took is taken by' in one['words']]
+    check(len(moved) == 2 and moved[0].startswith("filter chain '0.0.0.0_9080': filter_chains[4] is gone; what it took is taken by filter chain 3"), f'diff tells not who takes what a chain took: {moved}')
 
 
 def named(check, folder):
