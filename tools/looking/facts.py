@@ -14,9 +14,19 @@ from shared.urls import WORD, WORDS
 from shared.words import counted
 
 MOST_WORDS = 400
+# The member of a refusal that a relayed client sent.
+OF_REQUEST = 'request'
 # Results of a connection for which nothing was found.
 LOST = ('noRoute', 'noListener', 'noChain')
 STATES = {'warming': 'warms', 'active': 'serves', 'draining': 'drains'}
+
+
+def note(report, errors, said):
+    """Adds to a report (type, nonce, words) of a relayed client's refusals, and the states in which Envoy's dump lists clusters and listeners."""
+    for kind, nonce, words in errors:
+        report.add('nack', kind, None, OF_REQUEST, envoy='refuses', before=words, after=nonce)
+    for (kind, name), states in said.items():
+        report.add('listed', kind, name, before=sorted(states))
 
 
 class Section:
@@ -35,11 +45,11 @@ class Section:
 
 
 class Facts:
-    """Follows a journal to its end beside the report of adapt. `errors` are (type, nonce, words) of a relayed client's refusals, `said` the
-    states in which Envoy's dump lists clusters and listeners."""
+    """Follows a journal to its end beside the report of adapt, to which `note` added what it doesn't have."""
 
-    def __init__(self, pair, report, errors, said):
-        self.report, self.errors, self.said = report, list(errors), said
+    def __init__(self, pair, report):
+        self.report = report
+        self.said = {(line['type'], line['name']): line['before'] for line in report.lines if line['action'] == 'listed'}
         self.machine = follower(pair.reading, pair.format)
         self.verdicts, self.by_nonce, self.refusals, self.answers, self.lacking = {}, {}, Counter(), Counter(), Counter()
         for entry in pair.entries():
@@ -87,11 +97,11 @@ class Facts:
             if line['action'] == 'nack' and line['name'] is not None:
                 here = self.verdicts.get((made.get((line['type'], line['name'])), line['name']), 'nothing to judge, it isn\'t in the dump')
                 lines.append(f'{WORD[line["type"]]} {quoted(line["name"])}: {quoted(line["before"], MOST_WORDS)}; here: {here}')
+            elif line['action'] == 'nack' and line['member'] == OF_REQUEST:
+                here = self.by_nonce.get((line['type'], line['after']), 'no such response was recorded')
+                lines.append(f'{WORDS.get(line["type"], "another type")}, nonce {quoted(line["after"])}: {quoted(line["before"], MOST_WORDS)}; here: {here}')
             elif line['action'] == 'nack':
                 lines.append(f'{WORDS.get(line["type"], "another type")}, {shown(line["after"])}: {quoted(line["before"], MOST_WORDS)}')
-        for kind, nonce, words in self.errors:
-            here = self.by_nonce.get((kind, nonce), 'no such response was recorded')
-            lines.append(f'{WORDS.get(kind, "another type")}, nonce {quoted(nonce)}: {quoted(words, MOST_WORDS)}; here: {here}')
         return Section('Envoy\'s own errors', lines, 'none told')
 
     def otherwise(self):

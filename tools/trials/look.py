@@ -169,10 +169,17 @@ def of_two(check, folder, looked):
 
 def of_its_own(check, folder, looked):
     """A folder that look wrote is looked at again."""
-    first = lines_of(check, folder, looked, 'a folder to come', listed(active=[cluster('a')], listeners=[listener('l', 80, 'a')]))
+    failed = {'cluster': cluster('bad'), 'error_state': {'failed_configuration': cluster('bad', connect_timeout='0s'), 'details': 'no such timeout'}}
+    tree = json.loads(listed(active=[cluster('a')], warming=[cluster('s')], listeners=[listener('l', 80, 'a')]))
+    tree['configs'][0]['dynamic_active_clusters'].append(failed)
+    first = lines_of(check, folder, looked, 'a folder to come', json.dumps(tree))
+    check("Envoy's own errors: 1" in first and 'Envoy says otherwise: 1' in first, f'look at a folder to come: {first}')
     before = content(f'{folder}/out/script.jsonl')
     status, out, errors = looked(f'{folder}/out')
     check(status == 0 and out.decode().splitlines() == first and content(f'{folder}/out/script.jsonl') == before, f'look at its own folder: {status} {out} {errors}')
+    trials.written(f'{folder}/out/report.jsonl', '[1]')
+    status, _, errors = looked(f'{folder}/out')
+    check(status == 3 and b'is no report of tools/look' in errors, f'look at a folder with another report: {status} {errors}')
 
 
 def of_recordings(check, folder, looked):
