@@ -5,7 +5,7 @@ import json
 import re
 import zlib
 
-from shared.fields import DISCOVERY, WRONG, camel, enumeration
+from shared.fields import DISCOVERY, WRONG, enumeration, get
 from shared.json_text import NotJson, fraction
 from shared.progress import Progress
 from shared.statuses import Unreadable
@@ -24,14 +24,6 @@ class Document:
 
     def __init__(self, tree, line, repeated):
         self.tree, self.line, self.repeated = tree, line, repeated
-
-
-def get(holder, name):
-    """A member by its name or its lowerCamelCase name; None where it is absent."""
-    if not isinstance(holder, dict):
-        return None
-    found = holder.get(name)
-    return holder.get(camel(name)) if found is None else found
 
 
 def text_in(holder, name):

@@ -2,11 +2,11 @@
 import hashlib
 import json
 
-from shared.fields import DISCOVERY, enumeration
+from shared.fields import DISCOVERY, enumeration, get
 from shared.spelling import snake
 from shared.urls import URLS
 
-from .capture import Unreadable, get, statuses_in, text_in, type_of_body
+from .capture import Unreadable, statuses_in, text_in, type_of_body
 from .statuses import assignment_of
 
 NAMES = {'cds': 'name', 'eds': 'cluster_name', 'lds': 'name', 'rds': 'name'}
@@ -54,14 +54,15 @@ def address_words(body):
 
 class Dump:
     """Takes the parts of a dump, and bodies that stand alone. `messages` has them in an order in which each waits for nothing that comes
-    later, and `failures` what Envoy refused last."""
+    later, `failures` what Envoy refused last, and `said` the states (warming, active, draining) in which a dump lists clusters and listeners,
+    by type and name. `listed` are the types of which a dump has the part."""
 
     def __init__(self, report):
         self.report, self.node, self.came = report, None, {}
         self.static, self.clusters, self.warming_clusters = [], [], []
         self.endpoints, self.routes, self.statuses, self.route_names = [], [], [], {''}
         self.draining, self.listeners, self.warming_listeners = [], [], []
-        self.failed, self.static_listeners = {kind: [] for kind in NAMES}, []
+        self.failed, self.static_listeners, self.said, self.listed = {kind: [] for kind in NAMES}, [], {}, set()
 
     def joins(self, tree, source):
         """Whether a document is of this state: none of its parts came from another source. A second such part begins another state."""
@@ -93,6 +94,7 @@ class Dump:
         readers = {'BootstrapConfigDump': self.bootstrap, 'ClustersConfigDump': self.of_clusters, 'EndpointsConfigDump': self.of_endpoints,
                    'ListenersConfigDump': self.of_listeners, 'RoutesConfigDump': self.of_routes}
         if name in readers:
+            self.listed.add(PARTS.get(name))
             readers[name](part)
         else:
             self.report.add('not-sent', name=name, before='a part of the dump that no response of the four types brings', after=digest(part))
@@ -101,9 +103,11 @@ class Dump:
         self.node = text_in(get(get(part, 'bootstrap'), 'node'), 'id') or self.node
 
     def of_clusters(self, part):
-        self.static += [wrapped('cds', body, '') for _, body in entries(part, 'static_clusters', 'cluster')]
-        for member, rows in (('dynamic_active_clusters', self.clusters), ('dynamic_warming_clusters', self.warming_clusters)):
-            rows += [wrapped('cds', body, version) for version, body in entries(part, member, 'cluster')]
+        for member, rows, state in (('static_clusters', self.static, 'active'), ('dynamic_active_clusters', self.clusters, 'active'),
+                                    ('dynamic_warming_clusters', self.warming_clusters, 'warming')):
+            found = [wrapped('cds', body, '' if rows is self.static else version) for version, body in entries(part, member, 'cluster')]
+            rows += found
+            self.say('cds', found, state)
             for entry in listed(part, member):
                 self.failure('cds', entry, text_in(get(entry, 'cluster'), 'name'))
 
@@ -125,13 +129,19 @@ class Dump:
             self.listeners.append(wrapped('lds', body, ''))
             self.static_listeners.append(self.listeners[-1])
             self.give_name(self.listeners[-1])
+            self.say('lds', self.listeners[-1:], 'active')
         states = {'active_state': self.listeners, 'warming_state': self.warming_listeners, 'draining_state': self.draining}
         for entry in listed(part, 'dynamic_listeners'):
             for member, found in states.items():
                 state = body_in(entry, member)
                 if body_in(state, 'listener') is not None:
                     found.append(wrapped('lds', get(state, 'listener'), get(state, 'version_info'), text_in(entry, 'name')))
+                    self.say('lds', found[-1:], member.removesuffix('_state'))
             self.failure('lds', entry, text_in(entry, 'name'))
+
+    def say(self, kind, resources, state):
+        for resource in resources:
+            self.said.setdefault((kind, resource['name']), set()).add(state)
 
     def give_name(self, resource):
         """Names a listener without a name by its address, as Envoy gives it a name of its own."""
@@ -187,18 +197,23 @@ class Dump:
                 'lds': self.listeners + self.warming_listeners, 'rds': self.routes}[kind]
         return [resource for resource in rows if resource['name'] == name]
 
-    def messages(self):
-        """(type, message, what it is) in order."""
+    def gone_since(self, said):
+        """The names, by type, that a dump before this one listed so, and this one doesn't, where it has the part."""
+        gone = [key for key, states in said.items() if key[0] in self.listed and key not in self.said and states != {'draining'}]
+        return {kind: [name for of, name in gone if of == kind] for kind in ('cds', 'lds')}
+
+    def messages(self, removed):
+        """(type, message, what it is) in order. `removed` are names, by type, that the proxy has and isn't to have any more."""
         kept = {resource['name'] for resource in self.listeners}
         gone = [resource['name'] for resource in self.draining if resource['name'] not in kept]
-        steps = [('cds', self.static, [], 'static clusters'), ('cds', self.clusters, [], 'active clusters'), ('eds', self.endpoints, [], 'endpoints')]
+        steps = [('cds', self.static, [], 'static clusters'), ('cds', self.clusters, removed['cds'], 'active clusters'), ('eds', self.endpoints, [], 'endpoints')]
         if self.draining:
             steps += [('lds', self.draining, [], 'draining listeners'), ('rds', self.routes, [], 'routes, for the draining listeners')]
-        steps += [('lds', self.listeners, gone, 'active listeners'), ('rds', self.routes, [], 'routes'),
+        steps += [('lds', self.listeners, removed['lds'] + gone, 'active listeners'), ('rds', self.routes, [], 'routes'),
                   ('cds', self.warming_clusters, [], 'warming clusters'), ('lds', self.warming_listeners, [], 'warming listeners')]
-        for kind, resources, removed, words in steps:
-            if resources or removed or words == 'endpoints':
-                yield kind, message_of(kind, resources, removed), words
+        for kind, resources, names, words in steps:
+            if resources or names or words == 'endpoints':
+                yield kind, message_of(kind, resources, names), words
 
 
 def message_of(kind, resources, removed=()):

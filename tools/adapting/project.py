@@ -4,22 +4,17 @@ import pickle
 
 from shared import came, rules
 from shared.addresses import read_address
-from shared.fields import DISCOVERY, Reader, camel, enumeration
+from shared.fields import DISCOVERY, Reader, camel, enumeration, get, key_of
 from shared.profiles import ENVOY, OWN
 from shared.routes import read_route
 from shared.urls import MANAGER, TCP_PROXY
 from shared.words import few
 
-from .capture import get, list_in, text_in
+from .capture import list_in, text_in
 
 OTHER_SOURCES = ('path', 'path_config_source', 'api_config_source')
 BY_NAME = ('STRICT_DNS', 'LOGICAL_DNS', 'ORIGINAL_DST')
 EMPTY_MANAGER = {'name': 'stand-in', 'typed_config': {'@type': MANAGER, 'route_config': {}}}
-
-
-def key_of(holder, name):
-    """The spelling in which a member stands in its holder."""
-    return name if holder.get(name) is not None or camel(name) not in holder else camel(name)
 
 
 def objects(holder, name):

@@ -4,7 +4,10 @@ from shared.shown import json_shown
 
 TAKES = {rules.ENVOY: 'refuses', rules.PROFILE: 'takes', rules.UNKNOWN: 'not known'}
 # Actions that change nothing of the input.
-NOTES = ('refused', 'passed-over', 'absent', 'nack', 'unreached')
+NOTES = ('refused', 'passed-over', 'absent', 'nack', 'unreached', 'log', 'listed')
+
+# The members of a line.
+MEMBERS = {'line', 'type', 'name', 'action', 'member', 'rule', 'envoy', 'before', 'after', 'turns'}
 
 
 class Report:

@@ -3,6 +3,7 @@ import contextlib
 import copy
 import json
 
+from shared.fields import get, key_of
 from shared.probes import Probes
 from shared.profiles import ENVOY, OF_OPTIONS, OWN, USUAL
 from shared.resources import read_message
@@ -12,11 +13,11 @@ from shared.urls import KINDS
 from shared.words import counted
 
 from . import envoy_log
-from .capture import Unreadable, get, kind_of, list_in, text_in
+from .capture import Unreadable, kind_of, list_in, text_in
 from .checked import Checked, NoScript
 from .dump import Dump, message_of, wrapped
 from .passed import passed_over
-from .project import PROJECTIONS, key_of, take_out
+from .project import PROJECTIONS, take_out
 from .whole_of import WholeOf
 
 RESOURCE = 'envoy.service.discovery.v3.Resource'
@@ -42,12 +43,13 @@ def no_response(complaints):
 
 class ScriptOf:
     """`take` each document, then `finish`; `lines` are the script's, each bytes without its end. With `keeps` the `reading` of the script
-    has its lines as they were read. `came` are the types of which the input tells a state, and `fixed` the (type, name) of what Envoy has
-    from its bootstrap."""
+    has its lines as they were read. `said` has what a dump says of clusters and listeners, where no response came after it, and `dumps` counts
+    the dumps. `came` are the types of which the input tells a state, and `fixed` the (type, name) of what Envoy has from its bootstrap."""
 
     def __init__(self, chosen, report, keeps=False):
         self.chosen, self.report, self.checked = chosen, report, Checked(chosen.sotw, keeps)
-        self.reading, self.came, self.fixed = self.checked.reading, set(), set()
+        self.reading, self.came, self.fixed, self.said = self.checked.reading, set(), set(), {}
+        self.last_said, self.dumps = {}, 0
         self.profile, self.probes = OWN, Probes()
         self.go_by(OF_OPTIONS.get(chosen.profile, USUAL))
         self.whole = WholeOf(report) if chosen.sotw else None
@@ -73,6 +75,7 @@ class ScriptOf:
             self.report.add('repeated-key', member=key, before=f'stands twice in an object of {place}', after='the last of them')
         if found in ('script', 'delta', 'sotw'):
             self.came.add(kind_in(tree.get('message') if found == 'script' else tree))
+            self.said = {}
         wanted = self.chosen.source
         if wanted in ('delta', 'sotw') and found in ('delta', 'sotw'):
             found = wanted
@@ -168,10 +171,16 @@ class ScriptOf:
         state.finish()
         self.came.update(state.came)
         self.fixed.update(state.fixed())
+        removed = state.gone_since(self.last_said)
+        for kind, names in removed.items():
+            for name in names:
+                self.report.add('removed', kind, name, before='not in the dump any more', after='removedResources')
+        self.said = self.last_said = state.said
+        self.dumps += bool(state.listed)
         self.lacks_endpoints(state)
         failed = [(kind, resource) for kind in state.failed for resource in state.failed[kind]]
         kept = {(kind, resource['name']): copy.deepcopy(state.kept(kind, resource['name'])) for kind, resource in failed}
-        for kind, message, words in state.messages():
+        for kind, message, words in state.messages(removed):
             if message['resources'] or message['removedResources']:
                 self.report.add('made', kind, before=words, after='a response', turns=words.startswith('warming'))
                 self.delta(message)

@@ -1,7 +1,8 @@
 """Hosts with their states, as `istioctl proxy-config endpoints -o json` and Envoy's `/clusters?format=json` print them."""
+from shared.fields import get
 from shared.urls import URLS
 
-from .capture import get, list_in, text_in
+from .capture import list_in, text_in
 
 
 def assignment_of(status):

@@ -1,5 +1,7 @@
 """Responses of the state of the world, made of incremental ones: what `tools/adapt --sotw` writes."""
-from .capture import get, list_in, text_in
+from shared.fields import get
+
+from .capture import list_in, text_in
 
 
 class WholeOf:

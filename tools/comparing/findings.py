@@ -3,24 +3,28 @@ from collections import Counter
 
 from shared import rules
 from shared.bodies import differences
-from shared.changes import change_words, result_words
+from shared.leads import nowhere
+from shared.changes import LACKING, change_words, result_words
 from shared.shown import named, quoted, shown
 from shared.urls import WORD, WORDS
 from shared.words import counted, few
 
+from .chains import changed_chains
 from .outcome import Sent, of_kinds
 
-REGRESSION, CHANGED, UNJUDGED = 'REGRESSION', 'CHANGED', 'UNJUDGED'
+CLASSES = REGRESSION, CHANGED, UNJUDGED = 'REGRESSION', 'CHANGED', 'UNJUDGED'
 ANSWERED = ('served', 'local', 'redirect', 'elsewhere')
 # The most places that are named of one pair of bodies.
 MOST_PLACES = 20
 
 
 class Finding:
-    """`path` is the place in a body that differs, where the finding has one."""
+    """`path` is the place in a body that differs, where the finding has one. `came_by` has the keys of what may have caused it, the likeliest
+    first; `cause` is the finding that did, and `effects` are those that it did cause."""
 
-    def __init__(self, kind, of, name, said, generation=None, path=None):
+    def __init__(self, kind, of, name, said, generation=None, path=None, came_by=()):
         self.kind, self.of, self.name, self.said, self.generation, self.path = kind, of, name, said, generation, path
+        self.came_by, self.cause, self.effects = came_by, None, []
 
     def words(self):
         which = f', generation {self.generation} of the name' if self.generation and self.generation > 1 else ''
@@ -35,7 +39,8 @@ class Finding:
 
     def tree(self):
         found = {'class': self.kind, 'type': self.of, 'name': self.name, 'generation': self.generation, 'words': self.said}
-        return {**found, 'path': self.path} if self.path else found
+        found.update({'path': self.path} if self.path else {})
+        return {**found, 'cause': {'type': self.cause.of, 'name': self.cause.name}} if self.cause else found
 
 
 def compared(old, new, also, strict):
@@ -44,9 +49,10 @@ def compared(old, new, also, strict):
     findings = phase(old, new) + profiles(old, new)
     for key in keys:
         findings += [*refusals(key, old, new, strict), *states(key, old, new), *contents(key, old, new)]
-    findings += [*unjudged(old, new), *envoy_waits(old, new)]
+    findings += [*leads_nowhere(old, new), *unjudged(old, new), *envoy_waits(old, new)]
     asked = connections(old, new)
     findings += asked + forms(old, new, also)
+    find_causes(findings)
     touched = {(finding.of, finding.name) for finding in findings}
     counts = of_kinds(key for key in keys if key not in touched)
     connected = len(set(old.asks) | set(new.asks)) - len({finding.name for finding in asked})
@@ -88,6 +94,32 @@ def refusals(key, old, new, strict):
 def reason(refused, verdict, of, profile):
     complaints = next(complaints for found, tag, complaints, _ in reversed(refused) if (found, tag) == (verdict, of))
     return ', '.join(f'{path.split(".resource.", 1)[-1]} {words}' for path, words in complaints[:2]) or rules.words(int(verdict[1:]), profile)
+
+
+# Ways to nowhere, and causes
+
+def leads_nowhere(old, new):
+    """Ways of listeners and routes to a cluster that isn't there, where they led to none such before."""
+    was = {(key, name) for key, _, name in nowhere(old.machine)}
+    for key, way, name in nowhere(new.machine):
+        if (key, name) not in was:
+            yield Finding(REGRESSION, *key, f'{way} leads to cluster {quoted(name)}, which isn\'t there', came_by=[('cds', name)])
+
+
+def find_causes(findings):
+    """Puts each finding under the one that caused it; what causes a regression is one."""
+    by_key = {}
+    for finding in sorted(findings, key=lambda one: CLASSES.index(one.kind)):
+        if finding.of in WORD and finding.kind != UNJUDGED:
+            by_key.setdefault((finding.of, finding.name), finding)
+    for finding in findings:
+        cause = next((by_key[key] for key in finding.came_by if key in by_key and finding.kind != UNJUDGED), None)
+        while cause and cause.came_by and by_key.get(cause.came_by[0]):
+            cause = by_key[cause.came_by[0]]
+        if cause and cause is not finding:
+            finding.cause = cause
+            cause.effects.append(finding)
+            cause.kind = REGRESSION if finding.kind == REGRESSION else cause.kind
 
 
 # What nothing here judges
@@ -178,12 +210,24 @@ def results(key, was, now, generation):
 
 def contents(key, old, new):
     was, now = old.generations.get(key, []), new.generations.get(key, [])
+    told = list(chains(key, was[-1], now[-1], len(now))) if key[0] == 'lds' and any(old.live(key)) and any(new.live(key)) else []
+    yield from told
     for place, (before, after) in enumerate(zip(was, now), 1):
-        if before.content != after.content:
+        if before.content != after.content and not (told and place == len(was) == len(now) and before.content['address'] == after.content['address']):
             yield Finding(CHANGED, *key, change_words(key[0], before.content, after.content), place)
         yield from unread(key, before.sent, after.sent, before.content == after.content, generation=place)
     if len(was) != len(now) and (was and now or key[0] in ('eds', 'rds') and not (key in old.present and key not in new.present)):
         yield Finding(CHANGED, *key, f'{counted(len(now), "generation")}, before {len(was)}', len(now) or None)
+
+
+def chains(key, before, after, place):
+    """Filter chains that differ between the last generations of a listener: a regression where nothing takes what one took."""
+    found = list(changed_chains(*((one.content, one.sent.resources[-1][0]) for one in (before, after)))) if before.content != after.content else []
+    for words, is_lost in found[:MOST_PLACES]:
+        yield Finding(REGRESSION if is_lost else CHANGED, *key, words, place)
+    if len(found) > MOST_PLACES:
+        lost = any(is_lost for _, is_lost in found[MOST_PLACES:])
+        yield Finding(REGRESSION if lost else CHANGED, *key, f'{len(found) - MOST_PLACES} filter chains more differ', place)
 
 
 # Connections
@@ -193,30 +237,51 @@ def connections(old, new):
     for ask in dict.fromkeys([*old.asks, *new.asks]):
         was, now = old.asks.get(ask, []), new.asks.get(ask, [])
         for place in range(max(len(was), len(now))):
-            finding = connection(ask, was[place] if place < len(was) else None, now[place] if place < len(now) else None)
+            finding = connection(ask, was[place] if place < len(was) else None, now[place] if place < len(now) else None, new)
             if finding:
                 findings.append(finding)
     return findings
 
 
-def connection(ask, was, now):
+def connection(ask, was, now, new):
+    """What differs between two answers to one connection; None where nothing does, or one that wasn't tried."""
     address, port, host, path, pick, more = ask
+    came_by = causes_of(was, now, new)
+    was, now = (one and one.result for one in (was, now))
     name = f'connection to {named(address, 60)}:{port}, host {quoted(host, 60)}, path {quoted(path, 60)}' + (f', pick {pick}' if pick else '') + more
+    found = lambda kind, said: Finding(kind, 'connection', name, said, came_by=came_by)
     if was and now and now[0] == 'undecided' and was[0] in ANSWERED:
-        return Finding(UNJUDGED, 'connection', name, f'{result_words(now)}; before {result_words(was)}')
+        return found(UNJUDGED, f'{result_words(now)}; before {result_words(was)}')
     if was and was[0] in ANSWERED and (now is None or now[0] not in ANSWERED):
         lost = result_words(now) if now else 'not asked any more: its listener, domain or route is gone'
-        return Finding(REGRESSION, 'connection', name, f'{lost}; before {result_words(was)}')
+        return found(REGRESSION, f'{lost}; before {result_words(was)}')
     if was is None and now[0] in ANSWERED:
-        return Finding(CHANGED, 'connection', name, f'{result_words(now)}; it is new')
+        return found(CHANGED, f'{result_words(now)}; it is new')
     if was is None or now is None:
-        return Finding(CHANGED, 'connection', name, result_words(now) + '; it is new' if now else 'not asked any more')
+        return found(CHANGED, result_words(now) + '; it is new' if now else 'not asked any more')
     if was[:2] != now[:2]:
-        return Finding(CHANGED, 'connection', name, f'{result_words(now)}; before {result_words(was)}')
+        return found(CHANGED, f'{result_words(now)}; before {result_words(was)}')
     return None
 
 
+def causes_of(was, now, new):
+    """The keys of what may have made two answers differ, the likeliest first: a listener that is gone, the cluster that has no host, then
+    routes, listener and cluster."""
+    keys = [('lds', was.listener)] if was and was.listener and not new.live(('lds', was.listener))[0] else []
+    keys += [('cds', now.cluster)] if now and now.result[0] in LACKING else []
+    for one in filter(None, (was, now)):
+        keys += [('rds', one.routes), ('lds', one.listener), ('cds', one.cluster), ('eds', one.cluster)]
+    return [key for key in keys if key[1] is not None]
+
+
 # Forms
+
+def untried_words(new):
+    """The filter chains that no connection tried, in words; empty where there is none."""
+    found = new.untried()
+    names = few(f'{label} of {quoted(name, 60)}' for name, label in found)
+    return f'{counted(len(found), "filter chain")} to which no connection came: {names}' if found else ''
+
 
 def forms(old, new, also):
     found = []

@@ -6,8 +6,9 @@ from shared.fields import Reader
 from shared.pair import NotTheJournal
 from shared.pictures import follower
 from shared.profiles import OWN
+from shared.teller import choice_of
 from shared.urls import KINDS
-from shared.words import more_asked
+from shared.words import chains_of, more_asked
 
 
 class Sent:
@@ -32,13 +33,22 @@ class Generation:
         self.content, self.sent = content, Sent(profile=profile)
 
 
+class Tried:
+    """A connection: its `result` in words, and the names of its listener, its named routes and the cluster that it was led to, None where it
+    has none."""
+
+    def __init__(self, result, listener, choice):
+        self.result, self.listener, self.cluster = result, listener, choice.cluster
+        self.routes = choice.taken and choice.taken['serves'].get('rds')
+
+
 class Outcome:
     """Follows a journal to its end. Keys are (type, name); of a type that isn't read, (its URL, name)."""
 
     def __init__(self, pair):
         self.reading = pair.reading
         self.machine, self.envoy = follower(pair.reading, pair.format), EnvoyWaits(pair.reading)
-        self.generations, self.refusals, self.asks = {}, {}, {}
+        self.generations, self.refusals, self.asks, self.taken = {}, {}, {}, set()
         self.unjudged, self.present, self.anew = {}, set(), []
         self.names, self.versions, self.nonces, self.order = {}, {}, [], []
         self.lines = pair.reading.count
@@ -56,7 +66,10 @@ class Outcome:
         elif row.op == 'accept' and row.answer != 'inUse':
             members = line.members
             ask = members['address'], members['port'], members['host'], members['path'], members['pick'], more_asked(members)
-            self.asks.setdefault(ask, []).append(result_of(row.answer, self.names.get))
+            choice = choice_of(self.machine, members, entry.worker, row.answer)
+            self.taken.add(id(choice.taken))
+            listener = self.names.get(row.answer['listener']) if isinstance(row.answer, dict) else None
+            self.asks.setdefault(ask, []).append(Tried(result_of(row.answer, self.names.get, choice.cluster), listener, choice))
 
     def respond(self, line, answer, number):
         response = line.response
@@ -100,6 +113,11 @@ class Outcome:
         removed = Reader().any(line.members['message'], 'removed_resources', '')
         for name in removed if isinstance(removed, list) else []:
             self.unjudged.setdefault((of, name if isinstance(name, str) else ''), self.none_sent()).add({'removed': True})
+
+    def untried(self):
+        """(listener, label) of each filter chain that none of the connections came to, where there were some."""
+        rows = [self.machine.rows[number] for number in self.machine.active['lds']] if self.asks else []
+        return [(row.name, str(chain['label'])) for row in rows for chain in chains_of(row.content) if id(chain) not in self.taken]
 
     def live(self, key):
         """(generation that serves, generation that warms) of a cluster or listener now."""

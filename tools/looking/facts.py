@@ -1,15 +1,32 @@
-"""What is worth a look: Envoy's own errors, what waits for what, what was refused and by whom, what stands in for what."""
+"""What is worth a look: Envoy's own errors, where its dump says otherwise, what waits for what, what leads nowhere, what was refused and by
+whom, what stands in for what."""
 import json
 from collections import Counter
 
 from shared import rules
+from shared.alike import folded
+from shared.changes import LACKING
+from shared.leads import nowhere
 from shared.pictures import follower
 from shared.shown import quoted, shown
-from shared.teller import refusal_words
+from shared.teller import choice_of, refusal_words
 from shared.urls import WORD, WORDS
 from shared.words import counted
 
 MOST_WORDS = 400
+# The member of a refusal that a relayed client sent.
+OF_REQUEST = 'request'
+# Results of a connection for which nothing was found.
+LOST = ('noRoute', 'noListener', 'noChain')
+STATES = {'warming': 'warms', 'active': 'serves', 'draining': 'drains'}
+
+
+def note(report, errors, said):
+    """Adds to a report (type, nonce, words) of a relayed client's refusals, and the states in which Envoy's dump lists clusters and listeners."""
+    for kind, nonce, words in errors:
+        report.add('nack', kind, None, OF_REQUEST, envoy='refuses', before=words, after=nonce)
+    for (kind, name), states in said.items():
+        report.add('listed', kind, name, before=sorted(states))
 
 
 class Section:
@@ -22,14 +39,19 @@ class Section:
     def head(self):
         return f'{self.title}: {self.count or self.none}'
 
+    def folded(self):
+        """(text, the lines that it represents) of the lines: those that are alike are one text with their count."""
+        return folded(self.lines)
+
 
 class Facts:
-    """Follows a journal to its end beside the report of adapt. `errors` are (type, nonce, words) of a relayed client's refusals."""
+    """Follows a journal to its end beside the report of adapt, to which `note` added what it doesn't have."""
 
-    def __init__(self, pair, report, errors):
-        self.report, self.errors = report, list(errors)
+    def __init__(self, pair, report):
+        self.report = report
+        self.said = {(line['type'], line['name']): line['before'] for line in report.lines if line['action'] == 'listed'}
         self.machine = follower(pair.reading, pair.format)
-        self.verdicts, self.by_nonce, self.refusals, self.answers = {}, {}, Counter(), Counter()
+        self.verdicts, self.by_nonce, self.refusals, self.answers, self.lacking = {}, {}, Counter(), Counter(), Counter()
         for entry in pair.entries():
             self.take(entry)
 
@@ -39,7 +61,10 @@ class Facts:
         if row.op == 'response' and isinstance(row.answer, dict):
             self.respond(line, row.answer['verdicts'])
         if row.op == 'accept':
-            self.answers[row.answer if isinstance(row.answer, str) else row.answer['result']] += 1
+            result = row.answer if isinstance(row.answer, str) else row.answer['result']
+            self.answers[result] += 1
+            if result in LACKING:
+                self.lacking[result, choice_of(self.machine, line.members, entry.worker, row.answer).why] += 1
 
     def respond(self, line, verdicts):
         response, said = line.response, []
@@ -54,13 +79,15 @@ class Facts:
 
     def refusal(self, line, place, verdict):
         tag, complaints = refusal_words(line, place, verdict)
-        path, words = complaints[0] if complaints else ('', rules.words(int(verdict[1:]), line.response.items[place].profile, 'a rule that this tool does not know'))
+        profile = line.response.items[place].profile
+        path, words = complaints[0] if complaints else ('', rules.words(int(verdict[1:]), profile, 'a rule that this tool does not know'))
         return f'refused by {verdict} ({tag}): {shown(path, 120)} {shown(words, 200)}'.replace(':  ', ': ')
 
     # Sections
 
     def sections(self):
-        return [self.of_envoy(), self.waiting(), self.without(), Section('Refused here', [times(text, count) for text, count in self.refusals.items()]),
+        refused = Section('Refused here', [times(text, count) for text, count in self.refusals.items()])
+        return [self.of_envoy(), *self.otherwise(), *self.of_log(), self.waiting(), self.without(), *self.nowhere(), refused,
                 self.stand_ins(), self.connections(), *self.unreached()]
 
     def of_envoy(self):
@@ -70,12 +97,43 @@ class Facts:
             if line['action'] == 'nack' and line['name'] is not None:
                 here = self.verdicts.get((made.get((line['type'], line['name'])), line['name']), 'nothing to judge, it isn\'t in the dump')
                 lines.append(f'{WORD[line["type"]]} {quoted(line["name"])}: {quoted(line["before"], MOST_WORDS)}; here: {here}')
+            elif line['action'] == 'nack' and line['member'] == OF_REQUEST:
+                here = self.by_nonce.get((line['type'], line['after']), 'no such response was recorded')
+                lines.append(f'{WORDS.get(line["type"], "another type")}, nonce {quoted(line["after"])}: {quoted(line["before"], MOST_WORDS)}; here: {here}')
             elif line['action'] == 'nack':
                 lines.append(f'{WORDS.get(line["type"], "another type")}, {shown(line["after"])}: {quoted(line["before"], MOST_WORDS)}')
-        for kind, nonce, words in self.errors:
-            here = self.by_nonce.get((kind, nonce), 'no such response was recorded')
-            lines.append(f'{WORDS.get(kind, "another type")}, nonce {quoted(nonce)}: {quoted(words, MOST_WORDS)}; here: {here}')
         return Section('Envoy\'s own errors', lines, 'none told')
+
+    def otherwise(self):
+        """Where the dump lists a cluster or listener in another state than it is in here."""
+        here, lines = {}, []
+        for row in self.machine.rows.values():
+            here.setdefault((row.kind, row.name), {})[row.status] = row
+        for key, states in self.said.items():
+            found = here.get(key, {})
+            differ = [state for state in states if state not in found] + (['not warming'] if 'warming' in found and 'warming' not in states else [])
+            lines += [f'{WORD[key[0]]} {quoted(key[1])}: {self.other_state(state, found)}' for state in differ]
+        return [Section('Envoy says otherwise', lines)] if lines else []
+
+    def other_state(self, state, found):
+        """What Envoy says and what is here, in words."""
+        if state == 'not warming':
+            return f'Envoy lists no update of it that warms, and here one waits for {", ".join(self.machine.waits(found["warming"]))}'
+        here = ' and '.join(STATES[status] for status in STATES if status in found) or 'isn\'t there'
+        unread = ': it waits for something that isn\'t read here' if state == 'warming' and 'active' in found else ''
+        return f'Envoy says that it {STATES[state]}, here it {here}{unread}'
+
+    def of_log(self):
+        """The timeouts that a log tells."""
+        how = {'log': 'in the script it is', 'not-sent': 'it isn\'t in the script, since'}
+        found = [line for line in self.report.lines if line['member'] == 'fetchTimeout' and line['action'] in how]
+        lines = [f'{shown(line["before"], MOST_WORDS)}; {how[line["action"]]} {line["after"]}' for line in found]
+        return [Section('Timeouts that the log tells', lines)] if lines else []
+
+    def nowhere(self):
+        lines = [f'{WORD[kind] if kind == "lds" else WORDS[kind]} {quoted(name)}: {way} leads to cluster {quoted(cluster)}, which isn\'t there'
+                 for (kind, name), way, cluster in nowhere(self.machine)]
+        return [Section('Leads to a cluster that isn\'t there', lines)] if lines else []
 
     def waiting(self):
         """What warms at the end, and for what."""
@@ -106,10 +164,11 @@ class Facts:
         words = {'served': 'served', 'local': 'answered directly', 'redirect': 'redirected', 'noRoute': 'no route', 'noCluster': 'no cluster',
                  'noEndpoint': 'no host', 'noListener': 'no listener', 'noChain': 'no filter chain', 'inUse': 'number in use',
                  'undecided': 'undecided', 'elsewhere': 'gone elsewhere, to a host that no script tells'}
-        lines = [f'{count} {words[result]}' for result, count in self.answers.most_common()]
-        bad = any(self.answers[result] for result in ('noRoute', 'noCluster', 'noEndpoint', 'noListener', 'noChain'))
+        lines = [f'{count} {words[result]}' + (f': {why}' if why else '') for (result, why), count in self.lacking.most_common()]
+        others = [(result, count) for result, count in self.answers.most_common() if result not in LACKING]
+        lines += [f'{count} {words[result]}' for result, count in sorted(others, key=lambda pair: pair[0] not in LOST)]
+        bad = any(self.answers[result] for result in (*LACKING, *LOST))
         return Section('Connections tried', lines, alarms=bad, count=sum(self.answers.values()))
-
 
     def unreached(self):
         """Filter chains to which no connection of a script comes, where there are some."""

@@ -4,8 +4,8 @@ import collections
 from shared.changes import result_of
 from shared.choices import Ask, chain_for
 from shared.machine import Machine
+from shared.leads import leads_of
 from shared.pair import Pair
-from shared.words import clusters_of, chains_of
 
 from .transition import KEEPER, OPEN, PROBE, PUSH, SERVE, TIMEOUTS
 
@@ -119,26 +119,11 @@ class Journey:
         clusters = [row for row in serving if row.kind == 'cds']
         hosts = {row.name: None if 'elsewhere' in row.content else row.shows() for row in clusters}
         lacks = {row.name: self.machine.without(row) for row in clusters if row.lacking()}
-        leads = {}
+        leads, told = {}, set()
         for row in serving:
-            if row.kind == 'lds' and self.machine.phase == 'serving':
-                self.lead(row, leads)
+            for key, _, name in leads_of(row, told) if row.kind == 'lds' and self.machine.phase == 'serving' else ():
+                leads.setdefault(key, {})[name] = None
         return Sight(hosts, lacks, leads)
-
-    def lead(self, row, leads):
-        """Notes to which clusters a listener leads, by what says so."""
-        for chain in chains_of(row.content):
-            serves = chain['serves']
-            key = ('rds', serves['rds']) if serves.get('rds') else ('lds', row.name)
-            names = leads.setdefault(key, {})
-            if key[0] == 'rds' and names:
-                continue
-            if 'target' in serves:
-                names.update(dict.fromkeys(clusters_of(serves['target'])))
-            for _, _, routes in (row.tables.get(key, ()) if key[0] == 'rds' else serves.get('routes') or ()):
-                for _, actions, action in routes:
-                    if 'route' in actions:
-                        names.update(dict.fromkeys(clusters_of(action)))
 
     def chain_of(self, conn):
         """The words for the filter chain that an open connection came to."""

@@ -1,21 +1,24 @@
 """What changed of a resource or an answer, in words. Not proved."""
 from .shown import named, quoted
-from .words import content_words, few
+from .words import clusters_of, content_words, few
 
+# What a connection got whose cluster can't serve it, with the words for that cluster.
+LACKING = {'noCluster': 'isn\'t there', 'noEndpoint': 'has no host that may be chosen'}
 RESULTS = {'redirect': 'a redirect', 'noListener': 'no listener', 'noChain': 'no filter chain', 'noRoute': 'no route',
-           'noCluster': 'its cluster isn\'t there', 'noEndpoint': 'its cluster has no host that may be chosen',
+           **{kind: f'its cluster {words}' for kind, words in LACKING.items()},
            'undecided': 'undecided: no script tells which way it goes', 'elsewhere': 'goes elsewhere, where no script tells its host'}
 
 
-def result_of(answer, name_of):
-    """What a connection got: (result, name of the cluster or status, host). `name_of` gives the name of a cluster's generation."""
+def result_of(answer, name_of, cluster=None):
+    """What a connection got: (result, name of the cluster or status, host). `name_of` gives the name of a cluster's generation; `cluster` is
+    that of one that isn't there, or has no host, where it is known."""
     if not isinstance(answer, dict):
         return answer, None, None
     if answer['result'] == 'served':
         return 'served', name_of(answer['cluster']), (answer['address'], answer['port'])
     if answer['result'] == 'elsewhere':
         return 'elsewhere', name_of(answer.get('cluster')), None
-    return answer['result'], answer.get('status'), None
+    return answer['result'], cluster if answer['result'] in LACKING else answer.get('status'), None
 
 
 def change_words(kind, before, after):
@@ -42,9 +45,25 @@ def route_words(before, after):
     parts += [f'virtual host {quoted(name, 60)} new' for name in now if name not in was]
     for name in was:
         if name in now and was[name] != now[name]:
-            what = 'domains' if was[name][0] != now[name][0] else f'routes, {len(now[name][1])} and before {len(was[name][1])}'
-            parts.append(f'virtual host {quoted(name, 60)}: other {what}')
+            what = 'other domains' if was[name][0] != now[name][0] else routes_changed(was[name][1], now[name][1])
+            parts.append(f'virtual host {quoted(name, 60)}: {what}')
     return few(parts, 6) or 'virtual hosts in another order'
+
+
+def routes_changed(was, now):
+    """Which routes of a virtual host are others, where they are as many."""
+    if len(was) != len(now):
+        return f'other routes, {len(now)} and before {len(was)}'
+    others = [(place, before, after) for place, (before, after) in enumerate(zip(was, now), 1) if before != after]
+    return few((f'route {place} {lead_words(before, after)}' for place, before, after in others), 3)
+
+
+def lead_words(before, after):
+    """Where a route leads, if it isn't where it led before."""
+    was, now = (clusters_of(action) if 'route' in actions else [] for _, actions, action in (before, after))
+    if was == now:
+        return 'is another, to the same clusters' if now else 'is another'
+    return f'leads to {few(map(quoted, now), 3) or "no cluster"}, before to {few(map(quoted, was), 3) or "none"}'
 
 
 def result_words(result):
@@ -53,4 +72,6 @@ def result_words(result):
         return f'served by cluster {quoted(what, 60)} at {named(host[0], 60)}:{host[1]}'
     if kind == 'elsewhere' and what:
         return f'goes on from cluster {quoted(what, 60)} to a host that no script tells'
+    if kind in LACKING and what:
+        return f'cluster {quoted(what, 60)} {LACKING[kind]}'
     return f'answered with status {what}' if kind == 'local' else RESULTS.get(kind, kind)

@@ -13,10 +13,11 @@ NO, OPEN_ANSWER, YES = 'no', 'open', 'yes'
 
 class Choice:
     """`answer` is what a journal writes. `chain` says which filter chain took the connection and what that one asks for, where the listener
-    has several, and `why` what made the answer undecided, took it elsewhere, or left it without a chain; else they are empty."""
+    has several, and `why` what made the answer undecided, took it elsewhere, left it without a chain, or led it to a cluster that isn't there
+    or has no host; else they are empty. `taken` is the filter chain, `cluster` the name of the cluster that it was led to; else they are None."""
 
-    def __init__(self, answer, chain='', why=''):
-        self.answer, self.chain, self.why = answer, chain, why
+    def __init__(self, answer, chain='', why='', taken=None, cluster=None):
+        self.answer, self.chain, self.why, self.taken, self.cluster = answer, chain, why, taken, cluster
 
 
 class Ask:
@@ -49,8 +50,8 @@ def choose(picture, members):
     if chain is None:
         return Choice('noChain', why=f'listener {quoted(listener.name)} (generation {listener.number}) has none for it and no default one')
     label = chain_words(chain) if len(chains) + bool(default) > 1 else ''
-    answer, why = served(picture, chain['serves'], tables, ask)
-    return Choice({'listener': listener.number, **answer}, label, why)
+    answer, why, cluster = served(picture, chain, tables, ask)
+    return Choice({'listener': listener.number, **answer}, label, why, chain, cluster)
 
 
 def chain_words(chain):
@@ -58,46 +59,48 @@ def chain_words(chain):
     return str(chain['label']) + (f' ({asked})' if asked else '')
 
 
-def served(picture, serves, tables, ask):
-    """(the answer without its listener, why) of what a filter chain serves."""
+def served(picture, chain, tables, ask):
+    """(the answer without its listener, why, the cluster that it is led to) of what a filter chain serves."""
+    serves = chain['serves']
     if 'other' in serves:
         return elsewhere(f'its filter chain has {serves["other"]}')
     if 'target' in serves:
-        return answer_of_target(picture, serves['target'], ask)
-    route, why = route_for(tables.get(serves['rds'], ()) if 'rds' in serves else serves['routes'], ask)
-    if why:
-        return {'result': 'undecided'}, why
+        return answer_of_target(picture, serves['target'], ask, str(chain['label']))
+    route, words = route_for(tables.get(serves['rds'], ()) if 'rds' in serves else serves['routes'], ask)
     if route is None:
-        return {'result': 'noRoute'}, ''
+        return {'result': 'undecided' if words else 'noRoute'}, words, None
     _, actions, action = route
     if actions == ('direct_response',):
-        return {'result': 'local', 'status': action}, ''
+        return {'result': 'local', 'status': action}, '', None
     if actions == (ELSEWHERE,):
         return elsewhere(f'its route has {action}')
-    return answer_of_target(picture, action, ask) if actions == ('route',) else ({'result': 'redirect'}, '')
+    if actions == ('route',):
+        return answer_of_target(picture, action, ask, words + (f' of routes {quoted(serves["rds"])}' if 'rds' in serves else ''))
+    return {'result': 'redirect'}, '', None
 
 
-def answer_of_target(picture, target, ask):
+def answer_of_target(picture, target, ask, way):
+    """The same of a target; `way` says what leads there."""
     if isinstance(target, tuple) and target[:1] == (ELSEWHERE,):
         return elsewhere(f'its route\'s cluster is told by {target[1]}')
     name, weight = target_of(target, ask.pick)
-    found = picture.cluster(name)
+    found, leads = picture.cluster(name), f'{way} leads to cluster {quoted(name)}'
     if found is None:
-        return {'result': 'noCluster'}, ''
+        return {'result': 'noCluster'}, leads, name
     cluster, hosts = found
     if 'elsewhere' in cluster.content:
         why = f'cluster {quoted(name)} is of {type_words(cluster.content)}: Envoy or an extension finds its host'
-        return {'cluster': cluster.number, 'result': 'elsewhere'}, why
+        return {'cluster': cluster.number, 'result': 'elsewhere'}, why, name
     least = min((priority for _, _, priority, _ in hosts), default=None)
     hosts = [(host, share) for host, share, priority, _ in hosts if priority == least]
     if not hosts:
-        return {'result': 'noEndpoint'}, ''
+        return {'result': 'noEndpoint'}, leads, name
     address, port = by_weight(hosts, ask.pick // weight)
-    return {'address': address, 'cluster': cluster.number, 'port': port, 'result': 'served'}, ''
+    return {'address': address, 'cluster': cluster.number, 'port': port, 'result': 'served'}, '', name
 
 
 def elsewhere(why):
-    return {'result': 'elsewhere'}, why
+    return {'result': 'elsewhere'}, why, None
 
 
 # The listener, and its filter chain
@@ -169,7 +172,7 @@ NARROWING = tuple(zip(CRITERIA_WORDS, (by_port, by_range, by_name, by_transport,
 # The route
 
 def route_for(hosts, ask):
-    """(the first route of the host's virtual host that doesn't say no, or None, why it is open)."""
+    """(the first route of the host's virtual host that doesn't say no, its place in words), or (None, why that is open)."""
     name, routes = virtual_host(hosts, ask.host.lower())
     cut, headers = ask.path.partition(b'?')[0], None
     for place, route in enumerate(routes or ()):
@@ -178,10 +181,15 @@ def route_for(hosts, ask):
             headers = ask.headers()
         answer, why = said_by(match, ask.path, cut, headers)
         if answer == OPEN_ANSWER:
-            return None, f'route {place + 1} of virtual host {quoted(name)} has {why}, which nothing here decides'
+            return None, f'{route_words(place, name)} has {why}, which nothing here decides'
         if answer == YES:
-            return route, ''
+            return route, route_words(place, name)
     return None, ''
+
+
+def route_words(place, host):
+    """A route by its place in its virtual host."""
+    return f'route {place + 1} of virtual host {quoted(host)}'
 
 
 def said_by(match, path, cut, headers):

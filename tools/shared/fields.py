@@ -26,6 +26,19 @@ def camel(name):
     return re.sub(r'_([a-z])', lambda found: found.group(1).upper(), name)
 
 
+def get(holder, name):
+    """A member by its name or its lowerCamelCase name; None where it is absent."""
+    if not isinstance(holder, dict):
+        return None
+    found = holder.get(name)
+    return holder.get(camel(name)) if found is None else found
+
+
+def key_of(holder, name):
+    """The spelling in which a member stands in its holder."""
+    return name if holder.get(name) is not None or camel(name) not in holder else camel(name)
+
+
 def size(text):
     return len(text.encode('utf-8'))
 

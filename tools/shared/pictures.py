@@ -3,7 +3,6 @@ import bisect
 
 from .choices import choose
 from .machine import Machine
-from .profiles import ENVOY
 
 
 class Pictured(Machine):
@@ -72,6 +71,5 @@ def pictured(row):
 
 
 def follower(reading, format):
-    """A machine that follows a journal of a script. By the profile envoy it keeps the pictures, so that it can tell why a connection went where
-    it went."""
-    return (Pictured if reading.profile == ENVOY else Machine)(reading.workers, format, reading.profile)
+    """A machine that follows a journal of a script, and keeps the pictures, so that it can tell why a connection went where it went."""
+    return Pictured(reading.workers, format, reading.profile)

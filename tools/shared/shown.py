@@ -41,8 +41,14 @@ def named(text, most=80):
 
 def json_shown(tree, **how):
     """A value as one line of JSON that may go to a terminal: characters that aren't printable stand as escapes."""
-    text = json.dumps(tree, ensure_ascii=False, separators=(',', ':'), **how)
-    return text if text.isprintable() else ''.join(c if c.isprintable() else json.dumps(c)[1:-1] for c in text)
+    return json_escaped(json.dumps(tree, ensure_ascii=False, separators=(',', ':'), **how))
+
+
+def json_escaped(text, keep=''):
+    """A text of JSON with escapes, as JSON has them, in the place of characters that aren't printable, but those of `keep`."""
+    if text.isprintable():
+        return text
+    return ''.join(c if c.isprintable() or c in keep else '\\u007f' if c == '\x7f' else json.dumps(c)[1:-1] for c in text)
 
 
 def value_shown(value):

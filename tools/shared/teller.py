@@ -173,7 +173,7 @@ class Teller:
                     f'generation {answer["cluster"]}, {listener}')
         if answer['result'] == 'local':
             return f'{asked}: answered with status {answer["status"]}, {listener}'
-        return f'{asked}: {ENDS[answer["result"]]}, {listener}'
+        return f'{asked}: {ENDS[answer["result"]]}, {listener}{why}'
 
     def resources(self, line, verdicts, first, before):
         response, (live, watched) = line.response, before

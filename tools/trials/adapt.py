@@ -6,8 +6,9 @@ import subprocess
 import tempfile
 
 import trials
-from adapting.capture import documents, get, kind_of, text_of
+from adapting.capture import documents, kind_of, text_of
 from shared import rules, script
+from shared.fields import get
 from shared.pair import Pair
 from shared.replayed import replayed
 from shared.shown import json_shown

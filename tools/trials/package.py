@@ -9,7 +9,7 @@ import subprocess
 import tempfile
 
 from trials import TOP, called, content, loaded, ran, written
-from trials.links import blocks
+from trials.links import LINK, blocks, outside_fences
 
 # Answers the examples of each command as they stand, and says of every other input that it is none.
 PROGRAM = r'''#!/usr/bin/env python3
@@ -99,10 +99,22 @@ def made(check, module, folder, program):
     return path
 
 
+def dead_links(top):
+    """The relative links of the pages in a folder that lead to no file there."""
+    for place, _, names in os.walk(top):
+        for name in (name for name in names if name.endswith('.md')):
+            for target in LINK.findall(outside_fences(content(f'{place}/{name}').decode())):
+                path = target.partition('#')[0]
+                if path and not re.match(r'[a-z]+:', target) and not os.path.exists(f'{place}/{path}'):
+                    yield f'{name}: {target}'
+
+
 def commands_of_pages(check, folder, package):
     """Each command line of the pages that begins with one of the package's own commands, in the folder where it is unpacked."""
     subprocess.run(['tar', 'xzf', package, '-C', folder], check=True)
     top = next(f'{folder}/{name}' for name in os.listdir(folder) if name.startswith('warmgate-') and not name.endswith('.gz'))
+    dead = list(dead_links(top))
+    check(not dead, f'links of an unpacked package that lead nowhere: {dead}')
     tried = 0
     for page in ('README.md', 'examples/README.md'):
         for line in [line for block in blocks(content(f'{top}/{page}').decode()) for line in block]:

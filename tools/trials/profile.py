@@ -196,7 +196,8 @@ def compared(check, folder):
     for cluster, one, wanted, kind, words in cases:
         second = made(folder, 'second', response('cds', '1', cluster), response('lds', '2', one), *ENDS)
         status, out, errors = called(tool('diff'), *first, *second)
-        check(status == wanted and any(line.startswith(kind) and words in line for line in out.splitlines()), f'diff for {words!r}: {status} {out}{errors}')
+        said = words in out and any(line.startswith(kind) for line in out.splitlines())
+        check(status == wanted and said, f'diff for {words!r}: {status} {out}{errors}')
     lines = response('cds', '1', STATIC), response('lds', '2', listener(chain(route('c')))), *ENDS[:-1], {**ACCEPT, 'address': '10.1.0.1', 'port': 80}
     status, out, errors = called(tool('diff'), *made(folder, 'first', *lines), *made(folder, 'second', *lines, header={'workers': 1}))
     changed = [line for line in out.splitlines() if not line.startswith('same')]

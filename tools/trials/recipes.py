@@ -1,4 +1,4 @@
-"""The recipes of README.md and docs/RECORDING.md that begin with a config dump run as they stand under `set -e`."""
+"""The recipes of docs/RECORDING.md that begin with a config dump run as they stand under `set -e`."""
 import os
 import tempfile
 
@@ -9,8 +9,8 @@ from trials.links import blocks, read
 from trials.look import STAND_IN
 
 # (page, a command that the block has, files that it writes)
-RECIPES = [('README.md', 'tools/adapt', ('script.jsonl', 'journal.jsonl', 'report.jsonl')), ('docs/RECORDING.md', 'tools/look', ('config_dump.json',)),
-           ('docs/RECORDING.md', 'tools/adapt', ('script.jsonl', 'report.jsonl'))]
+RECIPES = [('docs/RECORDING.md', 'tools/look', ('config_dump.json',)),
+           ('docs/RECORDING.md', 'tools/adapt', ('script.jsonl', 'journal.jsonl', 'report.jsonl'))]
 
 
 def run(check):

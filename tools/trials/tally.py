@@ -50,9 +50,11 @@ def run(check):
 def lines(check, main, folder, program):
     told = lambda path: called(main, path, '--program', program, '--journals', f'{folder}/journals')
     status, out, errors = told(f'{WAITS}.jsonl')
-    check((status, json.loads(out), errors) == (0, WAITING, ''), f'tally of a recording that warms on: {status} {out} {errors}')
-    check(content(f'{WAITS}.journal.jsonl') == content(f'{folder}/journals/waits.journal.jsonl'), 'tally --journals keeps the journal')
-    check(os.listdir(f'{folder}/journals') == ['waits.journal.jsonl'], 'tally --journals keeps nothing else')
+    check((status, json.loads(out), errors) == (0, {**WAITING, 'recording': f'{WAITS}.jsonl'}, ''), f'tally of a recording that warms on: {status} {out} {errors}')
+    check(content(f'{WAITS}.journal.jsonl') == content(f'{folder}/journals{WAITS}.journal.jsonl'), 'tally --journals keeps the journal')
+    kept = [name for _, _, names in os.walk(f'{folder}/journals') for name in names]
+    check(kept == ['waits.journal.jsonl'], f'tally --journals keeps nothing else: {kept}')
+    by_path(check, folder, told, main)
     status, out, errors = told(f'{TOP}/examples/refused_here.jsonl')
     check(json.loads(out)['refused'] == {'Envoy too': 1, 'not known': 1, 'profile': 4}, f'tally of examples/refused_here.jsonl: {out}')
     for ends, wanted in (('3', 3), ('6', 6), ('126', 126), ('killed', 137)):
@@ -61,13 +63,22 @@ def lines(check, main, folder, program):
         del os.environ['ENDS']
         line = json.loads(out)
         fault = '' if ends == 'killed' else 'line 4: fault 6'
-        check(status == wanted and line == {**NOTHING, 'recording': 'waits.jsonl', 'lines': 4, 'status': wanted, 'fault': fault}, f'tally of a replay that ends with {ends}: {status} {out}')
+        check(status == wanted and line == {**NOTHING, 'recording': f'{WAITS}.jsonl', 'lines': 4, 'status': wanted, 'fault': fault}, f'tally of a replay that ends with {ends}: {status} {out}')
     status, out, errors = told(f'{folder}/none.jsonl')
     check(status == 4 and json.loads(out)['status'] == 4, f'tally of a recording that isn\'t there: {status} {out} {errors}')
     status, out, errors = told(written(f'{folder}/other.jsonl', '{"workers":1,"node":"noJournal"}\n'))
     check(status == 1 and json.loads(out)['status'] == 1, f'tally of what is no journal: {status} {out} {errors}')
     check(called(main)[0] == 2 and called(main, '--no-such')[0] == 2, 'tally with wrong arguments')
     check(called(main, '--help')[0] == 0, 'tally --help')
+
+
+def by_path(check, folder, told, main):
+    """Two recordings of one name in two folders are two."""
+    paths = [f'{folder}/{name}/client.jsonl' for name in ('a', 'b')]
+    lines = [told(written(path, content(f'{WAITS}.jsonl').decode()))[1] for path in paths]
+    out = called(main, '--table', written(f'{folder}/both', ''.join(lines)))[1]
+    check(out.startswith('recordings   2\n') and all(path in out for path in paths), f'a table of two recordings of one name: {out}')
+    check(all(os.path.exists(f'{folder}/journals{path[:-len(".jsonl")]}.journal.jsonl') for path in paths), 'tally --journals keeps both journals of one name')
 
 
 def pipes(check, program):
@@ -113,13 +124,13 @@ def table(check, main, folder):
     data = ''.join(json.dumps(line) + '\n' for line in given)
     told = lambda text, *words: called(main, '--table', written(f'{folder}/lines', text), *words)
     status, out, errors = told(data)
-    check(status == 0 and out.startswith('recordings   4\nstatus 0     3\nstatus 6     1\nrefused      profile 13, Envoy too 1\nby rule      V7 13, V11 1\n'
+    check(status == 0 and out.startswith('recordings   4, told in 5 lines, of which the last of each counts\nstatus 0     3\nstatus 6     1\nrefused      profile 13, Envoy too 1\nby rule      V7 13, V11 1\n'
                                          'warm on      1 generations in 1 recordings\n'), f'the head of a table: {out}')
     names = [row.split()[5].rstrip(':') for row in out.split('recording\n')[-1].splitlines()]
     check(names == ['z', 'w', 'q'], f'the rows of a table, the worst first: {names}')
     check('and 2 recordings more\n' in told(data, '--most', '1')[1], 'a table of many')
     status, out, errors = told(data + '{"recording":"x"}\nnothing\n')
-    check(status == 3 and out.startswith('recordings   4\n') and 'line 6 is none' in errors and 'line 7 is none' in errors, f'a table of what is no line: {errors}')
+    check(status == 3 and out.startswith('recordings   4, ') and 'line 6 is none' in errors and 'line 7 is none' in errors, f'a table of what is no line: {errors}')
     check(told('')[:2] == (0, 'recordings   0\nrefused      none\nby rule      none\nwarm on      0 generations in 0 recordings\n'), 'a table of nothing')
 
 

@@ -89,6 +89,7 @@ def run(check):
         proofs(check, trial)
         statuses(check, trial)
         streams(check, trial)
+        terminal(check, trial)
         unproved(check, trial)
         package(check, trial)
         os.remove(f'{trial.top}/crates.txt')
@@ -164,6 +165,28 @@ def streams(check, trial):
         told.send_signal(number)
         out = told.communicate(timeout=120)[0]
         check((begun, out, told.returncode) == (b'program replay\nwaits\n', b'told\n', 9), f'warmgate at signal {number}: {begun} {out} {told.returncode}')
+
+
+def terminal(check, trial):
+    """What steers a terminal or turns the direction is escaped there, and stands in a file as it is; a full device is told."""
+    hostile = 'caf\u00e9 \x9b31m \u202eabc \u2066 \u061c \ufeff \x85'
+    echo = written(f'{trial.top}/../echo', f"#!/bin/sh\nprintf '%s\\n' '{hostile}'\nexit 3\n", 0o755)
+    kept = content(trial.built)
+    shutil.copy(echo, trial.built)
+    above, below = pty.openpty()
+    done = subprocess.run([trial.link, 'replay'], stdin=subprocess.DEVNULL, stdout=below, stderr=subprocess.PIPE, env=trial.bare)
+    os.close(below)
+    shown = os.read(above, 4096).decode()
+    os.close(above)
+    wanted = 'caf\u00e9 \\u009b31m \\u202eabc \\u2066 \\u061c \\ufeff \\u0085\r\n'
+    check((shown, done.returncode) == (wanted, 3), f'warmgate on a terminal prints {shown!r}: {done}')
+    status, out, _ = trial.start('replay')
+    check((status, out.decode()) == (3, hostile + '\n'), f'warmgate into a pipe: {status} {out}')
+    written(trial.built, kept.decode(), 0o755)
+    for words in (['--help'], ['--version']):
+        with open('/dev/full', 'wb') as full:
+            done = subprocess.run([trial.link, *words], stdout=full, stderr=subprocess.PIPE, env=trial.bare)
+        check(done.returncode == 5 and done.stderr == b'warmgate: the output can\'t be written\n', f'warmgate {words} on a full device: {done}')
 
 
 def unproved(check, trial):
