@@ -7,21 +7,20 @@ use Rattle.std.proofs.lemmas.Bool.{and_parts}
 use Rattle.std.proofs.lemmas.Grind.{flat_map-append}
 use Rattle.std.proofs.lemmas.List.{take_more, take_all, map-append}
 use Rattle.std.proofs.lemmas.Option.{slice_get-get_or}
+use Rattle.std.proofs.lemmas.List.Elements.{filter-append}
 use Rattle.std.proofs.lemmas.List.Folds.{list_any-append, list_all-append}
-use Rattle.ev_types.specs.Items.{content_kind}
 use Rattle.ev_types.specs.Kinds.{kind_same, kind_decides}
 use Rattle.ev_types.specs.Same.{bool_same, bool_decides, bytes_decide}
 use Rattle.ev_types.specs.declared.clusters.Discovery.{Discovery}
 use Rattle.ev_types.specs.declared.clusters.Discovery.TheVariants.{Static, Eds as by_eds, Elsewhere}
 use Rattle.ev_types.specs.declared.contents.Content.{Content}
 use Rattle.ev_types.specs.declared.contents.Content.TheVariants.{Cluster as a_cluster, Assignment as an_assignment, Listener as a_listener, Routes as routes}
-use Rattle.ev_types.specs.declared.contents.Kind.TheVariants.{Eds, Rds}
+use Rattle.ev_types.specs.declared.contents.Kind.{Kind}
 use Rattle.ev_types.specs.declared.listeners.FilterChain.{FilterChain}
 use Rattle.ev_types.specs.declared.listeners.Serve.{Serve}
 use Rattle.ev_types.specs.declared.listeners.Serve.TheVariants.{Rds as by_rds, Inline, Tcp, Other}
-use Rattle.ev_model.specs.Watching.{Dependency, dependency_same, each_once, dependencies_of, serve_dependencies}
-use Rattle.ev_indexes.specs.Needs.{discovery_need, serve_need, places_of, need_at, needs_at, names_of}
-use Rattle.ev_indexes.specs.Worlds.{needs_of}
+use Rattle.ev_model.specs.Watching.{Dependency, dependency_same, each_once, dependencies_of, names_awaited, serve_dependencies}
+use Rattle.ev_indexes.specs.Needs.{discovery_need, serve_need, places_of, need_at, needs_at}
 
 -- one place more
 pub needs_at-more : (places : List (Option Dependency)) (i : ℕ) → i < length places → needs_at (take (i + 1) places) ≡ needs_at (take i places) ++ option_to_list (need_at places i)
@@ -130,31 +129,6 @@ all-places p content = sym (ap (list_all p) (once-places content) ∙ all-each_o
 pub each-places : (P : Dependency → Type 0) (content : Content) → AllByRecursion P (needs_at (places_of content)) → AllByRecursion P (dependencies_of content)
 each-places P content all = subst (AllByRecursion P) (sym (once-places content)) (each_once-all P (needs_at (places_of content)) all)
 
--- each dependency is of the kind that the content's kind needs
-pub dependency-kinds : (content : Content) → AllByRecursion (λ (d : Dependency). d.kind ≡ needs_of (content_kind content)) (dependencies_of content)
-dependency-kinds (a_cluster cluster) = by cluster.discovery
-  where
-    by : (d : Discovery) → AllByRecursion (λ (d : Dependency). d.kind ≡ Eds) (dependencies_of (a_cluster (record cluster { discovery = d })))
-    by (Static rows) = tt
-    by (by_eds service limited fresh) = (refl, tt)
-    by Elsewhere = tt
-dependency-kinds (an_assignment rows) = tt
-dependency-kinds (a_listener listener) = each-places (λ (d : Dependency). d.kind ≡ Rds) (a_listener listener) (chains listener.filter_chains)
-  where
-    one : (o : Option Serve) (ds : List Dependency) → AllByRecursion (λ (d : Dependency). d.kind ≡ Rds) ds
-        → AllByRecursion (λ (d : Dependency). d.kind ≡ Rds) (option_to_list (option_and_then serve_need o) ++ ds)
-    one None ds all = all
-    one (Some (by_rds name limited)) ds all = (refl, all)
-    one (Some (Inline table)) ds all = all
-    one (Some (Tcp target)) ds all = all
-    one (Some Other) ds all = all
-
-    chains : (cs : List FilterChain)
-        → AllByRecursion (λ (d : Dependency). d.kind ≡ Rds) (needs_at (map (λ (c : FilterChain). serve_need c.serve) cs ++ option_and_then serve_need listener.default_filter_chain ∷ []))
-    chains [] = one listener.default_filter_chain [] tt
-    chains (c ∷ cs) = one (Some c.serve) _ (chains cs)
-dependency-kinds (routes table) = tt
-
 -- a walk from place to place: one that passes settles that one does
 any-place : (p : Dependency → Bool) (places : List (Option Dependency)) (i : ℕ) → list_any p (option_to_list (need_at places i)) ≡ true → list_any p (needs_at places) ≡ true
 any-place p [] i h = absurd (true≢false (sym h))
@@ -203,8 +177,13 @@ pub all-done : (p : Dependency → Bool) (content : Content) (i : ℕ) → lengt
 all-done p content i done before =
     sym (all-places p content) ∙ (λ k. list_all p (needs_at (sym (take_all i (places_of content) done) k))) ∙ before
 
--- names that are gathered place by place
-pub names-more : (places : List (Option Dependency)) (i : ℕ) → i < length places
-    → names_of (needs_at (take (i + 1) places)) ≡ names_of (needs_at (take i places)) ++ names_of (option_to_list (need_at places i))
-names-more places i within =
-    ap names_of (needs_at-more places i within) ∙ map-append (λ (d : Dependency). d.name) (needs_at (take i places)) (option_to_list (need_at places i))
+-- names of a kind that are gathered place by place
+pub awaited-append : (kind : Kind) (ds es : List Dependency) → names_awaited kind (ds ++ es) ≡ names_awaited kind ds ++ names_awaited kind es
+awaited-append kind ds es =
+    ap (map (λ (d : Dependency). d.name)) (filter-append (λ (d : Dependency). kind_same d.kind kind) ds es)
+    ∙ map-append (λ (d : Dependency). d.name) (filter (λ (d : Dependency). kind_same d.kind kind) ds) (filter (λ (d : Dependency). kind_same d.kind kind) es)
+
+pub names-more : (kind : Kind) (places : List (Option Dependency)) (i : ℕ) → i < length places
+    → names_awaited kind (needs_at (take (i + 1) places)) ≡ names_awaited kind (needs_at (take i places)) ++ names_awaited kind (option_to_list (need_at places i))
+names-more kind places i within =
+    ap (names_awaited kind) (needs_at-more places i within) ∙ awaited-append kind (needs_at (take i places)) (option_to_list (need_at places i))

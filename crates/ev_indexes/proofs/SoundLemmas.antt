@@ -1,11 +1,10 @@
--- Sound worlds: other statuses and a new row keep a world sound; and what a sound world says of the rows of one kind.
+-- Sound worlds: other statuses and a new row keep a world sound.
 use Rattle.std.proofs.Common.{◌≡◌, ◌∙◌, ℕ, ◌+◌, ◌<◌, Bool, true, false, cond, nat_eq, List, [], ◌∷◌, ◌++◌, None, Some, option_map, refl, sym, ap, subst, arith}
 use Rattle.std.specs.List.{IsDistinct, AllByRecursion}
 use Rattle.std.specs.Option.{option_or}
 use Rattle.std.proofs.lemmas.Bool.{ne_eqb}
 use Rattle.std.proofs.lemmas.List.Folds.{find-append}
 use Rattle.ev_types.specs.Items.{content_kind}
-use Rattle.ev_types.specs.Kinds.{kind_same, kind_decides}
 use Rattle.ev_types.specs.Texts.{IsName}
 use Rattle.ev_types.specs.declared.contents.Kind.{Kind}
 use Rattle.ev_types.specs.declared.contents.Content.{Content}
@@ -16,7 +15,7 @@ use Rattle.ev_model.specs.Rows.{with_statuses, replaced_status, new_row, rows_wi
 use Rattle.ev_generations.specs.Tables.{is_number, row_in, numbers_of}
 use Rattle.ev_generations.proofs.TableLemmas.{numbers_of-with_statuses, row_in-with_statuses}
 use Rattle.ev_indexes.specs.declared.state.State.{State}
-use Rattle.ev_indexes.specs.Worlds.{rows_of_kind, IsSound, HasRows}
+use Rattle.ev_indexes.specs.Worlds.{IsSound, HasRows}
 use Rattle.ev_indexes.proofs.WhereLemmas.{row_with, flipped}
 
 -- what doesn't look at statuses holds of rows with other ones
@@ -29,20 +28,9 @@ pub all-push : (P : GenRow → Type 0) (rows : List GenRow) (row : GenRow) → A
 all-push P [] row all p = (p, tt)
 all-push P (r ∷ rows) row all p = (all.0, all-push P rows row all.1 p)
 
--- the rows of a kind
-pub all-rows_of_kind : (P Q : GenRow → Type 0) (kind : Kind) → ((r : GenRow) → P r → r.kind ≡ kind → Q r) → (rows : List GenRow) → AllByRecursion P rows → AllByRecursion Q (rows_of_kind kind rows)
-all-rows_of_kind P Q kind f [] all = tt
-all-rows_of_kind P Q kind f (row ∷ rows) all = by (kind_same row.kind kind) refl (all-rows_of_kind P Q kind f rows all.1)
-  where
-    by : (b : Bool) → kind_same row.kind kind ≡ b → AllByRecursion Q (rows_of_kind kind rows) → AllByRecursion Q (cond b (row ∷ rows_of_kind kind rows) (rows_of_kind kind rows))
-    by true e rest = (f row all.0 ((kind_decides row.kind kind).0 e), rest)
-    by false e rest = rest
-
--- the rows of a state that stands for a world have contents of its kind
-pub contents-of : (s : State) (world : World) → HasRows s world → AllByRecursion (λ (r : GenRow). content_kind r.content ≡ s.kind) s.table.rows
-contents-of s world stands =
-    subst (AllByRecursion (λ (r : GenRow). content_kind r.content ≡ s.kind)) (sym stands.rows)
-    (all-rows_of_kind (λ (r : GenRow). content_kind r.content ≡ r.kind) (λ (r : GenRow). content_kind r.content ≡ s.kind) s.kind (λ r typed own. typed ∙ own) world.rows stands.sound.typed)
+-- the rows of a state that stands for a world have contents of their kinds
+pub contents-of : (s : State) (world : World) → HasRows s world → AllByRecursion (λ (r : GenRow). content_kind r.content ≡ r.kind) s.table.rows
+contents-of s world stands = subst (AllByRecursion (λ (r : GenRow). content_kind r.content ≡ r.kind)) (sym stands.rows) stands.sound.typed
 
 pub sound-with_statuses : (world : World) (f : GenRow → RowStatus) → IsSound world → IsSound (record world { rows = with_statuses f world.rows })
 sound-with_statuses world f sound = record {

@@ -2,7 +2,6 @@
 -- one for its default chain. Source: Envoy's `Cluster.eds_cluster_config` and `HttpConnectionManager.rds`.
 use Rattle.std.specs.Prelude.{ℕ, Bool, false, ◌&&◌, List, [], ◌∷◌, ◌++◌, Option, None, Some, map, slice_get, unwrap_or, option_and_then, option_to_list}
 use Rattle.std.specs.List.{list_any, flat_map, AllByRecursion}
-use Rattle.std.specs.Str.{bytes_eq}
 use Rattle.ev_types.specs.Same.{bool_same}
 use Rattle.ev_types.specs.Texts.{IsName}
 use Rattle.ev_types.specs.declared.clusters.Discovery.{Discovery}
@@ -14,7 +13,9 @@ use Rattle.ev_types.specs.declared.listeners.FilterChain.{FilterChain}
 use Rattle.ev_types.specs.declared.listeners.Listener.{Listener}
 use Rattle.ev_types.specs.declared.listeners.Serve.{Serve}
 use Rattle.ev_types.specs.declared.listeners.Serve.TheVariants.{Rds as by_rds, Inline, Tcp, Other}
-use Rattle.ev_model.specs.Watching.{Dependency}
+use Rattle.ev_model.specs.Watching.{Dependency, is_dependency}
+use Rattle.ev_mentions.specs.Keys.{named}
+use Rattle.ev_mentions.specs.declared.kind_keys.Key.{Key}
 
 -- what a cluster depends on, if on anything
 abbrev pub discovery_need : Discovery → Option Dependency
@@ -49,22 +50,26 @@ need_at places place = unwrap_or (slice_get places place) None
 abbrev pub needs_at : List (Option Dependency) → List Dependency
 needs_at places = flat_map option_to_list places
 
+-- what a dependency is on: a name of its kind
+abbrev pub key_of : Dependency → Key
+key_of d = named d.kind d.name
+
+-- it is on this name of a kind
+abbrev pub is_on : Key → Dependency → Bool
+is_on key d = is_dependency key.kind key.name d
+
 -- one of these is on the name
-abbrev pub is_needed : List ℕ → List Dependency → Bool
-is_needed name ds = list_any (λ (d : Dependency). bytes_eq d.name name) ds
+abbrev pub is_needed : Key → List Dependency → Bool
+is_needed key ds = list_any (is_on key) ds
 
 -- it is on the name, with this mark: whether the wait ends at the initial fetch timeout
-abbrev pub is_need : List ℕ → Bool → Dependency → Bool
-is_need name limited d = bool_same d.limited limited && bytes_eq d.name name
+abbrev pub is_need : Key → Bool → Dependency → Bool
+is_need key limited d = bool_same d.limited limited && is_on key d
 
 -- one of these is on the name, with this mark
-abbrev pub is_needed_so : List ℕ → Bool → List Dependency → Bool
-is_needed_so name limited ds = list_any (is_need name limited) ds
+abbrev pub is_needed_so : Key → Bool → List Dependency → Bool
+is_needed_so key limited ds = list_any (is_need key limited) ds
 
 -- each is on a name of 1 to 512 bytes
 abbrev pub HaveNames : List Dependency → Type 0
 HaveNames ds = AllByRecursion (λ (d : Dependency). IsName d.name) ds
-
--- the names of these, in order
-abbrev pub names_of : List Dependency → List (List ℕ)
-names_of ds = map (λ (d : Dependency). d.name) ds

@@ -1,17 +1,20 @@
 //! What a picture shows of listeners.
 
 ghost use Rattle.std.specs.Prelude.{◌≡◌, Some, map, option_map, IfOk};
-ghost use Rattle.ev_types.specs.declared.contents.Kind.TheVariants.{Lds};
+ghost use Rattle.ev_types.specs.declared.contents.Kind.TheVariants.{Rds};
+ghost use Rattle.ev_mentions.specs.Keys.{named};
 ghost use Rattle.ev_model.specs.Picture.{table_in};
 ghost use Rattle.ev_indexes.specs.Indexes.{IsIndexed};
 ghost use Rattle.ev_indexes.specs.Reads.{chain_in, listener_in, routing_in};
 ghost use Rattle.ev_indexes.specs.Shown.{first_of, listener_shown_in, listener_by, routed_at};
 ghost use Rattle.ev_indexes.specs.Watched.{watch_in};
-ghost use Rattle.ev_indexes.specs.Worlds.{InWorldsOf};
+ghost use Rattle.ev_indexes.specs.Worlds.{InWorlds};
 
 use crate::{State, Watches};
 use ev_model::{Routing, ServedChain, ServedListener};
-use ev_types::{Content, FilterChain, Gen, GenRow, Name, RouteTable, Seq, Serve, Shared, TryCopy};
+use ev_types::{
+    Content, FilterChain, Gen, GenRow, Kind, Name, RouteTable, Seq, Serve, Shared, TryCopy,
+};
 use std::alloc::{AllocError, Global};
 
 impl State {
@@ -20,7 +23,7 @@ impl State {
     pub fn listener(&self, alloc: Global, number: Gen) -> Result<Option<ServedListener>, AllocError>
         requires indexed { IsIndexed self.now }
         ensures rows { IfOk result (λ served. served ≡ listener_by self.now number) }
-        ensures world { IfOk result (λ served. InWorldsOf Lds self.now (λ world. served ≡ routed_at world number)) }
+        ensures world { IfOk result (λ served. InWorlds self.now (λ world. served ≡ routed_at world number)) }
     {
         match self.table.get(number) {
             Some(row) => active_listener(alloc, &self.watches, row),
@@ -37,7 +40,7 @@ fn active_listener(
 ) -> Result<Option<ServedListener>, AllocError>
     ensures { IfOk result (λ served. served ≡ listener_shown_in watches.now (Some row.now)) }
 {
-    if !row.status.is_active() {
+    if !row.kind.is(Kind::Lds) || !row.status.is_active() {
         return Ok(None);
     }
     listener(alloc, watches, row)
@@ -111,9 +114,9 @@ fn routing(alloc: Global, watches: &Watches, serve: &Serve) -> Result<Routing, A
 
 // The routes that are the value of a name, or none.
 fn value(alloc: Global, watches: &Watches, name: &Name) -> Result<Shared<RouteTable>, AllocError>
-    ensures { IfOk result (λ table. table ≡ table_in (watch_in watches.now name.now).value) }
+    ensures { IfOk result (λ table. table ≡ table_in (watch_in watches.now (named Rds name.now)).value) }
 {
-    if let Some(watch) = watches.get(name) {
+    if let Some(watch) = watches.get(Kind::Rds, name) {
         if let Some(Content::Routes(table)) = &watch.value {
             return table.copy(alloc);
         }

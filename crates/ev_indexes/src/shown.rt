@@ -1,20 +1,19 @@
 //! What a picture shows of clusters.
 
 ghost use Rattle.std.specs.Prelude.{◌≡◌, true, Some, filter, IfOk, IfSome};
-ghost use Rattle.ev_types.specs.declared.contents.Kind.TheVariants.{Cds};
 ghost use Rattle.ev_types.specs.Statuses.{is_active};
 ghost use Rattle.ev_model.specs.Picture.{is_elsewhere};
 ghost use Rattle.ev_endpoints.specs.Kept.{marked_in};
 ghost use Rattle.ev_indexes.specs.Indexes.{IsIndexed, IsAssignmentOf, MarksAssignment};
 ghost use Rattle.ev_indexes.specs.Reads.{is_eligible_in, cluster_in, eligible_in};
 ghost use Rattle.ev_indexes.specs.Shown.{cluster_at, cluster_shown_in, cluster_by};
-ghost use Rattle.ev_indexes.specs.Worlds.{InWorldsOf};
+ghost use Rattle.ev_indexes.specs.Worlds.{InWorlds};
 
 use crate::hosts::{assignment, is_checked};
 use crate::{State, Watches};
 use ev_endpoints::Endpoints;
 use ev_hosts::{ChosenHosts, ShownCluster};
-use ev_types::{Assignment, Content, Discovery, Gen, GenRow, Seq, Shared, TryCopy};
+use ev_types::{Assignment, Content, Discovery, Gen, GenRow, Kind, Seq, Shared, TryCopy};
 use std::alloc::{AllocError, Global};
 
 impl State {
@@ -25,7 +24,7 @@ impl State {
         requires indexed { IsIndexed self.now }
         requires marked { MarksAssignment self.now number }
         ensures rows { IfOk result (λ served. served ≡ cluster_by self.now number) }
-        ensures world { IfOk result (λ served. InWorldsOf Cds self.now (λ world. served ≡ cluster_at world number)) }
+        ensures world { IfOk result (λ served. InWorlds self.now (λ world. served ≡ cluster_at world number)) }
     {
         match self.table.get(number) {
             Some(row) => active_cluster(alloc, &self.watches, &self.results, row),
@@ -45,7 +44,7 @@ fn active_cluster(
         → IfSome (marked_in results.now row.now.number) (IsAssignmentOf watches.now row.now.content) }
     ensures { IfOk result (λ served. served ≡ cluster_shown_in watches.now results.now (Some row.now)) }
 {
-    if !row.status.is_active() {
+    if !row.kind.is(Kind::Cds) || !row.status.is_active() {
         return Ok(None);
     }
     Ok(Some(cluster(alloc, watches, results, row)?))

@@ -1,70 +1,82 @@
 ghost use Rattle.std.specs.Prelude.{◌≡◌, ◌<◌, ◌++◌, [], ◌∷◌, length, option_to_list, IfOk, OnOk};
-ghost use Rattle.ev_model.specs.Watching.{watched_of, sorted_names};
-ghost use Rattle.ev_indexes.specs.Needs.{names_of, need_at, needs_at, places_of};
+ghost use Rattle.ev_model.specs.Watching.{names_awaited, watched_of, sorted_names};
+ghost use Rattle.ev_indexes.specs.Needs.{need_at, needs_at, places_of};
 ghost use Rattle.ev_indexes.specs.Reads.{names_needed, names_watched};
-ghost use Rattle.ev_indexes.specs.Worlds.{InWorldsWatching};
+ghost use Rattle.ev_indexes.specs.Worlds.{InWorlds};
 
 use crate::{State, need_at, place_count};
 use ev_generations::Generations;
-use ev_types::{Content, GenRow, Name, Seq, TryCopy};
+use ev_types::{Content, GenRow, Kind, Name, Seq, TryCopy};
 use std::alloc::{AllocError, Global};
 
 impl State {
-    /// The names that live generations depend on, in the order of their bytes, each once. It goes over the whole table.
-    pub fn watched(&self, alloc: Global) -> Result<Seq<Name>, AllocError>
-        ensures rows { IfOk result (λ names. names ≡ names_watched self.now.table.rows) }
-        ensures world { IfOk result (λ names. InWorldsWatching self.now (λ world kind. names ≡ watched_of world kind)) }
+    /// The names of a kind that live generations depend on, in the order of their bytes, each once. It goes over the whole table.
+    pub fn watched(&self, alloc: Global, kind: Kind) -> Result<Seq<Name>, AllocError>
+        ensures rows { IfOk result (λ names. names ≡ names_watched kind self.now.table.rows) }
+        ensures world { IfOk result (λ names. InWorlds self.now (λ world. names ≡ watched_of world kind)) }
     {
-        let mut names = needs(alloc, &self.table)?;
+        let mut names = needs(alloc, kind, &self.table)?;
         sort(&mut names);
         Ok(Seq::from_vec(names))
     }
 }
 
-// The names that live rows of a table depend on.
-fn needs(alloc: Global, table: &Generations) -> Result<Vec<Name>, AllocError>
-    ensures { IfOk result (λ names. names.items ≡ names_needed table.now.rows) }
+// The names of a kind that live rows of a table depend on.
+fn needs(alloc: Global, kind: Kind, table: &Generations) -> Result<Vec<Name>, AllocError>
+    ensures { IfOk result (λ names. names.items ≡ names_needed kind table.now.rows) }
 {
     let mut names = Vec::new(alloc);
     for row in table.rows() {
-        push_needs_of(alloc, row, &mut names)?;
+        push_needs_of(alloc, kind, row, &mut names)?;
     }
     Ok(names)
 }
 
-// Puts the names that a row depends on to the others, where it is live.
-fn push_needs_of(alloc: Global, row: &GenRow, names: &mut Vec<Name>) -> Result<(), AllocError>
-    ensures { OnOk result (names.new.items ≡ names.old.items ++ names_needed (row.now ∷ [])) }
+// Puts the names of a kind that a row depends on to the others, where it is live.
+fn push_needs_of(
+    alloc: Global,
+    kind: Kind,
+    row: &GenRow,
+    names: &mut Vec<Name>,
+) -> Result<(), AllocError>
+    ensures { OnOk result (names.new.items ≡ names.old.items ++ names_needed kind (row.now ∷ [])) }
 {
     if row.status.is_live() {
-        push_needs(alloc, &row.content, names)?;
+        push_needs(alloc, kind, &row.content, names)?;
     }
     Ok(())
 }
 
-// Puts the names that a generation of this content depends on to the others, place by place.
-fn push_needs(alloc: Global, content: &Content, names: &mut Vec<Name>) -> Result<(), AllocError>
-    ensures { OnOk result (names.new.items ≡ names.old.items ++ names_of (needs_at (places_of content.now))) }
+// Puts the names of a kind that a generation of this content depends on to the others, place by place.
+fn push_needs(
+    alloc: Global,
+    kind: Kind,
+    content: &Content,
+    names: &mut Vec<Name>,
+) -> Result<(), AllocError>
+    ensures { OnOk result (names.new.items ≡ names.old.items ++ names_awaited kind (needs_at (places_of content.now))) }
 {
     for place in 0..place_count(content) {
-        push_need(alloc, content, place, names)?;
+        push_need(alloc, kind, content, place, names)?;
     }
     Ok(())
 }
 
-// Puts the name that it depends on at a place to the others.
+// Puts the name that it depends on at a place to the others, where it is of the kind.
 fn push_need(
     alloc: Global,
+    kind: Kind,
     content: &Content,
     place: usize,
     names: &mut Vec<Name>,
 ) -> Result<(), AllocError>
     requires within { place < length (places_of content.now) }
     ensures { OnOk result (names.new.items ≡ names.old.items
-        ++ names_of (option_to_list (need_at (places_of content.now) place))) }
+        ++ names_awaited kind (option_to_list (need_at (places_of content.now) place))) }
 {
-    if let Some(need) = need_at(content, place) {
-        names.push(need.name.copy(alloc)?)?;
+    match need_at(content, place) {
+        Some(need) if need.kind.is(kind) => names.push(need.name.copy(alloc)?)?,
+        _ => {}
     }
     Ok(())
 }

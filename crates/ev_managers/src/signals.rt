@@ -15,7 +15,7 @@ use std::alloc::{AllocError, Global};
 use std::sync::ledger::Ledger;
 
 impl Managers {
-    /// Something came for a name of endpoints or of routes that a live generation depends on. Out of memory, nothing is promised.
+    /// Something came for a name of a kind that a live generation depends on. Out of memory, nothing is promised.
     pub fn arrive<L: Ledger>(
         &mut self,
         alloc: Global,
@@ -30,9 +30,7 @@ impl Managers {
         ensures rows { OnOk result (HaveSameRows self.old self.new) }
         ensures stands { OnOk result (Follow self.old self.new (with_arrived kind arrival.now name.now)) }
     {
-        let made = self.made;
-        let own = self.of_mut(kind);
-        own.arrive(alloc, made, name, arrival, steps)?;
+        self.core.arrive(alloc, kind, name, arrival, steps)?;
         Ok(())
     }
 
@@ -48,16 +46,15 @@ impl Managers {
         requires kept { AreManagersKept self.old }
         ensures kept { OnOk result (AreManagersKept self.new) }
         ensures retired { IfOk result (λ retired. AreRetired retired self.old self.new) }
-        // Whatever world they stood for, they stand for that world where the name has come to its end: one of endpoints or of routes
-        // is to be watched.
+        // Whatever world they stood for, they stand for that world where the name has come to its end: one of what is asked
+        // for by name is to be watched.
         ensures stands { OnOk result (FollowEnd self.old self.new kind name.now) }
     {
         if is_by_name(kind) {
             self.end_value(alloc, kind, name, steps)?;
             return Ok(Seq::new(alloc));
         }
-        let retired = self.end_rows(alloc, kind, name, steps)?;
-        Ok(retired)
+        self.end_rows(alloc, kind, name, steps)
     }
 
     // A name of generations has come to its end: one that warms is dropped, and one that serves drains. Answers both.
@@ -74,10 +71,8 @@ impl Managers {
         ensures retired { IfOk result (λ retired. AreRetired retired self.old self.new) }
         ensures stands { OnOk result (Follow self.old self.new (with_end kind name.now)) }
     {
-        let own = self.of_mut(kind);
-        let ended = own.end(name, steps)?;
-        let retired = stood(alloc, ended)?;
-        Ok(retired)
+        let ended = self.core.end(kind, name, steps)?;
+        stood(alloc, ended)
     }
 
     // A name of what generations depend on has come to its end: where it is watched, its value is none from now on. That tells

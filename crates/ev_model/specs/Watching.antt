@@ -62,12 +62,17 @@ dependencies_of (an_assignment rows) = []
 dependencies_of (a_listener listener) = each_once (flat_map serve_dependencies (serves_of listener))
 dependencies_of (routes table) = []
 
+-- the kinds whose resources are asked for by name, in the order of their requests: those before listeners
+abbrev pub kinds_before : List Kind
+kinds_before = Eds ∷ []
+
+-- and those behind them
+abbrev pub kinds_behind : List Kind
+kinds_behind = Rds ∷ []
+
 -- resources of this type are asked for by name
 abbrev pub is_by_name : Kind → Bool
-is_by_name Cds = false
-is_by_name Eds = true
-is_by_name Lds = false
-is_by_name Rds = true
+is_by_name kind = list_any (kind_same kind) (kinds_before ++ kinds_behind)
 
 -- the dependency is of this kind and name
 abbrev pub is_dependency : Kind → List ℕ → Dependency → Bool

@@ -138,19 +138,16 @@ module _ (numbers : List ℕ) (world : World) (apart : AreNumbered world.rows) (
   pub shown_made : shown_with (changes_at world numbers) (last_picture world).shown ≡ shown_of world
   shown_made = λ i. record { clusters = clusters_made i; listeners = listeners_made i }
 
--- a state's names
-part_names : (s : Part) (world : World) → HasRows s world → IsIndexed s → NamesDiffer s.kind world.rows
-part_names s world stands indexed = subst (λ (rows : List GenRow). IsDistinct bytes_eq (map (λ (r : GenRow). r.name) (filter (λ (r : GenRow). is_active r.status) rows))) stands.rows (names-differ s indexed)
+-- the names of the active rows of a kind
+names_shown : (kind : Kind) (s : State) (world : World) → ManagesAt s world → NamesDiffer kind world.rows
+names_shown kind s world at =
+    subst (NamesDiffer kind) at.follows.stands.managers.rows (names-differ s.managers.core.state at.kept.indexed kind)
 
 pub cluster_names : (s : State) (world : World) → ManagesAt s world → NamesDiffer Cds world.rows
-cluster_names s world at =
-    subst (λ kind. NamesDiffer kind world.rows) at.kept.clusters.rows
-    (part_names s.managers.clusters.state world at.follows.stands.managers.clusters at.kept.clusters.kept.indexed)
+cluster_names s world at = names_shown Cds s world at
 
 pub listener_names : (s : State) (world : World) → ManagesAt s world → NamesDiffer Lds world.rows
-listener_names s world at =
-    subst (λ kind. NamesDiffer kind world.rows) at.kept.listeners.rows
-    (part_names s.managers.listeners.state world at.follows.stands.managers.listeners at.kept.listeners.kept.indexed)
+listener_names s world at = names_shown Lds s world at
 
 -- a publication: the last picture shows what is to be shown
 pub published_shown : (s : State) (world : World) → ManagesAt s world → IsShownBut [] (publish world).0

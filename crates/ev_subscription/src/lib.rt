@@ -19,6 +19,7 @@
 #![tactic(auto)]
 
 mod changes;
+mod kinds;
 mod names;
 mod replies;
 mod requests;
@@ -26,6 +27,7 @@ mod responses;
 mod subscription;
 mod versions;
 
-pub use changes::NameChange;
+pub use changes::{NameChange, WatchedNames};
+pub use kinds::{kinds_before, kinds_behind};
 pub use replies::reply_of;
 pub use subscription::Subscription;

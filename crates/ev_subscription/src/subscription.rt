@@ -1,12 +1,12 @@
 ghost use Rattle.std.specs.Prelude.{◌≡◌, [], false, map, IfOk, OnOk, OnErr};
 ghost use Rattle.ev_types.specs.declared.contents.Kind.{Kind};
-ghost use Rattle.ev_types.specs.declared.contents.Kind.TheVariants.{Eds, Rds};
 ghost use Rattle.ev_model.specs.Rows.{versions_left};
 ghost use Rattle.ev_model.specs.Versions.{is_bounded, is_kept, renewed, versions_of, without_version};
 ghost use Rattle.ev_subscription.specs.Held.{versions_in};
-ghost use Rattle.ev_subscription.specs.Subscriptions.{held_of, kept_version, with_accepted, with_held, without_removed, without_versions};
+ghost use Rattle.ev_subscription.specs.Subscriptions.{held_of, kept_version, with_accepted, with_held, without_ended, without_removed, without_versions};
 ghost use Rattle.ev_subscription.specs.Subscriptions.{InWorlds, StandsAfter, StandsWith, StandsWithoutEnded, with_stream, with_versions};
 
+use crate::changes::NameChange;
 use crate::names::VersionName;
 use crate::versions::{self, Held, Versions};
 use ev_mentions::Mentions;
@@ -206,15 +206,24 @@ impl Subscription {
         }
     }
 
-    /// Forgets the versions of the endpoints and of the routes whose names ceased to be watched. It takes no memory, and looks at
-    /// these names alone.
-    pub fn forget_unwatched(&mut self, endpoints: &Seq<Name>, routes: &Seq<Name>)
-        // Whatever world it stood for, where no other name that is held of either kind is one that nobody watches, it stands for
-        // that world without what isn't watched.
-        ensures { StandsWithoutEnded endpoints.now routes.now self.old self.new }
+    /// Forgets the versions of the names that ceased to be watched, of the kinds before listeners and of those behind them. It takes no
+    /// memory, and looks at these names alone.
+    pub fn forget_unwatched(&mut self, before: &Seq<NameChange>, behind: &Seq<NameChange>)
+        // Whatever world it stood for, where no other name that is held is one that nobody watches, it stands for that world without
+        // what isn't watched.
+        ensures { StandsWithoutEnded before.now behind.now self.old self.new }
     {
-        self.forget_all(Kind::Eds, endpoints.as_slice());
-        self.forget_all(Kind::Rds, routes.as_slice());
+        self.forget_ended(before.as_slice());
+        self.forget_ended(behind.as_slice());
+    }
+
+    // Forgets the versions of the names of each of these kinds that ceased to be watched.
+    fn forget_ended(&mut self, changes: &[NameChange])
+        ensures { StandsAfter (with_versions (without_ended changes.now)) self.old self.new }
+    {
+        for change in changes {
+            self.forget_all(change.kind, change.ended.as_slice());
+        }
     }
 
     // Forgets the versions of these names of a kind.

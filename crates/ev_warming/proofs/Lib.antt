@@ -21,5 +21,4 @@ pub mod AbsenceLemmas
 pub mod JudgedLemmas
 pub mod QuietLemmas
 pub mod PromotedLemmas
-pub mod MadeLemmas
 pub mod PlaceLemmas

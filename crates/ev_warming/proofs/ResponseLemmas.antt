@@ -32,6 +32,7 @@ pub versions-stand : (s : State) (world : World) (versions : List KeptVersion) �
 versions-stand s world versions stands = record {
   sound = record { table = stands.sound.table; typed = stands.sound.typed; named = stands.sound.named; heard = stands.sound.heard };
   rows = stands.rows;
+  made = stands.made;
   told = stands.told;
   timed = stands.timed;
   value = stands.value;
@@ -152,8 +153,8 @@ nothing-left kind response rows = sym (statuses_same rows) ∙ (λ i. with_statu
     by row true = refl
     by row false = refl
 
-pub nothing-stands : (s : State) (world : World) (response : ResponseParts) → HasRows s world → HasRows s (record world { rows = with_statuses (status_left_by s.kind response []) world.rows })
-nothing-stands s world response stands = rows-stand s world (with_statuses (status_left_by s.kind response []) world.rows) (nothing-left s.kind response world.rows) stands
+pub nothing-stands : (s : State) (world : World) (kind : Kind) (response : ResponseParts) → HasRows s world → HasRows s (record world { rows = with_statuses (status_left_by kind response []) world.rows })
+nothing-stands s world kind response stands = rows-stand s world (with_statuses (status_left_by kind response []) world.rows) (nothing-left kind response world.rows) stands
 
 -- one resource more has come in
 pub item-more : (kind : Kind) (verdicts : List Verdict) (items : List ItemParts) (place : ℕ) (verdict : Verdict) (item : ItemParts) (world : World)
@@ -176,13 +177,6 @@ pub removals-stand : (s : State) (world : World) (kind : Kind) (response : Respo
 removals-stand s world kind response rows stands =
     subst (HasRows s) (removals-are kind response world rows)
     (versions-stand s (record world { rows = rows_left kind response world.rows }) (versions_left kind response world.versions) stands)
-
--- removals draw no number
-pub removals-draw : (kind : Kind) (response : ResponseParts) (world : World) → world.made ≡ (with_removals kind response world).made
-removals-draw Cds response world = refl
-removals-draw Lds response world = refl
-removals-draw Eds response world = refl
-removals-draw Rds response world = refl
 
 -- a listed name is removed where no resource has it
 pub is_unlisted-listed : (response : ResponseParts) (name : List ℕ) (removed : Bool) → removed ≡ is_removed response name → is_among name response.removed ≡ true → is_unlisted response name ≡ removed

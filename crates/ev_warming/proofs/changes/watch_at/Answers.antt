@@ -1,7 +1,7 @@
 use Rattle.std.proofs.Common.{◌∙◌, cond, Option, option_to_list, subst}
-use Rattle.std.specs.Str.{bytes_eq}
 use Rattle.ev_model.specs.Watching.{Dependency}
-use Rattle.ev_indexes.specs.Needs.{HaveNames}
+use Rattle.ev_mentions.specs.Keys.{key_same}
+use Rattle.ev_indexes.specs.Needs.{HaveNames, key_of}
 use Rattle.ev_indexes.specs.Watched.{watch_in, watched_too, watched_for}
 use Rattle.ev_warming.proofs.IndexLemmas.{on_ok}
 use Rattle.ev_warming.proofs.PlaceLemmas.{watched-one}
@@ -12,7 +12,7 @@ returns-in-Some-clause-watched c =
     let old = c.args.watches.now in
     on_ok c.watch.result c.watch.ensures (λ turned q.
     turned q
-    ∙ (λ i. cond (bytes_eq (c.need.view_is i).name q) (watched_too c.args.number (c.need.view_is i).limited (watch_in old (c.need.view_is i).name)) (watch_in old q))
+    ∙ (λ i. cond (key_same (key_of (c.need.view_is i)) q) (watched_too c.args.number (c.need.view_is i).limited (watch_in old (key_of (c.need.view_is i)))) (watch_in old q))
     ∙ watched-one c.args.number c.in-Some.need q old
     ∙ (λ i. watched_for c.args.number q (option_to_list (c.in-Some.ensures.value i)) (watch_in old q)))
 

@@ -1,8 +1,6 @@
 use Rattle.std.proofs.Common.{◌∙◌, ◌<◌, ◌≤◌, ◌&&◌, not, cond, length, take, option_to_list, sym, subst}
-use Rattle.std.specs.Str.{bytes_eq}
 use Rattle.std.proofs.lemmas.List.{take_all}
-use Rattle.ev_model.specs.Watching.{Dependency}
-use Rattle.ev_indexes.specs.Needs.{is_needed, need_at, needs_at, places_of}
+use Rattle.ev_indexes.specs.Needs.{is_needed, is_on, need_at, needs_at, places_of}
 use Rattle.ev_indexes.specs.Watched.{unwatched, watch_in, has_watcher}
 use Rattle.ev_indexes.proofs.PlaceLemmas.{needs_at-more, any-places}
 use Rattle.ev_warming.proofs.ForgettingLemmas.{forgets-more}
@@ -25,4 +23,4 @@ returns c = λ q.
     let done = take_all c.loop-place.place places (subst (λ n. n ≤ c.loop-place.place) c.place_count-place-end.ensures c.loop-place-test.false) in
     c.loop-place.invariant q
     ∙ (λ i. cond (is_needed q (needs_at (done i)) && not (has_watcher old)) unwatched old)
-    ∙ (λ i. cond (any-places (λ (d : Dependency). bytes_eq d.name q) c.args.content.now i && not (has_watcher old)) unwatched old)
+    ∙ (λ i. cond (any-places (is_on q) c.args.content.now i && not (has_watcher old)) unwatched old)

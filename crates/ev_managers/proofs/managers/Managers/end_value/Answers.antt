@@ -2,7 +2,7 @@ use Rattle.std.proofs.Common.{◌≡◌, false, sym, ap, subst, ◌∙◌}
 use Rattle.std.proofs.lemmas.Bool.{false≢true}
 use Rattle.ev_warming.specs.Arrivals.{with_arrived}
 use Rattle.ev_managers.specs.Managers.{StandFor, is_watched_in}
-use Rattle.ev_managers.proofs.FrameLemmas.{value-end}
+use Rattle.ev_managers.proofs.EndLemmas.{value-end}
 use Rattle.ev_managers.proofs.managers.Managers.end_value.Goals as goal
 
 pub returns-then-not-is_watched-clause-stands : goal.returns-then-not-is_watched-clause-stands
