@@ -251,7 +251,7 @@ class Projection:
 
 
 class ProjectionAsEnvoy(Projection):
-    """The same for a script of the profile envoy, which takes what Envoy takes: but for listeners on UDP, and ports by name."""
+    """The same for a script of the profile envoy, which takes what Envoy takes: but for ports by name."""
 
     profile = ENVOY
 
@@ -264,20 +264,8 @@ class ProjectionAsEnvoy(Projection):
 
     def lds(self, body):
         socket = get(get(body, 'address'), 'socket_address')
-        self.of_udp = get(socket, 'protocol') in ('UDP', 1)
         if self.level == 'all' and isinstance(socket, dict):
             self.socket(socket)
-            if self.of_udp and get(body, 'default_filter_chain') is None and not list_in(body, 'filter_chains'):
-                body[key_of(body, 'filter_chains')] = [{}]
-                self.change('stand-in', 'filter_chains', 'no filter chain', 'one without filters')
-            for chain in objects(body, 'filter_chains') if self.of_udp else ():
-                self.over_tls(get(chain, 'filter_chain_match'))
-
-    def over_tls(self, match):
-        """TLS for QUIC."""
-        if text_in(match, 'transport_protocol') == 'quic':
-            match[key_of(match, 'transport_protocol')] = 'tls'
-            self.change('stand-in', 'transport_protocol', 'quic', 'tls')
 
     def parts_of(self, kind, body, removed):
         return []

@@ -3,6 +3,7 @@ from .fields import MAX_NAME, PROTOCOL, WRONG, Reader, size
 
 NOT_ADS = ('path', 'path_config_source', 'api_config_source')
 EITHER = {'ads': Reader.object, 'self': Reader.object}
+UDP = PROTOCOL['UDP']
 
 
 def read_source(reader, holder, name, path):
@@ -63,9 +64,22 @@ def read_socket(reader, socket, path, rule):
         reader.breaks(rule, f'{path}.portValue', 'is missing')
     elif port is not WRONG and port > 65535:
         reader.breaks(rule, f'{path}.portValue', f'is {port}, and 65535 is the most')
-    if rule == 14 and reader.enumeration(socket, 'protocol', path, PROTOCOL) == 1:
+    if rule == 14 and reader.enumeration(socket, 'protocol', path, PROTOCOL) == UDP and not reader.as_envoy:
         reader.breaks(14, f'{path}.protocol', 'is UDP')
     return address, port
+
+
+def is_udp(body):
+    """Whether the address of a listener is one of UDP."""
+    reader = Reader()
+    outer = reader.object(body, 'address', '')
+    socket = reader.object(outer, 'socket_address', '') if isinstance(outer, dict) else None
+    return isinstance(socket, dict) and reader.enumeration(socket, 'protocol', '', PROTOCOL) == UDP
+
+
+def socket_of(content):
+    """Where a listener listens: its address and port, and whether by UDP; None of what is no listener."""
+    return (*content['address'], content['udp']) if 'udp' in content else None
 
 
 def read_address_as_envoy(reader, outer, path, rule):

@@ -6,6 +6,7 @@ chooses for a connection. Not proved: the definitions in docs/DEFINITIONS.md and
 import bisect
 import collections
 
+from .addresses import socket_of
 from .pictures import Pictured
 from .urls import URLS
 
@@ -102,7 +103,7 @@ class Answering(Pictured):
             found.append(self.verdict(kind, item, counts[item.name] > 1, removed, gone, made, places))
             if found[-1] == 'new':
                 made.add(item.name)
-                places.setdefault(item.content.get('address'), set()).add(item.name)
+                places.setdefault(socket_of(item.content), set()).add(item.name)
         return found
 
     def verdict(self, kind, item, is_twice, removed, gone, made, places):
@@ -122,7 +123,7 @@ class Answering(Pictured):
 
     def is_taken(self, item, gone, made, places):
         """Whether a live listener of another name has the address, after removals and what was made earlier in the response."""
-        address = item.content['address']
+        address = socket_of(item.content)
         if places.get(address, set()) - {item.name}:
             return True
         return any(row.live() and row.name != item.name and row.name not in gone and not (row.status == 'warming' and row.name in made)

@@ -1,28 +1,31 @@
 """Matches of filter chains by the profile envoy: which rules they break, and what they ask for. Not proved."""
 import ipaddress
 
-from .fields import SOURCE, WRONG, Reader, lower
+from .fields import SOURCE, WRONG, lower
 from .shown import quoted
 
-CRITERIA = ('ports', 'ranges', 'names', 'transports', 'protocols')
-CRITERIA_WORDS = {'ports': 'destinationPort', 'ranges': 'prefixRanges', 'names': 'serverNames', 'transports': 'transportProtocol',
-                  'protocols': 'applicationProtocols'}
-FROM_SOURCES = {'direct_source_prefix_ranges': Reader.objects, 'source_prefix_ranges': Reader.objects, 'source_ports': Reader.numbers,
-                'source_type': lambda reader, holder, name, path: reader.enumeration(holder, name, path, SOURCE)}
+# The criteria of where a connection goes and what it offers, and of where it comes from, in the order in which chains are narrowed by them.
+OF_DESTINATION = {'ports': 'destination_port', 'ranges': 'prefix_ranges', 'names': 'server_names', 'transports': 'transport_protocol',
+                  'protocols': 'application_protocols'}
+OF_SOURCE = {'direct_ranges': 'direct_source_prefix_ranges', 'types': 'source_type', 'source_ranges': 'source_prefix_ranges', 'source_ports': 'source_ports'}
+CRITERIA = (*OF_DESTINATION, *OF_SOURCE)
+SAME_MACHINE, EXTERNAL = SOURCE['SAME_IP_OR_LOOPBACK'], SOURCE['EXTERNAL']
 
 
 class ChainMatch:
-    """What a match asks for: a tuple of values for each criterion, empty where it has none. A range is (family, length, the bits that count);
-    `sources` are the members by which it asks for a source."""
+    """What a match asks for: a tuple of values for each criterion, empty where it has none. A range is (family, length, the bits that count), a
+    type the number of its enum; `sources` are the members by which it asks for a source, as they are written."""
 
-    def __init__(self, ports=(), ranges=(), names=(), transports=(), protocols=(), sources=()):
-        self.ports, self.ranges, self.names, self.transports, self.protocols, self.sources = ports, ranges, names, transports, protocols, sources
+    def __init__(self, sources=(), **values):
+        self.sources = sources
+        for criterion in CRITERIA:
+            setattr(self, criterion, tuple(values.get(criterion, ())))
 
     def values(self):
         return tuple(getattr(self, criterion) for criterion in CRITERIA)
 
     def __eq__(self, other):
-        return isinstance(other, ChainMatch) and (self.values(), bool(self.sources)) == (other.values(), bool(other.sources))
+        return isinstance(other, ChainMatch) and self.values() == other.values()
 
     def __hash__(self):
         return hash(self.values())
@@ -33,8 +36,7 @@ class ChainMatch:
 
     def clashes(self, other):
         """Whether one connection could fit both as well."""
-        return not self.sources and not other.sources and all(
-            set(one) & set(two) or not one and not two for one, two in zip(self.values(), other.values()))
+        return all(set(one) & set(two) or not one and not two for one, two in zip(self.values(), other.values()))
 
 
 ANY = ChainMatch()
@@ -56,16 +58,36 @@ def read_chain_match(reader, match, path):
     if not isinstance(match, dict):
         return ANY
     port, transport = reader.number(match, 'destination_port', path), reader.text(match, 'transport_protocol', path)
-    if isinstance(port, int) and not 1 <= port <= 65535:
-        reader.breaks(6, reader.path_of(match, 'destination_port', path), f'is {port} and not a port from 1 to 65535')
+    ports = ports_of(reader, [port] if isinstance(port, int) else [], match, 'destination_port', path, 'is')
     names = listed(reader.texts(match, 'server_names', path))
     for name in names:
         look_at_server_name(reader, name, reader.path_of(match, 'server_names', path))
-    ranges = [read_range(reader, one, f'{path}.prefixRanges[{place}]') for place, one in enumerate(listed(reader.objects(match, 'prefix_ranges', path)))]
-    sources = [name for name, value in reader.members(match, path, FROM_SOURCES).items() if value not in ([], 0, WRONG)]
-    return ChainMatch((port,) if isinstance(port, int) else (), tuple(one for one in ranges if one), tuple(map(lower, names)),
-                      (transport,) if isinstance(transport, str) and transport else (), tuple(listed(reader.texts(match, 'application_protocols', path))),
-                      tuple(reader.path_of(match, name, '') for name in sources))
+    sources = read_sources(reader, match, path)
+    return ChainMatch(tuple(reader.path_of(match, OF_SOURCE[criterion], '') for criterion, values in sources.items() if values),
+                      ports=ports, ranges=read_ranges(reader, match, 'prefix_ranges', path), names=map(lower, names),
+                      transports=[transport] if isinstance(transport, str) and transport else [],
+                      protocols=listed(reader.texts(match, 'application_protocols', path)), **sources)
+
+
+def read_sources(reader, match, path):
+    """What a match asks for by each criterion of where a connection comes from."""
+    kind = reader.enumeration(match, 'source_type', path, SOURCE)
+    return {'direct_ranges': read_ranges(reader, match, 'direct_source_prefix_ranges', path),
+            'types': [kind] if kind in (SAME_MACHINE, EXTERNAL) else [],
+            'source_ranges': read_ranges(reader, match, 'source_prefix_ranges', path),
+            'source_ports': ports_of(reader, listed(reader.numbers(match, 'source_ports', path)), match, 'source_ports', path, 'has')}
+
+
+def ports_of(reader, numbers, match, name, path, word):
+    for number in numbers:
+        if not 1 <= number <= 65535:
+            reader.breaks(6, reader.path_of(match, name, path), f'{word} {number} and not a port from 1 to 65535')
+    return numbers
+
+
+def read_ranges(reader, match, name, path):
+    found = [read_range(reader, one, f'{reader.path_of(match, name, path)}[{place}]') for place, one in enumerate(listed(reader.objects(match, name, path)))]
+    return [one for one in found if one]
 
 
 def listed(found):

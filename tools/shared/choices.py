@@ -2,8 +2,10 @@
 
 A script of this project's own profile has none of what makes a choice undecided or takes it elsewhere, so that the same rules serve both.
 """
-from .chain_matches import CRITERIA_WORDS, bits_of, ip_address
-from .fields import lower
+import itertools
+
+from .chain_matches import EXTERNAL, OF_DESTINATION, OF_SOURCE, SAME_MACHINE, bits_of, ip_address
+from .fields import decimal, lower
 from .routes import ELSEWHERE, OPEN
 from .shown import quoted
 from .words import match_words, type_words
@@ -21,10 +23,12 @@ class Choice:
 
 
 class Ask:
-    """What a connection asks for: its address, host and path as bytes, headers by their names in small letters."""
+    """What a connection asks for: where it is taken to come to (`address` and `port`), at first where it is meant to go, host and path as bytes,
+    headers by their names in small letters."""
 
     def __init__(self, members):
-        self.members, self.address, self.port, self.pick = members, members['address'], members['port'], members['pick']
+        self.members, self.pick, self.source = members, members['pick'], members.get('source')
+        self.address, self.port = members['address'], members['port']
         self.host, self.path = members['host'].encode(), members['path'].encode()
         self.name, self.alpn = lower(members.get('serverName', '')), members.get('alpn', [])
         self.transport = 'tls' if members.get('tls', False) else 'raw_buffer'
@@ -38,7 +42,7 @@ class Ask:
 def choose(picture, members):
     """The choice of a picture for an accept: `picture` gives the `listener` and the `cluster` that it shows, with what it shows of them."""
     ask = Ask(members)
-    found = listener_for(picture, ask)
+    found = reached(picture, ask)
     if found is None:
         return Choice('noListener')
     listener, tables = found
@@ -105,26 +109,43 @@ def elsewhere(why):
 
 # The listener, and its filter chain
 
-def listener_for(picture, ask):
-    found = picture.listener(ask.address, ask.port)
+def reached(picture, ask):
+    """The listener that takes a connection, or None; the ask is told where that one takes it to come to."""
+    meant, delivered = (ask.address, ask.port), end_of(ask.members.get('redirectedTo'))
+    found = listener_for(picture, *(delivered or meant))
+    if found is None or delivered is None:
+        return found
+    if not found[0].content['restores']:
+        ask.address, ask.port = delivered
+        return found
+    return found[0].content['hands_over'] and listener_for(picture, *meant) or found
+
+
+def end_of(members):
+    return members and (members['address'], members['port'])
+
+
+def listener_for(picture, address, port):
+    """The listener that a connection to this address comes to: the one there, else one that takes every address."""
+    found = picture.listener(address, port)
     if found is not None:
         return found
-    address = ip_address(ask.address)
-    if address is None:
+    ip = ip_address(address)
+    if ip is None:
         return None
-    every = ('0.0.0.0', '::') if address.version == 4 else ('::',)
-    found = (picture.listener(text, ask.port) for text in every)
+    every = ('0.0.0.0', '::') if ip.version == 4 else ('::',)
+    found = (picture.listener(text, port) for text in every)
     return next((one for one in found if one is not None and one[0].content['takes_all']), None)
 
 
 def chain_for(chains, default, ask):
     """(the chain that takes the connection or None, why that isn't decided)."""
     left = list(chains)
-    for criterion, narrowed in NARROWING:
+    for criterion, narrowed in NARROWING + (BY_SOURCE if ask.source else ()):
         left = narrowed(left, ask) or [chain for chain in left if not getattr(chain['match'], criterion)]
-    asking = next((chain for chain in left if chain['match'].sources), None)
+    asking = None if ask.source else next((chain for chain in left if chain['match'].sources), None)
     if asking:
-        return None, f'{asking["label"]} asks for a source by {", ".join(asking["match"].sources)}, and no script tells one'
+        return None, f'{asking["label"]} asks for a source by {", ".join(asking["match"].sources)}, and the accept has no source'
     return (left[0] if left else default), ''
 
 
@@ -133,9 +154,13 @@ def by_port(chains, ask):
 
 
 def by_range(chains, ask):
-    """The chains with the longest range that holds the address."""
-    address = ip_address(ask.address)
-    found = [(length, chain) for chain in chains for family, length, bits in chain['match'].ranges
+    return with_longest(chains, 'ranges', ask.address)
+
+
+def with_longest(chains, criterion, text):
+    """The chains with the longest range that holds an address."""
+    address = ip_address(text)
+    found = [(length, chain) for chain in chains for family, length, bits in getattr(chain['match'], criterion)
              if address is not None and address.version == family and bits_of(address, length) == bits]
     longest = max((length for length, _ in found), default=None)
     return [chain for chain in chains if any(one is chain and length == longest for length, one in found)]
@@ -166,7 +191,30 @@ def by_protocol(chains, ask):
     return []
 
 
-NARROWING = tuple(zip(CRITERIA_WORDS, (by_port, by_range, by_name, by_transport, by_protocol)))
+def by_direct_range(chains, ask):
+    return with_longest(chains, 'direct_ranges', ask.source['address'])
+
+
+def by_type(chains, ask):
+    kind = SAME_MACHINE if is_of_this_machine(ip_address(ask.source['address']), ip_address(ask.address)) else EXTERNAL
+    return [chain for chain in chains if kind in chain['match'].types]
+
+
+def is_of_this_machine(source, local):
+    """A source that is no IP address, a loopback one (127.0.0.0/8 or ::1), or the address that the connection comes to."""
+    return source is None or source == local or (bits_of(source, 8) == 127 if source.version == 4 else int(source) == 1)
+
+
+def by_source_range(chains, ask):
+    return with_longest(chains, 'source_ranges', ask.source['address'])
+
+
+def by_source_port(chains, ask):
+    return [chain for chain in chains if ask.source['port'] in chain['match'].source_ports]
+
+
+NARROWING = tuple(zip(OF_DESTINATION, (by_port, by_range, by_name, by_transport, by_protocol)))
+BY_SOURCE = tuple(zip(OF_SOURCE, (by_direct_range, by_type, by_source_range, by_source_port)))
 
 
 # The route
@@ -203,7 +251,10 @@ def said_by(match, path, cut, headers):
 
 def open_words(test):
     """What is open of a test, in words."""
-    return f'{test[2][1]} of header {quoted(test[1])}' if test[0] == 'header' else str(test[1])
+    if test[0] == 'query' and test[2][0] != OPEN:
+        return f'query parameter {quoted(test[1])} beside a % or +'
+    words = {'header': 'header', 'query': 'query parameter'}.get(test[0])
+    return f'{test[2][1]} of {words} {quoted(test[1])}' if words else str(test[1])
 
 
 def path_says(test, path, cut, headers):
@@ -220,8 +271,11 @@ def path_says(test, path, cut, headers):
 
 
 def condition_says(condition, headers):
+    """What a condition says of headers, among which are the host and the path, by the names that HTTP/2 has for them."""
     if condition[0] == OPEN:
         return OPEN_ANSWER
+    if condition[0] == 'query':
+        return query_says(condition, headers[':path'])
     if condition[0] == 'grpc':
         kind = headers.get('content-type', '')
         return YES if kind == 'application/grpc' or kind.startswith('application/grpc+') else NO
@@ -233,9 +287,33 @@ def condition_says(condition, headers):
     return YES if value_fits(test, headers.get(name, '')) != inverted else NO
 
 
+def query_says(condition, path):
+    """What a condition on a query parameter says. The parameter is the first piece of its name; Envoy may decode `%` and `+` to others."""
+    _, name, test = condition
+    pieces = [piece.partition('=') for piece in path.partition('?')[2].split('&')]
+    before = list(itertools.takewhile(lambda piece: piece[0] != name, pieces))
+    if any(map(may_be_decoded, (name, *(key for key, _, _ in before)))):
+        return OPEN_ANSWER
+    value = pieces[len(before)][2] if len(before) < len(pieces) else None
+    if test[0] in ('present', 'absent'):
+        return YES if (value is not None) == (test[0] == 'present') else NO
+    if value is None:
+        return NO
+    if test[0] == OPEN or may_be_decoded(value):
+        return OPEN_ANSWER
+    return YES if value_fits(test, value) else NO
+
+
+def may_be_decoded(text):
+    return '%' in text or '+' in text
+
+
 def value_fits(test, value):
     if test[0] == 'present':
         return True
+    if test[0] == 'range':
+        number = decimal(value)
+        return number is not None and test[1] <= number < test[2]
     text = test[1]
     if len(test) > 2:
         text, value = lower(text), lower(value)

@@ -12,6 +12,8 @@ WRONG = object()
 MAX_NAME = 512
 MAX_U32 = 2 ** 32 - 1
 U32 = 'a whole number from 0 to 4294967295'
+MAX_I64 = 2 ** 63 - 1
+I64 = f'a whole number from 0 to {MAX_I64}, or the decimal text of one of 64 bits'
 DURATION = re.compile(r'(-?)([0-9]{1,12})(?:\.([0-9]{1,9}))?s')
 MOST_SECONDS = 315576000000
 
@@ -101,6 +103,9 @@ class Reader:
     def number(self, holder, name, path):
         return self.form(holder, name, path, U32, number32)
 
+    def number64(self, holder, name, path):
+        return self.form(holder, name, path, I64, number64)
+
     def duration(self, holder, name, path):
         """The sign of a duration: -1, 0 or 1."""
         return self.form(holder, name, path, 'a duration such as "5s" or "0.25s"', duration)
@@ -132,8 +137,11 @@ class Reader:
 
     def numbers(self, holder, name, path):
         found = self.elements(holder, name, path, 'anything', object)
-        wrong = [place for place, element in enumerate(found) if number32(element) is WRONG] if found is not WRONG else []
-        return self.wrong(f'{self.path_of(holder, name, path)}[{wrong[0]}]', f'is {value_shown(found[wrong[0]])} and not {U32}') if wrong else found
+        numbers = [number32(element) for element in found] if found is not WRONG else []
+        if WRONG not in numbers:
+            return found if found is WRONG else numbers
+        place = numbers.index(WRONG)
+        return self.wrong(f'{self.path_of(holder, name, path)}[{place}]', f'is {value_shown(found[place])} and not {U32}')
 
 
 def number32(value):
@@ -144,6 +152,19 @@ def number32(value):
     if type(value) is not int or not 0 <= value <= MAX_U32:
         return WRONG
     return value
+
+
+def number64(value):
+    if isinstance(value, str):
+        number = decimal(value)
+        return WRONG if number is None else number
+    return value if type(value) is int and 0 <= value <= MAX_I64 else WRONG
+
+
+def decimal(text):
+    """The number of 64 bits with a sign that a decimal text writes: a minus or none, then 1 to 19 digits; else None."""
+    number = int(text) if re.fullmatch(r'-?[0-9]{1,19}', text) else None
+    return number if number is not None and -MAX_I64 - 1 <= number <= MAX_I64 else None
 
 
 def duration(value):

@@ -1,17 +1,19 @@
 """Listeners, their filter chains and connection managers: which rules they break, and what they contain. Not proved.
 
-A listener has `address`, `chains` and `default`, and whether it `takes_all` addresses of its port. A chain has its `match`, what it `serves` and a
+A listener has `address`, `chains` and `default`, whether it `takes_all` addresses of its port, whether it listens by `udp`, whether it `restores` the
+address that a redirected connection was meant for, and whether it `hands_over` such a connection to the listener there. A chain has its `match`, what it `serves` and a
 `label`. It serves routes of its own (`routes`), those of a name (`rds`, with `limited`), a target (`target`), or something else (`other`).
 """
-from .addresses import read_address, read_source
+from .addresses import is_udp, read_address, read_source
 from .chain_matches import ANY, clashing, read_chain_match
 from .fields import MAX_NAME, WRONG, Reader, size
 from .profiles import Label
 from .routes import read_routes, read_target
 from .shown import quoted
-from .urls import MANAGER, TCP_PROXY
+from .urls import MANAGER, ORIGINAL_DST, TCP_PROXY
 
 EVERY_ADDRESS = ('0.0.0.0', '::')
+ORIGINAL_DST_NAME = 'envoy.filters.listener.original_dst'
 
 
 def read_listener(reader, body, path):
@@ -28,7 +30,7 @@ def read_listener(reader, body, path):
         reader.breaks(16, f'{path}.defaultFilterChain', 'is given')
     found = [{'match': ANY, 'serves': read_chain(reader, chain, f'{path}.filterChains[{place}]'), 'label': Label('the filter chain')}
              for place, chain in enumerate(chains if chains is not WRONG else [])]
-    return {'address': address, 'chains': tuple(found), 'default': None, 'takes_all': False}
+    return {'address': address, 'chains': tuple(found), 'default': None, **dict.fromkeys(('takes_all', 'udp', 'restores', 'hands_over'), False)}
 
 
 def read_chain(reader, chain, path):
@@ -92,12 +94,29 @@ def look_at_scoped(reader, config, path):
 
 def read_listener_as_envoy(reader, body, path, name):
     api = reader.object(body, 'api_listener', path)
-    address = read_listener_address(reader, body, path, name, api is not None)
+    address, udp = read_listener_address(reader, body, path, name, api is not None), is_udp(body)
     if api is not None:
         chains, default = (read_api_chain(reader, api if isinstance(api, dict) else {}, f'{path}.apiListener'),), None
     else:
-        chains, default = read_chains(reader, body, path)
-    return {'address': address, 'chains': chains, 'default': default, 'takes_all': address[0] in EVERY_ADDRESS}
+        chains, default = read_chains(reader, body, path, udp)
+    return {'address': address, 'chains': chains, 'default': default, 'takes_all': address[0] in EVERY_ADDRESS, 'udp': udp,
+            **read_redirected(reader, body, path)}
+
+
+def read_redirected(reader, body, path):
+    """What becomes of redirected connections."""
+    hands_over = reader.boolean(body, 'use_original_dst', path) is True
+    filters = reader.objects(body, 'listener_filters', path)
+    restore = [restores(reader, one, f'{path}.listenerFilters[{place}]') for place, one in enumerate(filters if filters is not WRONG else [])]
+    return {'restores': hands_over or any(restore), 'hands_over': hands_over}
+
+
+def restores(reader, one, path):
+    """Whether a listener filter is that of the original destination: by its type, or without one by its name."""
+    config = reader.object(one, 'typed_config', path)
+    if config is None:
+        return Reader().any(one, 'name', '') == ORIGINAL_DST_NAME
+    return isinstance(config, dict) and reader.text(config, '@type', f'{path}.typedConfig') == ORIGINAL_DST
 
 
 def read_listener_address(reader, body, path, name, has_api):
@@ -114,10 +133,10 @@ def read_listener_address(reader, body, path, name, has_api):
     return address, 0
 
 
-def read_chains(reader, body, path):
-    """(the filter chains, the default chain or None)."""
+def read_chains(reader, body, path, udp):
+    """(the filter chains, the default chain or None). A listener by UDP needs neither."""
     chains, default = reader.objects(body, 'filter_chains', path), reader.object(body, 'default_filter_chain', path)
-    if chains == [] and default is None:
+    if chains == [] and default is None and not udp:
         reader.breaks(16, f'{path}.filterChains', 'has 0 chains, and there is no defaultFilterChain')
     found = []
     for place, chain in enumerate(chains if chains is not WRONG else []):

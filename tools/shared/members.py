@@ -72,22 +72,26 @@ GROUP_OF_ENVOY = Table('group', {**GROUP, 'lb_endpoints': {**HOST, 'endpoint': A
 ASSIGNMENT_OF_ENVOY = {**ASSIGNMENT, 'endpoints': GROUP_OF_ENVOY}
 STRING_MATCH = {**dict.fromkeys(('exact', 'prefix', 'suffix', 'contains', 'ignore_case'), NONE), 'safe_regex': THERE, 'custom': THERE}
 HEADER = {**dict.fromkeys(('name', 'invert_match', 'treat_missing_header_as_empty', 'exact_match', 'prefix_match', 'suffix_match', 'contains_match',
-                           'present_match'), NONE), 'string_match': STRING_MATCH, 'safe_regex_match': THERE, 'range_match': THERE}
-MATCH_OF_ENVOY = {**dict.fromkeys(MATCH, THERE), **dict.fromkeys(('prefix', 'path', 'path_separated_prefix', 'case_sensitive'), NONE), 'headers': HEADER}
+                           'present_match'), NONE), 'string_match': STRING_MATCH, 'safe_regex_match': THERE, 'range_match': {'start': NONE, 'end': NONE}}
+PARAMETER = {'name': NONE, 'present_match': NONE, 'string_match': STRING_MATCH}
+MATCH_OF_ENVOY = {**dict.fromkeys(MATCH, THERE), **dict.fromkeys(('prefix', 'path', 'path_separated_prefix', 'case_sensitive'), NONE), 'headers': HEADER,
+                  'query_parameters': PARAMETER}
 TARGET_OF_ENVOY = {**TARGET, **dict.fromkeys(('cluster_header', 'cluster_specifier_plugin', 'inline_cluster_specifier_plugin'), THERE)}
 TCP_OF_ENVOY = {'cluster': NONE, 'weighted_clusters': {'clusters': {'name': NONE, 'weight': NONE}}}
 ROUTES_OF_ENVOY = routes_of({**ROUTE, 'match': MATCH_OF_ENVOY, 'route': TARGET_OF_ENVOY, 'filter_action': THERE, 'non_forwarding_action': THERE})
 CONFIGS_OF_ENVOY = configs_of(SOURCE_OF_ENVOY, ROUTES_OF_ENVOY, TCP_OF_ENVOY, THERE)
 CHAIN_MATCH = {**dict.fromkeys(('destination_port', 'server_names', 'transport_protocol', 'application_protocols'), NONE),
                'prefix_ranges': {'address_prefix': NONE, 'prefix_len': NONE},
-               **dict.fromkeys(('direct_source_prefix_ranges', 'source_prefix_ranges', 'source_ports', 'source_type'), THERE)}
+               **dict.fromkeys(('direct_source_prefix_ranges', 'source_prefix_ranges'), {'address_prefix': NONE, 'prefix_len': NONE}),
+               **dict.fromkeys(('source_ports', 'source_type'), NONE)}
 CHAIN = {'name': NONE, 'filter_chain_match': CHAIN_MATCH, 'filters': filter_of(CONFIGS_OF_ENVOY)}
 OF_ENVOY = {
     'cds': {**OF_OWN['cds'], 'cluster_type': {'name': NONE}, 'load_assignment': ASSIGNMENT_OF_ENVOY,
             'eds_cluster_config': {'eds_config': SOURCE_OF_ENVOY, 'service_name': NONE}},
     'eds': ASSIGNMENT_OF_ENVOY,
     'lds': {'name': NONE, **ADDRESS_OF_ENVOY, 'filter_chains': CHAIN, 'default_filter_chain': {**CHAIN, 'filter_chain_match': THERE},
-            'api_listener': {'api_listener': CONFIGS_OF_ENVOY}, 'internal_listener': THERE},
+            'api_listener': {'api_listener': CONFIGS_OF_ENVOY}, 'internal_listener': THERE, 'use_original_dst': NONE,
+            'listener_filters': {'name': NONE, 'typed_config': NONE}},
     'rds': ROUTES_OF_ENVOY,
 }
 BODIES = {OWN: OF_OWN, ENVOY: OF_ENVOY}

@@ -1,6 +1,7 @@
 """What each published picture shows, kept so that a worker's choice can be told long after. Not proved."""
 import bisect
 
+from .addresses import socket_of
 from .choices import choose
 from .machine import Machine
 
@@ -20,7 +21,7 @@ class Pictured(Machine):
 
     def place_of(self, row):
         """Where the generations are that one is looked for among: those of its address, or of its name."""
-        return (self.at_address.setdefault(row.content.get('address'), {}) if row.kind == 'lds' else self.by_name.setdefault(row.name, {}))
+        return (self.at_address.setdefault(socket_of(row.content), {}) if row.kind == 'lds' else self.by_name.setdefault(row.name, {}))
 
     def destroy(self, number):
         row = self.rows.get(number)
@@ -57,7 +58,8 @@ class Picture:
         self.machine, self.version = machine, version
 
     def listener(self, address, port):
-        return self.machine.shown_in(self.machine.at_address.get((address, port), {}), self.version)
+        """The listener of TCP at an address."""
+        return self.machine.shown_in(self.machine.at_address.get((address, port, False), {}), self.version)
 
     def cluster(self, name):
         return self.machine.shown_in(self.machine.by_name.get(name, {}), self.version)

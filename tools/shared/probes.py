@@ -11,6 +11,8 @@ from .words import chains_of, clusters_of
 
 HOST = 'probe.invalid'
 VALUE, OTHER = 'probe', 'other'
+# Addresses of sources: of this machine, and of elsewhere (one of TEST-NET-1, RFC 5737).
+LOOPBACK, OUTSIDE = '127.0.0.1', '192.0.2.1'
 # How many values of one criterion of a filter chain are tried.
 MOST_TRIED = 4
 TAKEN = 'takes none of the connections that were tried'
@@ -126,9 +128,19 @@ def beginnings(match, listener, is_default):
     names = list(map(name_of, match.names[:MOST_TRIED])) or ['', HOST][:1 + is_default]
     transports = [transport == 'tls' for transport in match.transports] or ([True, False] if match.names else [False, True])
     protocols = match.protocols[:MOST_TRIED] or [None]
-    for place, name, over_tls, protocol in itertools.product(addresses, names, transports, protocols):
-        more = {'serverName': name, 'tls': over_tls, 'alpn': [protocol] if protocol else []}
+    for place, name, over_tls, protocol, source in itertools.product(addresses, names, transports, protocols, sources_for(match, listener)):
+        more = {'source': source, 'serverName': name, 'tls': over_tls, 'alpn': [protocol] if protocol else []}
         yield {'address': place, 'port': port} | {member: value for member, value in more.items() if value}
+
+
+def sources_for(match, listener):
+    """Who may connect so that a chain with this match takes it; None is a connection of which that isn't said."""
+    if not match.sources:
+        asked = any(chain['match'].sources for chain in listener['chains'])
+        return [None] + [{'address': OUTSIDE, 'port': 1}] * asked
+    ranges = [*match.direct_ranges[:MOST_TRIED], *match.source_ranges[:MOST_TRIED]]
+    addresses = dict.fromkeys([*(text for one in ranges for text in ends_of(one, '')), OUTSIDE, LOOPBACK])
+    return [{'address': address, 'port': (match.source_ports or (1,))[0]} for address in addresses]
 
 
 def ends_of(one, address):
@@ -144,6 +156,8 @@ def ends_of(one, address):
 def obstacle(match, listener):
     """Why no connection of a script can come to a chain with this match, in words; empty where one may."""
     address, port = listener['address']
+    if listener['udp']:
+        return 'is of a listener by UDP, and connections of a script come by TCP'
     if match.ports and port not in match.ports:
         return f'asks for port {match.ports[0]}, and connections of a script come at {port}'
     if match.ranges and not listener['takes_all'] and not by_range([{'match': match}], asking({'address': address, 'port': port})):
@@ -173,6 +187,7 @@ def ways(routes):
         path, headers = text[0] if way in PATHS and text[0] else '/', headers_for(way, match[1:])
         asked = headers.pop(':path', path)
         path = asked if match and path_says(match[0], asked.encode(), asked.encode().partition(b'?')[0], headers) != NO else path
+        path = path if '?' in path else path + query_for(match[1:])
         headers.pop(':authority', None)
         for pick in picks(action) if 'route' in actions else [0]:
             yield {'path': path, 'pick': pick, **({'headers': headers} if headers else {})}, clusters_of(action) if 'route' in actions else []
@@ -186,7 +201,7 @@ def headers_for(way, conditions):
     of_headers = [condition for condition in conditions if condition[0] == 'header']
     for name in dict.fromkeys(condition[1] for condition in of_headers):
         mine = [condition for condition in of_headers if condition[1] == name]
-        values = [found[name]] if name in found else [None, *values_for(mine)]
+        values = [found[name]] if name in found else [None, *values_for([one[2] for one in mine if not one[3]])]
         fitting = [value for value in values if NO not in [condition_says(one, {} if value is None else {name: value}) for one in mine]]
         value = fitting[0] if fitting else values[-1]
         if value is not None:
@@ -194,11 +209,23 @@ def headers_for(way, conditions):
     return found
 
 
-def values_for(conditions):
-    """Values of a header that its conditions may say yes to."""
-    texts = {word: [one[2][1] for one in conditions if one[2][0] == word and not one[3]] for word in TEXT_TESTS.values()}
+def query_for(conditions):
+    """A query by which no condition of a route says no, as far as one is known, after its `?`; empty where none is asked for."""
+    of_queries, pieces = [condition for condition in conditions if condition[0] == 'query'], []
+    for name in dict.fromkeys(condition[1] for condition in of_queries):
+        mine = [condition for condition in of_queries if condition[1] == name]
+        tried = ['', *(f'{name}={value}' for value in values_for([one[2] for one in mine]))]
+        fitting = [piece for piece in tried if NO not in [condition_says(one, {':path': f'?{piece}'}) for one in mine]]
+        pieces += [piece for piece in fitting[:1] or tried[-1:] if piece]
+    return f"?{'&'.join(pieces)}" if pieces else ''
+
+
+def values_for(tests):
+    """Values that tests may take."""
+    texts = {word: [test[1] for test in tests if test[0] == word] for word in TEXT_TESTS.values()}
     joined = ''.join(sorted(texts['begins'], key=len)[-1:] + texts['contains'] + sorted(texts['ends'], key=len)[-1:])
-    return [*texts['is'], *([joined] if joined else []), VALUE, OTHER, '']
+    starts = [str(test[1]) for test in tests if test[0] == 'range']
+    return [*texts['is'], *starts, *([joined] if joined else []), VALUE, OTHER, '']
 
 
 def picks(target):

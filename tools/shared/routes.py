@@ -91,8 +91,7 @@ def look_at_separated(reader, given, path):
 
 PATHS_AS_ENVOY = {**dict.fromkeys(PATHS, Reader.text), **dict.fromkeys(('safe_regex', 'connect_matcher', 'path_match_policy'), Reader.object)}
 OPEN_PATHS = ('safe_regex', 'path_match_policy')
-OPEN_CONDITIONS = {'runtime_fraction': Reader.object, 'tls_context': Reader.object, 'query_parameters': Reader.objects,
-                   'dynamic_metadata': Reader.objects, 'filter_state': Reader.objects}
+OPEN_CONDITIONS = {'runtime_fraction': Reader.object, 'tls_context': Reader.object, 'dynamic_metadata': Reader.objects, 'filter_state': Reader.objects}
 
 
 def read_match_as_envoy(reader, match, path):
@@ -106,6 +105,9 @@ def read_match_as_envoy(reader, match, path):
     headers = reader.objects(match, 'headers', path)
     for place, header in enumerate(headers if headers is not WRONG else []):
         found.append(read_header(reader, header, f'{path}.headers[{place}]'))
+    parameters = reader.objects(match, 'query_parameters', path)
+    for place, parameter in enumerate(parameters if parameters is not WRONG else []):
+        found.append(read_parameter(reader, parameter, f'{path}.queryParameters[{place}]'))
     if reader.object(match, 'grpc', path) is not None:
         found.append(('grpc',))
     open_ones = reader.members(match, path, OPEN_CONDITIONS)
@@ -122,7 +124,8 @@ def path_test(name, text, any_case, spelled):
 
 
 # Conditions on headers: ('header', name, test, whether it is inverted, whether a missing header is empty). A test is (way, text) or
-# (way, text, 'any case') for Is, Begins, Ends and Contains, ('present',), or (OPEN, label).
+# (way, text, 'any case') for Is, Begins, Ends and Contains, ('present',), ('range', start, end), or (OPEN, label). On query parameters:
+# ('query', name, test), where a test may be ('absent',), and is no range.
 
 TEXT_TESTS = {'exact': 'is', 'prefix': 'begins', 'suffix': 'ends', 'contains': 'contains'}
 HEADER_TESTS = {**{f'{name}_match': Reader.text for name in TEXT_TESTS}, 'present_match': Reader.boolean,
@@ -143,11 +146,31 @@ def read_header(reader, header, path):
     for way, value in given.items():
         if way == 'string_match':
             test = read_string_test(reader, value, f'{path}.stringMatch') if value is not WRONG else None
+        elif way == 'range_match':
+            test = read_range(reader, value, f'{path}.rangeMatch') if value is not WRONG else None
         elif way == 'present_match':
             inverted ^= value is False
         else:
             test = text_test(reader, header, way, value, False, path)
     return 'header', lower(name) if isinstance(name, str) else None, test, inverted, is_empty
+
+
+def read_range(reader, value, path):
+    return ('range', *(reader.number64(value, name, path) or 0 for name in ('start', 'end')))
+
+
+def read_parameter(reader, parameter, path):
+    name = reader.text(parameter, 'name', path)
+    if name in (None, ''):
+        reader.breaks(21, f'{path}.name', 'is missing or empty')
+    given = reader.members(parameter, path, {'string_match': Reader.object, 'present_match': Reader.boolean})
+    if len(given) > 1:
+        reader.breaks(21, path, 'has both stringMatch and presentMatch')
+    test = ('absent',) if given.get('present_match') is False else ('present',)
+    if 'string_match' in given:
+        value = given['string_match']
+        test = read_string_test(reader, value, f'{path}.stringMatch') if value is not WRONG else None
+    return 'query', name, test
 
 
 def read_string_test(reader, value, path):
@@ -160,7 +183,7 @@ def read_string_test(reader, value, path):
 
 
 def text_test(reader, holder, way, text, any_case, path):
-    """The test of a header's value by a member of its condition, or of its string match."""
+    """The test of a value by a member of a header's condition, or of a string match."""
     word = TEXT_TESTS.get(way.replace('_match', ''))
     if word is None:
         return OPEN, Label(reader.path_of(holder, way, ''))

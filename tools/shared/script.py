@@ -259,6 +259,15 @@ def headers_words(value):
     return [f'has {value_shown(text)} at {quoted(name, 40)}, and not a text' for name, text in value.items() if not isinstance(text, str)]
 
 
+def end_words(value):
+    """What is wrong with one end of a connection: an object with an address and a port."""
+    if not isinstance(value, dict):
+        return [f'is {value_shown(value)} and not an object with address and port']
+    more = [f'has a member {quoted(name, 40)}, and address and port are all' for name in value if name not in ADDRESS]
+    missing = [f'has no {name}' for name in ADDRESS if name not in value]
+    return (more + missing + [f'has a {name} that {words}' for name, found in ADDRESS.items() if name in value for words in found(value[name])])[:1]
+
+
 WORKER = {'worker': whole_words(MAX_U32)}
 CONNECTION = {'worker': whole_words(MAX_U32), 'conn': whole_words(MAX_U64)}
 ADDRESS = {'address': name_words, 'port': whole_words(65535)}
@@ -266,7 +275,8 @@ TYPED = {'type': type_words}
 ACCEPT = {**CONNECTION, **ADDRESS}
 ASK = {'host': text_words(MAX_NAME), 'path': text_words(MAX_PATH), 'pick': whole_words(MAX_U64)}
 # What an accept may have besides, in a script of the profile envoy.
-ASK_OF_ENVOY = {'serverName': text_words(MAX_NAME), 'tls': bool_words, 'alpn': texts_words, 'headers': headers_words}
+ASK_OF_ENVOY = {'source': end_words, 'redirectedTo': end_words, 'serverName': text_words(MAX_NAME), 'tls': bool_words, 'alpn': texts_words,
+                'headers': headers_words}
 
 # The operations: members that must be there, and members with a default. `message` is read apart.
 OPERATIONS = {

@@ -10,5 +10,6 @@ URLS = {
 KINDS = {url: kind for kind, url in URLS.items()}
 MANAGER = TYPE + 'envoy.extensions.filters.network.http_connection_manager.v3.HttpConnectionManager'
 TCP_PROXY = TYPE + 'envoy.extensions.filters.network.tcp_proxy.v3.TcpProxy'
+ORIGINAL_DST = TYPE + 'envoy.extensions.filters.listener.original_dst.v3.OriginalDst'
 WORDS = {'cds': 'clusters', 'eds': 'endpoints', 'lds': 'listeners', 'rds': 'routes'}
 WORD = {'cds': 'cluster', 'eds': 'endpoints', 'lds': 'listener', 'rds': 'routes'}

@@ -1,6 +1,7 @@
 """What resources contain, in words: addresses, routes and where they lead."""
 import ipaddress
 
+from .chain_matches import SAME_MACHINE
 from .routes import ELSEWHERE
 from .shown import named, quoted
 
@@ -53,11 +54,13 @@ def listener_words(content):
     """Address of a listener, and where its connections go."""
     address, port = content['address']
     chains = chains_of(content)
-    if len(chains) == 1:
+    if not chains:
+        to = 'no filter chain'
+    elif len(chains) == 1:
         to = serves_words(chains[0]['serves'])
     else:
         to = f'{counted(len(chains), "filter chain")}: ' + few(dict.fromkeys(serves_words(chain['serves']) for chain in chains))
-    return f'{named(address, 60)}:{port}, {to}'
+    return f'{named(address, 60)}:{port}{" by UDP" if content["udp"] else ""}, {to}'
 
 
 def chains_of(content):
@@ -87,7 +90,11 @@ def match_words(match):
     parts += [f'addresses {few(f"{prefix}/{length}" for prefix, length in map(range_words, match.ranges))}'] if match.ranges else []
     parts += [f'server name {few(quoted(name, 60) for name in match.names)}'] if match.names else []
     parts += [{'tls': 'over TLS', 'raw_buffer': 'without TLS'}.get(transport, f'transport {quoted(transport, 40)}') for transport in match.transports]
-    return ', '.join(parts + ([f'alpn {few(quoted(protocol, 40) for protocol in match.protocols)}'] if match.protocols else []))
+    parts += [f'alpn {few(quoted(protocol, 40) for protocol in match.protocols)}'] if match.protocols else []
+    parts += [f'{what} {few(f"{prefix}/{length}" for prefix, length in map(range_words, ranges))}' for what, ranges in
+              (('peers', match.direct_ranges), ('sources', match.source_ranges)) if ranges]
+    parts += ['sources of this machine' if kind == SAME_MACHINE else 'external sources' for kind in match.types]
+    return ', '.join(parts + ([f'source ports {few(map(str, match.source_ports))}'] if match.source_ports else []))
 
 
 def range_words(one):
@@ -99,7 +106,9 @@ def range_words(one):
 
 def more_asked(members):
     """What an accept asks for beside host and path, in words."""
-    parts = [f'server name {quoted(members["serverName"], 60)}'] if members.get('serverName') else []
+    parts = [f'{words} {named(members[name]["address"], 60)}:{members[name]["port"]}' for name, words in
+             (('redirectedTo', 'redirected to'), ('source', 'from')) if members.get(name)]
+    parts += [f'server name {quoted(members["serverName"], 60)}'] if members.get('serverName') else []
     parts += ['over TLS'] if members.get('tls') else []
     parts += [f'alpn {few(quoted(protocol, 40) for protocol in members["alpn"])}'] if members.get('alpn') else []
     parts += [f'header {quoted(name, 40)} {quoted(value, 60)}' for name, value in sorted(members.get('headers', {}).items())[:MOST]]

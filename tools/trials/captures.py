@@ -1,5 +1,5 @@
 """Each capture of examples/captures as a new user takes it: `adapt --auto --probe`, a replay (reckoned by tools/shared), `explain`. Nothing is
-refused but what Envoy refuses too and listeners on UDP, and the table of docs/RECORDING.md says what comes of each."""
+refused but what Envoy refuses too, and the table of docs/RECORDING.md says what comes of each."""
 import json
 import os
 import tempfile
@@ -62,9 +62,8 @@ def capture(check, name):
 def judged(check, name, kind, item, verdict):
     """Whose a refusal is, in words."""
     whose = item.whose(kind, verdict)
-    is_udp = (kind, verdict) == ('lds', 'V14') and any('is UDP' in words for _, words in item.complaints(verdict))
-    check(whose == rules.ENVOY or is_udp, f'{name}: {item.name} is refused by {verdict} ({whose}): {item.complaints(verdict)}')
-    return 'UDP' if is_udp else whose
+    check(whose == rules.ENVOY, f'{name}: {item.name} is refused by {verdict} ({whose}): {item.complaints(verdict)}')
+    return whose
 
 
 def explained(check, name, data, pages, count):

@@ -19,8 +19,11 @@ HEADER = {'workers': 1, 'profile': 'envoy'}
 SAID = {
     'update_waits_for_endpoints': ["warms: it waits for endpoints 'a' (these endpoints were known, and have to be sent again)"],
     'a_name_with_two_marks': ['no route, listener generation 1, filter chain 2'],
-    'chain_that_asks_for_a_source_comes_last': ['undecided, listener generation 1, since filter chain 2 asks for a source by sourcePorts',
+    'chain_that_asks_for_a_source_comes_last': ['undecided, listener generation 1, since filter chain 2 asks for a source by sourcePorts, and the accept has no source',
                                                 "no filter chain takes it, since listener 'l' (generation 1) has none for it and no default one: w0 holds picture 1"],
+    'chains_by_source': ["filter chain 1 (peers 10.9.0.0/24)", "from 127.0.0.2:9: answered with status 204"],
+    'redirected_connections': ["redirected to 10.1.0.1:15006", "new: listener generation 1: 10.1.0.1:15006, 2 filter chains"],
+    'listeners_by_udp': ["10.1.0.1:8080 by UDP, no filter chain"],
     'first_route_that_does_not_say_no': ["undecided, listener generation 1, since route 1 of virtual host 'v' has runtimeFraction, which nothing here decides",
                                          "path '/a', header 'content-type' 'application/grpc': answered with status 201"],
     'clusters_of_each_type': ["new: cluster generation 1: type ORIGINAL_DST, whose hosts no script tells",
@@ -32,6 +35,7 @@ SAID = {
     'api_listener': ['new: listener generation 1: api:l:0'],
 }
 ACCEPT = {'op': 'accept', 'worker': 0, 'conn': 1, 'address': 'a', 'port': 1}
+END = {'address': 'a', 'port': 0}
 # Headers and accepts with a member that is wrong, and what why says of it.
 FAULTS = [
     ({'workers': 1, 'profile': ''}, ACCEPT, 'line 1: fault 5', 'profile: is the empty text and not "envoy"'),
@@ -44,6 +48,12 @@ FAULTS = [
     (HEADER, {**ACCEPT, 'tls': 'true'}, 'line 2: fault 6', "tls: is the text 'true' and not true or false"),
     (HEADER, {**ACCEPT, 'alpn': 'h2'}, 'line 2: fault 6', "alpn: is the text 'h2' and not an array of texts"),
     (HEADER, {**ACCEPT, 'alpn': ['h2', 2]}, 'line 2: fault 6', 'alpn: has the number 2 as element 1, and not a text'),
+    ({'workers': 1}, {**ACCEPT, 'source': END}, 'line 2: fault 6', 'source: is a member of accept in a script whose header has "profile":"envoy" alone'),
+    (HEADER, {**ACCEPT, 'source': None}, 'line 2: fault 6', 'source: is null and not an object with address and port'),
+    (HEADER, {**ACCEPT, 'source': {'address': 'a'}}, 'line 2: fault 6', 'source: has no port'),
+    (HEADER, {**ACCEPT, 'redirectedTo': {**END, 'port': 65536}}, 'line 2: fault 6', 'redirectedTo: has a port that is the number 65536'),
+    (HEADER, {**ACCEPT, 'redirectedTo': {**END, 'host': 'a'}}, 'line 2: fault 6', "redirectedTo: has a member 'host', and address and port are all"),
+    (HEADER, {**ACCEPT, 'redirectedto': END}, 'line 2: fault 6', 'did you mean redirectedTo?'),
     (HEADER, {**ACCEPT, 'headers': []}, 'line 2: fault 6', 'headers: is an empty array and not an object'),
     (HEADER, {**ACCEPT, 'headers': {'a': None}}, 'line 2: fault 6', "headers: has null at 'a', and not a text"),
 ]
@@ -85,7 +95,7 @@ def faults(check, folder):
         path = written(f'{folder}/script', f'{json.dumps(header)}\n{json.dumps(line)}\n')
         status, out, errors = called(tool('why'), path)
         check(status == 1 and out.startswith(place) and words in out and not errors, f'why of {header} {line}: {status} {out}{errors}')
-    whole = {**ACCEPT, 'serverName': '', 'tls': False, 'alpn': [], 'headers': {}}
+    whole = {**ACCEPT, 'source': END, 'redirectedTo': END, 'serverName': '', 'tls': False, 'alpn': [], 'headers': {}}
     path = written(f'{folder}/script', f'{json.dumps(HEADER)}\n{json.dumps(whole)}\n')
     status, out, errors = called(tool('why'), path)
     check(status == 0 and not errors, f'why of a script of the profile: {status} {out}{errors}')
@@ -95,7 +105,7 @@ def others(check, folder):
     """tally, look and record --compare, with a stand-in for the program."""
     path, pages = pair_of('chain_matches_that_break_rules')
     told = loaded('tools/tally').told_of(script.read_script(content(path)), content(pages), False)
-    check(told['refused'] == {'Envoy too': 5, 'not known': 5} and told['rules']['V27'] == 1, f'tally of {path}: {told}')
+    check(told['refused'] == {'Envoy too': 6, 'not known': 5} and told['rules']['V27'] == 1, f'tally of {path}: {told}')
     program = written(f'{folder}/program', STAND_IN, 0o755)
     status, out, errors = ran(f'{TOP}/tools/look', '--program', program, '--out', f'{folder}/look', f'{FOLDER}/clusters_of_each_type.jsonl')
     check(status == 0 and b'4 gone elsewhere, to a host that no script tells' in out, f'look at a script of the profile: {status} {out} {errors}')

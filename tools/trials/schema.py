@@ -18,7 +18,8 @@ def with_changes(tree, draw):
             for changed in with_changes(tree[name], draw):
                 yield {**tree, name: changed}
     yield {**tree, 'extra': 1}
-    for name in ('worker', 'name', 'type_url', 'removed_resources', 'host', 'path', 'pick', 'auto', 'node', 'profile', 'serverName', 'tls', 'alpn', 'headers'):
+    for name in ('worker', 'name', 'type_url', 'removed_resources', 'host', 'path', 'pick', 'auto', 'node', 'profile', 'source', 'redirectedTo', 'serverName',
+                 'tls', 'alpn', 'headers'):
         yield {**tree, name: draw.choice([None, 'x', 0, ['a'], [None], True, 'envoy', {'a': 'b'}, {'a': None}])}
 
 
@@ -28,7 +29,8 @@ def lines_of_examples():
             yield json.loads(text)
     for text in ('{"op":"disconnect"}', '{"op":"fetchTimeout","type":"eds","name":"a"}', '{"op":"fetchTimeout","type":"lds"}',
                  '{"workers":2,"auto":true,"node":"n"}', '{"op":"close","worker":0,"conn":1}', '{"workers":1,"profile":"envoy"}',
-                 '{"op":"accept","worker":0,"conn":1,"address":"a","port":1,"serverName":"s","tls":true,"alpn":["h2"],"headers":{"a":"b"}}'):
+                 '{"op":"accept","worker":0,"conn":1,"address":"a","port":1,"serverName":"s","tls":true,"alpn":["h2"],"headers":{"a":"b"}}',
+                 '{"op":"accept","worker":0,"conn":1,"address":"a","port":1,"source":{"address":"s","port":0},"redirectedTo":{"address":"r","port":65535}}'):
         yield json.loads(text)
 
 

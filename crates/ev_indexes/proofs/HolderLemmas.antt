@@ -8,7 +8,7 @@ use Rattle.ev_types.specs.declared.contents.Kind.{Kind}
 use Rattle.ev_types.specs.declared.contents.Kind.TheVariants.{Lds}
 use Rattle.ev_types.specs.declared.contents.Content.{Content}
 use Rattle.ev_types.specs.declared.contents.Content.TheVariants.{Cluster, Assignment, Listener, Routes}
-use Rattle.ev_types.specs.declared.hosts.Host.{Host}
+use Rattle.ev_types.specs.declared.hosts.SocketAddress.{SocketAddress}
 use Rattle.ev_types.specs.declared.rows.GenRow.{GenRow}
 use Rattle.ev_model.specs.World.{World}
 use Rattle.ev_model.specs.Live.{live_of}
@@ -31,14 +31,14 @@ found_all test full (row ∷ rows) own = by (test row) (found_all test full rows
     by true more = λ i. option_to_list (own.0 i) ++ more i
     by false more = more
 
-kind_by : (address : Host) (content : Content) (kind : Kind) → content_kind content ≡ kind → listens_at address content ≡ true → kind ≡ Lds
+kind_by : (address : SocketAddress) (content : Content) (kind : Kind) → content_kind content ≡ kind → listens_at address content ≡ true → kind ≡ Lds
 kind_by address (Cluster cluster) kind typed at = absurd (true≢false (sym at))
 kind_by address (Assignment rows) kind typed at = absurd (true≢false (sym at))
 kind_by address (Listener listener) kind typed at = sym typed
 kind_by address (Routes table) kind typed at = absurd (true≢false (sym at))
 
 -- who holds an address in the world, of which only listeners can
-among_holders : (address : Host) (rows : List GenRow) → AllByRecursion (λ (row : GenRow). content_kind row.content ≡ row.kind) rows
+among_holders : (address : SocketAddress) (rows : List GenRow) → AllByRecursion (λ (row : GenRow). content_kind row.content ≡ row.kind) rows
     → map live_of (filter (holds address) (rows_of_kind Lds rows)) ≡ filter (is_at address) (map live_of (filter (λ (row : GenRow). is_live row.status) rows))
 among_holders address [] typed = refl
 among_holders address (row ∷ rows) typed =
@@ -55,7 +55,7 @@ among_holders address (row ∷ rows) typed =
     by false true false k l a more = simp (a) more
     by false false a k l at more = more
 
-module _ (s : State) (x : IsIndexed s) (address : Host) where
+module _ (s : State) (x : IsIndexed s) (address : SocketAddress) where
   -- the generations that the index has at an address are the rows that hold it
   pub holders-rows : lives_listed s.table.rows s.addresses address ≡ holders_in s.table.rows address
   holders-rows = ap (lives_numbered s.table.rows) (x.holders address) ∙ ap (map live_of) (found_all (holds address) s.table.rows s.table.rows (own-rows s.table.rows x.table.apart))

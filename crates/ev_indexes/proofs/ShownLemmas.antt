@@ -116,8 +116,11 @@ module _ (s : State) (world : World) (stands : HasRows s world) (x : IsIndexed s
       by (a_listener listener) = λ i. record {
         number = r.number;
         name = r.name;
-        address = listener.address;
+        address = listener.address.host;
         takes_every_address = listener.takes_every_address;
+        udp = listener.address.udp;
+        restores = listener.restores;
+        hands_over = listener.hands_over;
         filter_chains = chained listener.filter_chains i;
         default_filter_chain = other listener.default_filter_chain i;
       } ∷ []

@@ -7,6 +7,7 @@ use Rattle.ev_types.specs.declared.rows.RowStatus.{RowStatus}
 use Rattle.ev_types.specs.declared.rows.RowStatus.TheVariants.{Dropped}
 use Rattle.ev_types.specs.declared.rows.GenRow.{GenRow}
 use Rattle.ev_types.specs.declared.hosts.Host.{Host}
+use Rattle.ev_types.specs.declared.hosts.SocketAddress.{SocketAddress}
 use Rattle.ev_types.specs.declared.contents.Content.{Content}
 use Rattle.ev_types.specs.Hosts.{HostRowParts}
 use Rattle.ev_model.specs.Warming.{is_checked}
@@ -38,7 +39,7 @@ abbrev pub warms : List ℕ → GenRow → Bool
 warms name row = is_warming row.status && bytes_eq row.name name
 
 -- the row holds the address: it is live and listens there
-abbrev pub holds : Host → GenRow → Bool
+abbrev pub holds : SocketAddress → GenRow → Bool
 holds address row = is_live row.status && listens_at address row.content
 
 -- the numbers of the rows that pass the test, in order
@@ -86,7 +87,7 @@ pub record IsIndexed (s : State) : Type 0 where
   pub warming : (name : List ℕ) → option_to_list (standing_in s.names name).warming ≡ numbers_where (warms name) s.table.rows
   pub unlimited : (name : List ℕ) → (watch_in s.watches name).unlimited ≡ numbers_where (waits name false) s.table.rows
   pub limited : (name : List ℕ) → (watch_in s.watches name).limited ≡ numbers_where (waits name true) s.table.rows
-  pub holders : (address : Host) → numbers_at s.addresses address ≡ numbers_where (holds address) s.table.rows
+  pub holders : (address : SocketAddress) → numbers_at s.addresses address ≡ numbers_where (holds address) s.table.rows
   pub due : (number : ℕ) → is_one_of s.due number ≡ is_due_at s.watches s.results number s.table.rows
   pub drawn : (number : ℕ) (host : Host) → s.table.made < number → result_in s.results number host ≡ None
   pub unmarked : (number : ℕ) → s.table.made < number → marked_in s.results number ≡ None

@@ -20,6 +20,7 @@ use Rattle.ev_model.specs.declared.pictures.ServedChain.{ServedChain}
 use Rattle.ev_model.specs.declared.pictures.ServedCluster.{ServedCluster}
 use Rattle.ev_model.specs.declared.pictures.ServedListener.{ServedListener}
 use Rattle.ev_types.specs.declared.hosts.Host.{Host}
+use Rattle.ev_types.specs.declared.hosts.SocketAddress.{SocketAddress}
 use Rattle.ev_model.specs.Live.{live_of, lives_of}
 use Rattle.ev_model.specs.Picture.{is_elsewhere, table_in}
 use Rattle.ev_model.specs.Signals.{is_awaited}
@@ -105,8 +106,11 @@ listener_in watches row (an_assignment rows) = []
 listener_in watches row (a_listener listener) = record {
   number = row.number;
   name = row.name;
-  address = listener.address;
+  address = listener.address.host;
   takes_every_address = listener.takes_every_address;
+  udp = listener.address.udp;
+  restores = listener.restores;
+  hands_over = listener.hands_over;
   filter_chains = map (chain_in watches) listener.filter_chains;
   default_filter_chain = option_map (routing_in watches) listener.default_filter_chain;
 } ∷ []
@@ -121,11 +125,11 @@ abbrev pub seen_at : World → Kind → List Live
 seen_at world kind = filter (λ (live : Live). kind_same live.kind kind) (lives_of world)
 
 -- what is seen of the rows that hold the address, in order
-abbrev pub holders_in : List GenRow → Host → List Live
+abbrev pub holders_in : List GenRow → SocketAddress → List Live
 holders_in rows address = map live_of (filter (holds address) rows)
 
 -- what is seen in a world of the live generations that listen at the address
-abbrev pub holders_of : World → Host → List Live
+abbrev pub holders_of : World → SocketAddress → List Live
 holders_of world address = filter (is_at address) (lives_of world)
 
 -- a host is as healthy as a result says for each row that serves the name

@@ -5,21 +5,21 @@ ghost use Rattle.std.specs.Prelude.{◌≡◌, if◌then◌else◌, ◌++◌, []
 ghost use Rattle.std.specs.Map.{lookup};
 ghost use Rattle.std.specs.Option.{option_copied};
 ghost use Rattle.indexmap.specs.IndexMap.{get};
-ghost use Rattle.ev_types.specs.SameHosts.{host_same};
-ghost use Rattle.ev_types.specs.declared.hosts.Host as declared;
+ghost use Rattle.ev_types.specs.SameHosts.{socket_same};
+ghost use Rattle.ev_types.specs.declared.hosts.SocketAddress as declared;
 ghost use Rattle.ev_model.specs.Verdicts.{listening_address};
 ghost use Rattle.ev_indexes.specs.Watched.{numbers_without};
 ghost use Rattle.ev_indexes.specs.Addresses.{EntersAt, EntersNumber, HoldsAddress, LeavesAt, LeavesNumber, ReleasesAddress};
 
 use ev_keys::Keys;
-use ev_types::{Content, Gen, Host, Seq, TryCopy};
+use ev_types::{Content, Gen, Seq, SocketAddress, TryCopy};
 use indexmap::IndexMap;
 use std::alloc::{AllocError, Global};
 use std::marker::Model;
 
-type Numbers = IndexMap<Host, Seq<Gen>, Keys>;
+type Numbers = IndexMap<SocketAddress, Seq<Gen>, Keys>;
 
-/// By address and port the numbers of the generations that hold it. An address that none holds has no entry.
+/// By address, port and protocol the numbers of the generations that hold it. An address that none holds has no entry.
 #[derive(Drop)]
 pub struct Addresses {
     numbers: Numbers,
@@ -46,8 +46,8 @@ impl Addresses {
     }
 
     /// The numbers at an address, where there are some.
-    pub fn at(&self, address: &Host) -> Option<&Seq<Gen>>
-        ensures { option_copied result ≡ lookup (host_same address.now) self.now }
+    pub fn at(&self, address: &SocketAddress) -> Option<&Seq<Gen>>
+        ensures { option_copied result ≡ lookup (socket_same address.now) self.now }
     {
         self.numbers.get(address)
     }
@@ -72,14 +72,19 @@ impl Addresses {
     }
 
     // One more number is at the address. Out of memory, nothing is promised.
-    fn enter(&mut self, alloc: Global, address: &Host, number: Gen) -> Result<(), AllocError>
+    fn enter(
+        &mut self,
+        alloc: Global,
+        address: &SocketAddress,
+        number: Gen,
+    ) -> Result<(), AllocError>
         ensures { OnOk result (EntersAt self.old self.new address.now number) }
     {
         enter_number(&mut self.numbers, alloc, address, number)
     }
 
     // A number is no longer at the address.
-    fn leave(&mut self, address: &Host, number: Gen)
+    fn leave(&mut self, address: &SocketAddress, number: Gen)
         ensures { LeavesAt self.old self.new address.now number }
     {
         leave_numbers(&mut self.numbers, address, number);
@@ -90,11 +95,11 @@ impl Addresses {
 fn enter_number(
     map: &mut Numbers,
     alloc: Global,
-    address: &Host,
+    address: &SocketAddress,
     number: Gen,
 ) -> Result<(), AllocError>
     ensures entered { OnOk result (EntersNumber map.old map.new address.now number) }
-    ensures err { OnErr result ((a : declared.Host) → get host_same map.new a ≡ get host_same map.old a) }
+    ensures err { OnErr result ((a : declared.SocketAddress) → get socket_same map.new a ≡ get socket_same map.old a) }
 {
     if let Some(numbers) = map.get_mut(address) {
         return numbers.push(number);
@@ -108,7 +113,7 @@ fn enter_number(
 }
 
 // A number is left out at an address, and the entry of one without any is taken out.
-fn leave_numbers(map: &mut Numbers, address: &Host, number: Gen)
+fn leave_numbers(map: &mut Numbers, address: &SocketAddress, number: Gen)
     ensures { LeavesNumber map.old map.new address.now number }
 {
     if let Some(numbers) = map.get_mut(address) {
@@ -120,7 +125,7 @@ fn leave_numbers(map: &mut Numbers, address: &Host, number: Gen)
 }
 
 // The address of a content, where it is a listener.
-fn address_of(content: &Content) -> Option<&Host>
+fn address_of(content: &Content) -> Option<&SocketAddress>
     ensures { option_copied result ≡ listening_address content.now }
 {
     match content {
@@ -137,9 +142,9 @@ fn leave_out(numbers: &mut Seq<Gen>, number: Gen)
 }
 
 // Takes out the entry of an address.
-fn take_out(map: &mut Numbers, address: &Host)
-    ensures { (a : declared.Host) → get host_same map.new a
-        ≡ (if host_same address.now a then None else get host_same map.old a) }
+fn take_out(map: &mut Numbers, address: &SocketAddress)
+    ensures { (a : declared.SocketAddress) → get socket_same map.new a
+        ≡ (if socket_same address.now a then None else get socket_same map.old a) }
 {
     map.swap_remove(address);
 }

@@ -8,13 +8,17 @@ ghost use Rattle.ev_indexes.specs.Worlds.{InWorldsOf};
 use crate::{Addresses, State};
 use ev_generations::Generations;
 use ev_mentions::LiveRow;
-use ev_types::{Gen, Host};
+use ev_types::{Gen, SocketAddress};
 use std::alloc::{AllocError, Global};
 
 impl State {
     /// The live generations that hold an address, in the order of their numbers: of clusters none does. It costs a look-up of
     /// the address, and one of each of them. It is out of memory where the list has no room.
-    pub fn holders(&self, alloc: Global, address: &Host) -> Result<Vec<LiveRow<'_>>, AllocError>
+    pub fn holders(
+        &self,
+        alloc: Global,
+        address: &SocketAddress,
+    ) -> Result<Vec<LiveRow<'_>>, AllocError>
         requires indexed { IsIndexed self.now }
         ensures rows { IfOk result (λ lives. lives.items ≡ holders_in self.now.table.rows address.now) }
         ensures world { IfOk result (λ lives. InWorldsOf Lds self.now
@@ -29,7 +33,7 @@ fn lives_at<'a>(
     alloc: Global,
     addresses: &Addresses,
     table: &'a Generations,
-    address: &Host,
+    address: &SocketAddress,
 ) -> Result<Vec<LiveRow<'a>>, AllocError>
     ensures { IfOk result (λ lives. lives.items ≡ lives_listed table.now.rows addresses.now address.now) }
 {

@@ -58,8 +58,11 @@ fn listener(
     Ok(Some(ServedListener {
         number: row.number,
         name: row.name.copy(alloc)?,
-        address: listener.address.copy(alloc)?,
+        address: listener.address.host.copy(alloc)?,
         takes_every_address: listener.takes_every_address,
+        udp: listener.address.udp,
+        restores: listener.restores,
+        hands_over: listener.hands_over,
         filter_chains: chains(alloc, watches, listener.filter_chains.as_slice())?,
         default_filter_chain: default_chain(alloc, watches, &listener.default_filter_chain)?,
     }))

@@ -3,7 +3,7 @@
 
 ghost use Rattle.std.specs.Prelude.{◌≡◌, ◌<◌};
 ghost use Rattle.ev_io.specs.declared.limits.TheConstants.{MAX_INPUT_BYTES, MAX_LINE_BYTES, MAX_LINES, MAX_PIECE_BYTES};
-ghost use Rattle.ev_types.specs.declared.limits.TheConstants.{ITEM_LIMIT, LINE_LIMIT, MAX_NAME_LENGTH, MAX_WEIGHT_SUM, MAX_WORKERS, ROW_LIMIT};
+ghost use Rattle.ev_types.specs.declared.limits.TheConstants.{ITEM_LIMIT, LINE_LIMIT, MAX_DECIMAL_DIGITS, MAX_NAME_LENGTH, MAX_WEIGHT_SUM, MAX_WORKERS, ROW_LIMIT};
 ghost use Rattle.ev_tree.specs.declared.limits.TheConstants.{MAX_FRACTION_DIGITS, MAX_NAME_BYTES, MAX_PORT, MAX_SECONDS, MAX_SECONDS_DIGITS, MAX_U32_DIGITS};
 ghost use Rattle.ev_cluster_json.specs.declared.groups.TheConstants.{MAX_PRIORITY};
 ghost use Rattle.ev_cluster_json.specs.declared.parts.TheConstants.{EDS, LOGICAL_DNS, STATIC};
@@ -53,10 +53,11 @@ pub fn resources_are_limited()
     ensures eds_type { EDS ≡ 3 }
 {}
 
-/// A number of 32 bits has at most 10 digits; a duration at most 12 digits of seconds and 9 after the point, and at most
-/// 315,576,000,000 seconds, ten thousand years. It does nothing.
+/// A number of 32 bits has at most 10 digits, one of 64 bits in a text at most 19; a duration at most 12 digits of seconds
+/// and 9 after the point, and at most 315,576,000,000 seconds, ten thousand years. It does nothing.
 pub fn numbers_are_limited()
     ensures digits { MAX_U32_DIGITS ≡ 10 }
+    ensures decimal_digits { MAX_DECIMAL_DIGITS ≡ 19 }
     ensures seconds_digits { MAX_SECONDS_DIGITS ≡ 12 }
     ensures fraction_digits { MAX_FRACTION_DIGITS ≡ 9 }
     ensures seconds { MAX_SECONDS ≡ 315576000000 }

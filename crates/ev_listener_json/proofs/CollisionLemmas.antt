@@ -8,12 +8,12 @@ use Rattle.std.proofs.lemmas.List.Folds.{Any-from_list_any, list_any-from_Any}
 use Rattle.std.proofs.lemmas.Option.{slice_get_within, slice_get-get_or, get_or_from_slice_get}
 use Rattle.ev_types.specs.Same.{bytes_decide, numbers_decide}
 use Rattle.ev_types.specs.Ips.{cidr_range_same, cidr_range_decides}
-use Rattle.ev_types.specs.FilterChains.{nat_same, has_value, overlap, collide, ports}
+use Rattle.ev_types.specs.FilterChains.{nat_same, has_value, overlap, collide, collide_for_destination, collide_for_source, ports}
 use Rattle.ev_types.specs.declared.filter_chains.FilterChainMatch.{FilterChainMatch}
 use Rattle.ev_types.specs.declared.listeners.FilterChain.{FilterChain}
 use Rattle.ev_listener_json.specs.declared.chain_keys.Criterion.{Criterion}
-use Rattle.ev_listener_json.specs.declared.chain_keys.Criterion.TheVariants.{Port, Range, Name, Protocol}
-use Rattle.ev_listener_json.specs.ChainKeys.{bare_key, port_key, range_key, text_key, or_bare, keys_asked, keys_by}
+use Rattle.ev_listener_json.specs.declared.chain_keys.Criterion.TheVariants.{Port, Range, Name, Protocol, DirectSource, SourceRange, SourcePort}
+use Rattle.ev_listener_json.specs.ChainKeys.{bare_key, port_key, range_key, text_key, or_bare, keys_by}
 use Rattle.ev_listener_json.specs.ChainPlaces.{PlacesKept, places_under, has_key, HasFirst, HasAll, collides_given, collides_there, any_under, any_collides, count_under, fewer_keys, fewest_keys}
 
 -- ---- tests of lists
@@ -68,29 +68,28 @@ module _ {X : Type 0} (same : X → X → Bool) (decide : (x y : X) → Decides 
       let (k, v, within, at, has) = Any-from_list_any (has_value same (x ∷ xs)) (y ∷ ys) h in
       (key v, has_mapped v (x ∷ xs) has, has_mapped v (y ∷ ys) (list_any-from_Any (same v) (y ∷ ys) (k, v, within, at, (decide v v).1 refl)))
 
--- neither of two chains that collide asks for a source
-no_source : (a b : Bool) → not (a || b) ≡ true → (a ≡ false) × (b ≡ false)
-no_source true b h = absurd (false≢true h)
-no_source false true h = absurd (false≢true h)
-no_source false false h = (refl, refl)
-
 -- chains that collide have a key in common by each criterion
-asked_shares : (c : Criterion) (a b : FilterChainMatch) → collide a b ≡ true → Shares (keys_asked c a) (keys_asked c b)
-asked_shares Port a b h =
-    overlap_shares nat_same numbers_decide port_key 0 (ports a) (ports b) (second_so _ _ (first_so _ _ (first_so _ _ (first_so _ _ (first_so _ _ h)))))
-asked_shares Range a b h =
-    overlap_shares cidr_range_same cidr_range_decides range_key 2 a.prefix_ranges b.prefix_ranges (second_so _ _ (first_so _ _ (first_so _ _ (first_so _ _ h))))
-asked_shares Name a b h = overlap_shares bytes_eq bytes_decide (text_key 6) 5 a.server_names b.server_names (second_so _ _ (first_so _ _ (first_so _ _ h)))
-asked_shares Protocol a b h = overlap_shares bytes_eq bytes_decide (text_key 8) 7 a.application_protocols b.application_protocols (second_so _ _ h)
-
-unasked : (c : Criterion) (m : FilterChainMatch) → m.asks_source ≡ false → keys_by c m ≡ keys_asked c m
-unasked c m none = ap (λ t. cond t [] (keys_asked c m)) none
-
 pub collide_shares : (c : Criterion) (a b : FilterChainMatch) → collide a b ≡ true → Shares (keys_by c a) (keys_by c b)
-collide_shares c a b h =
-    let (key, one, other) = asked_shares c a b h in
-    let none = no_source a.asks_source b.asks_source (first_so _ _ (first_so _ _ (first_so _ _ (first_so _ _ (first_so _ _ h))))) in
-    (key, ap (λ keys. has_key keys key) (unasked c a none.0) ∙ one, ap (λ keys. has_key keys key) (unasked c b none.1) ∙ other)
+collide_shares Port a b h =
+    overlap_shares nat_same numbers_decide (port_key 1) 0 (ports a) (ports b)
+    (first_so _ _ (first_so _ _ (first_so _ _ (first_so _ _ (first_so _ _ h)))))
+collide_shares Range a b h =
+    overlap_shares cidr_range_same cidr_range_decides (range_key 3) 2 a.prefix_ranges b.prefix_ranges
+    (second_so _ _ (first_so _ _ (first_so _ _ (first_so _ _ (first_so _ _ h)))))
+collide_shares Name a b h =
+    overlap_shares bytes_eq bytes_decide (text_key 6) 5 a.server_names b.server_names
+    (second_so _ _ (first_so _ _ (first_so _ _ (first_so _ _ h))))
+collide_shares Protocol a b h =
+    overlap_shares bytes_eq bytes_decide (text_key 8) 7 a.application_protocols b.application_protocols (second_so _ _ (first_so _ _ h))
+collide_shares DirectSource a b h =
+    overlap_shares cidr_range_same cidr_range_decides (range_key 10) 9 a.direct_source_prefix_ranges b.direct_source_prefix_ranges
+    (first_so _ _ (first_so _ _ (first_so _ _ (second_so (collide_for_destination a b) (collide_for_source a b) h))))
+collide_shares SourceRange a b h =
+    overlap_shares cidr_range_same cidr_range_decides (range_key 13) 12 a.source_prefix_ranges b.source_prefix_ranges
+    (second_so _ _ (first_so _ _ (second_so (collide_for_destination a b) (collide_for_source a b) h)))
+collide_shares SourcePort a b h =
+    overlap_shares nat_same numbers_decide (port_key 16) 15 a.source_ports b.source_ports
+    (second_so _ _ (second_so (collide_for_destination a b) (collide_for_source a b) h))
 
 -- ---- chains by their places
 
@@ -149,9 +148,15 @@ fewer_by m kept one other a b = by (nat_le (count_under kept one) (count_under k
 
 fewest_by : (m : FilterChainMatch) (kept : PlacesKept) → IsByCriterion m (fewest_keys kept m)
 fewest_by m kept =
-    fewer_by m kept (fewer_keys kept (keys_by Port m) (keys_by Range m)) (fewer_keys kept (keys_by Name m) (keys_by Protocol m))
+    fewer_by m kept
+    (fewer_keys kept (fewer_keys kept (keys_by Port m) (keys_by Range m)) (fewer_keys kept (keys_by Name m) (keys_by Protocol m)))
+    (fewer_keys kept (fewer_keys kept (keys_by DirectSource m) (keys_by SourceRange m)) (keys_by SourcePort m))
+    (fewer_by m kept (fewer_keys kept (keys_by Port m) (keys_by Range m)) (fewer_keys kept (keys_by Name m) (keys_by Protocol m))
     (fewer_by m kept (keys_by Port m) (keys_by Range m) (Port, refl) (Range, refl))
-    (fewer_by m kept (keys_by Name m) (keys_by Protocol m) (Name, refl) (Protocol, refl))
+    (fewer_by m kept (keys_by Name m) (keys_by Protocol m) (Name, refl) (Protocol, refl)))
+    (fewer_by m kept (fewer_keys kept (keys_by DirectSource m) (keys_by SourceRange m)) (keys_by SourcePort m)
+    (fewer_by m kept (keys_by DirectSource m) (keys_by SourceRange m) (DirectSource, refl) (SourceRange, refl))
+    (SourcePort, refl))
 
 pub found_fewest : (chains : List FilterChain) (one : FilterChainMatch) (kept : PlacesKept) → HasAll chains kept
     → any_under kept chains one (fewest_keys kept one) ≡ any_collides chains one

@@ -7,7 +7,7 @@ use Rattle.ev_tree.specs.Rules.{is_name}
 use Rattle.ev_tree.specs.Broken.{least_of}
 use Rattle.ev_tree.specs.Addresses.{address_text_of, address_broken, any_text_of, any_address_broken}
 use Rattle.ev_tree.proofs.Unions.{least_none}
-use Rattle.ev_listener_json.specs.Listeners.{listener_name, own_listener_broken, envoy_listener_broken, envoy_parts_broken, lacks_address, named_address, listening_text, is_unusable}
+use Rattle.ev_listener_json.specs.Listeners.{listener_name, own_listener_broken, envoy_listener_broken, envoy_self_broken, lacks_address, named_address, listening_text, is_unusable}
 
 left_false : (a b : Bool) → (a || b) ≡ false → a ≡ false
 left_false true b e = absurd (true≢false e)
@@ -47,11 +47,11 @@ own_address tree h =
 -- as Envoy reads it
 
 pub envoy_name : (tree : Data) → least_of (envoy_listener_broken tree) ≡ None → is_name (listener_name tree) ≡ true
-unfolding envoy_parts_broken
+unfolding envoy_self_broken
 envoy_name tree h =
     let clear = least_none (envoy_listener_broken tree) h in
-    let v3 = right_false _ _ (ap (λ (b : BrokenRules). b.v3) clear) in
-    let v6 = right_false _ _ (ap (λ (b : BrokenRules). b.v6) clear) in
+    let v3 = right_false _ _ (right_false _ _ (ap (λ (b : BrokenRules). b.v3) clear)) in
+    let v6 = right_false _ _ (right_false _ _ (ap (λ (b : BrokenRules). b.v6) clear)) in
     named (is_wrong (text_of (codes "name") tree)) (is_name (listener_name tree)) v3 (left_false _ _ (left_false _ _ (left_false _ _ v6)))
 
 -- an address that V12 lets pass has a text that is a name
@@ -65,8 +65,8 @@ usable true text named_text any_text broken is any e = not_false (is_name text) 
 usable false text named_text any_text broken is any e = ap is_name is ∙ any e
 
 pub envoy_address : (tree : Data) → least_of (envoy_listener_broken tree) ≡ None → is_name (listening_text tree) ≡ true
-unfolding envoy_parts_broken listening_text
+unfolding envoy_self_broken listening_text
 envoy_address tree h =
     let clear = least_none (envoy_listener_broken tree) h in
-    let v14 = right_false _ _ (ap (λ (b : BrokenRules). b.v14) clear) in
-    usable (lacks_address tree) (listening_text tree) (named_address tree) (any_text_of tree) (any_address_broken tree).v12 refl (any_named tree) (left_false _ _ v14)
+    let v14 = right_false _ _ (right_false _ _ (ap (λ (b : BrokenRules). b.v14) clear)) in
+    usable (lacks_address tree) (listening_text tree) (named_address tree) (any_text_of tree) (any_address_broken tree).v12 refl (any_named tree) v14

@@ -25,7 +25,7 @@ abbrev pub chains_collide : List FilterChain → Bool
 chains_collide [] = false
 chains_collide (chain ∷ chains) = list_any (λ (other : FilterChain). collide chain.criteria other.criteria) chains || chains_collide chains
 
-any_map : {A B : Type 0} (p : B → Bool) (f : A → B) (xs : List A) → list_any p (map f xs) ≡ list_any (λ x. p (f x)) xs
+pub any_map : {A B : Type 0} (p : B → Bool) (f : A → B) (xs : List A) → list_any p (map f xs) ≡ list_any (λ x. p (f x)) xs
 any_map p f [] = refl
 any_map p f (x ∷ xs) = ap (λ b. p (f x) || b) (any_map p f xs)
 

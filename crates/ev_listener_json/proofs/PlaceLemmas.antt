@@ -9,7 +9,7 @@ use Rattle.ev_types.specs.Same.{bytes_decide, numbers_decide}
 use Rattle.ev_types.specs.declared.filter_chains.FilterChainMatch.{FilterChainMatch}
 use Rattle.ev_types.specs.declared.listeners.FilterChain.{FilterChain}
 use Rattle.ev_listener_json.specs.declared.chain_keys.Criterion.{Criterion}
-use Rattle.ev_listener_json.specs.declared.chain_keys.Criterion.TheVariants.{Port, Range, Name, Protocol}
+use Rattle.ev_listener_json.specs.declared.chain_keys.Criterion.TheVariants.{Port, Range, Name, Protocol, DirectSource, SourceRange, SourcePort}
 use Rattle.ev_listener_json.specs.ChainKeys.{keys_by}
 use Rattle.ev_listener_json.specs.ChainPlaces.{PlacesKept, places_under, stands_under, has_key, Puts, Enters, EntersMatch, HasFirst}
 
@@ -49,19 +49,39 @@ enters_more keys i key own place before between after lt at is enters puts = rec
 
 -- ---- a match
 
-pub enters_match : (m : FilterChainMatch) (place : ℕ) (ports ranges names protocols : List (List ℕ)) (a b c d e : PlacesKept)
-    → ports ≡ keys_by Port m → ranges ≡ keys_by Range m → names ≡ keys_by Name m → protocols ≡ keys_by Protocol m
-    → Enters ports place a b → Enters ranges place b c → Enters names place c d → Enters protocols place d e → EntersMatch m place a e
-enters_match m place ports ranges names protocols a b c d e ports_are ranges_are names_are protocols_are first second third fourth = record {
-  kept = λ key n stands. fourth.kept key n (third.kept key n (second.kept key n (first.kept key n stands)));
-  entered = by;
-}
-  where
-    by : (criterion : Criterion) (key : List ℕ) → has_key (keys_by criterion m) key ≡ true → stands_under e key place ≡ true
-    by Port key has = fourth.kept key place (third.kept key place (second.kept key place (first.entered key (ap (λ keys. has_key keys key) ports_are ∙ has))))
-    by Range key has = fourth.kept key place (third.kept key place (second.entered key (ap (λ keys. has_key keys key) ranges_are ∙ has)))
-    by Name key has = fourth.kept key place (third.entered key (ap (λ keys. has_key keys key) names_are ∙ has))
-    by Protocol key has = fourth.entered key (ap (λ keys. has_key keys key) protocols_are ∙ has)
+-- what is under a key before stays there through each step after
+module _ (m : FilterChainMatch) (place : ℕ) where
+  abbrev pub By : Criterion → PlacesKept → PlacesKept → Type 0
+  By c before after = Enters (keys_by c m) place before after
+
+  pub enters_match : (a b c d e f g h : PlacesKept)
+      → By Port a b → By Range b c → By Name c d → By Protocol d e → By DirectSource e f → By SourceRange f g → By SourcePort g h
+      → EntersMatch m place a h
+  enters_match a b c d e f g h first second third fourth fifth sixth seventh = record {
+    kept = λ key n stands. after_second key n (second.kept key n (first.kept key n stands));
+    entered = by;
+  }
+    where
+      after_fifth : (key : List ℕ) (n : ℕ) → stands_under f key n ≡ true → stands_under h key n ≡ true
+      after_fifth key n stands = seventh.kept key n (sixth.kept key n stands)
+
+      after_fourth : (key : List ℕ) (n : ℕ) → stands_under e key n ≡ true → stands_under h key n ≡ true
+      after_fourth key n stands = after_fifth key n (fifth.kept key n stands)
+
+      after_third : (key : List ℕ) (n : ℕ) → stands_under d key n ≡ true → stands_under h key n ≡ true
+      after_third key n stands = after_fourth key n (fourth.kept key n stands)
+
+      after_second : (key : List ℕ) (n : ℕ) → stands_under c key n ≡ true → stands_under h key n ≡ true
+      after_second key n stands = after_third key n (third.kept key n stands)
+
+      by : (criterion : Criterion) (key : List ℕ) → has_key (keys_by criterion m) key ≡ true → stands_under h key place ≡ true
+      by Port key has = after_second key place (second.kept key place (first.entered key has))
+      by Range key has = after_second key place (second.entered key has)
+      by Name key has = after_third key place (third.entered key has)
+      by Protocol key has = after_fourth key place (fourth.entered key has)
+      by DirectSource key has = after_fifth key place (fifth.entered key has)
+      by SourceRange key has = seventh.kept key place (sixth.entered key has)
+      by SourcePort key has = seventh.entered key has
 
 -- ---- chains in order
 

@@ -1,24 +1,19 @@
 -- A filter chain's match (`envoy.config.listener.v3.FilterChainMatch`) with all its criteria, and the rules that it breaks.
 -- What is no match, as one that is missing, has no criterion; members of other names are passed over.
-use Rattle.std.specs.Prelude.{ℕ, ◌||◌, ◌&&◌, ◌==◌, List, [], length, map, Bool, false, not, nat_le, if◌then◌else◌, Option, Some, None, codes}
+use Rattle.std.specs.Prelude.{ℕ, ◌||◌, ◌==◌, List, [], length, map, Bool, false, not, if◌then◌else◌, Option, Some, None, codes}
 use Rattle.std.specs.Str.{str_to_ascii_lowercase}
 use Rattle.serde_json.specs.Data.{Data}
 use Rattle.ev_types.specs.declared.filter_chains.FilterChainMatch.{FilterChainMatch}
 use Rattle.ev_tree.specs.declared.broken.BrokenRules.{BrokenRules}
-use Rattle.ev_tree.specs.declared.limits.TheConstants.{MAX_PORT}
 use Rattle.ev_tree.specs.declared.outcome.Found.{Found}
 use Rattle.ev_tree.specs.declared.outcome.Found.TheVariants.{Absent, Wrong, Given}
 use Rattle.ev_tree.specs.Forms.{is_wrong, given_or, listed, text_in, text_of, number_of, objects_of, texts_of}
 use Rattle.ev_tree.specs.Broken.{none_broken, either_broken, any_broken}
 use Rattle.ev_listener_json.specs.ServerNames.{has_no_name}
 use Rattle.ev_listener_json.specs.CidrRanges.{cidr_range_of, cidr_range_broken}
-use Rattle.ev_listener_json.specs.SourceCriteria.{source_asked, source_broken_by}
+use Rattle.ev_listener_json.specs.SourceCriteria.{is_destination, sources_of, sources_broken}
 
 -- ---- the criteria
-
--- a port that a connection can go to: 1 to 65535
-abbrev pub is_destination : ℕ → Bool
-is_destination port = nat_le 1 port && nat_le port MAX_PORT
 
 -- the port, where one is given that is one
 abbrev pub destination_in : Found ℕ → Option ℕ
@@ -58,13 +53,16 @@ filter_chain_match_of tree = record {
   server_names = names_asked tree;
   transport_protocol = filled_text (given_or [] (text_of (codes "transport_protocol") tree));
   application_protocols = protocols_asked tree;
-  asks_source = source_asked tree;
+  direct_source_prefix_ranges = (sources_of tree).direct_ranges;
+  source_type = (sources_of tree).source_type;
+  source_prefix_ranges = (sources_of tree).ranges;
+  source_ports = (sources_of tree).ports;
 }
 
 -- What a match breaks: what one of its ranges breaks, what the criteria of the source break, and what it breaks itself.
 -- V6: a wrong form, or a port that is 0 or above 65535. V27: a server name that isn't one.
 unfoldable pub filter_chain_match_broken : Data → BrokenRules
-filter_chain_match_broken tree = either_broken (any_broken cidr_range_broken (range_trees tree)) (either_broken (source_broken_by tree) (record none_broken {
+filter_chain_match_broken tree = either_broken (any_broken cidr_range_broken (range_trees tree)) (either_broken (sources_broken tree) (record none_broken {
   v6 =
       is_wrong (number_of (codes "destination_port") tree)
       || is_no_destination (number_of (codes "destination_port") tree)

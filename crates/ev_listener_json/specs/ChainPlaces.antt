@@ -7,7 +7,7 @@ use Rattle.ev_types.specs.FilterChains.{collide}
 use Rattle.ev_types.specs.declared.filter_chains.FilterChainMatch.{FilterChainMatch}
 use Rattle.ev_types.specs.declared.listeners.FilterChain.{FilterChain}
 use Rattle.ev_listener_json.specs.declared.chain_keys.Criterion.{Criterion}
-use Rattle.ev_listener_json.specs.declared.chain_keys.Criterion.TheVariants.{Port, Range, Name, Protocol}
+use Rattle.ev_listener_json.specs.declared.chain_keys.Criterion.TheVariants.{Port, Range, Name, Protocol, DirectSource, SourceRange, SourcePort}
 use Rattle.ev_listener_json.specs.ChainKeys.{keys_by}
 
 -- lists of places, each under a key
@@ -75,8 +75,12 @@ count_under kept keys = fold (λ count key. min (count + length (places_under ke
 abbrev pub fewer_keys : PlacesKept → List (List ℕ) → List (List ℕ) → List (List ℕ)
 fewer_keys kept one other = if nat_le (count_under kept one) (count_under kept other) then one else other
 
--- of the lists of a match's keys by the four criteria the one under which there are the fewest
+-- of the lists of a match's keys by the seven criteria the one under which there are the fewest
 abbrev pub fewest_keys : PlacesKept → FilterChainMatch → List (List ℕ)
 fewest_keys kept m = fewer_keys kept
+    (fewer_keys kept
     (fewer_keys kept (keys_by Port m) (keys_by Range m))
-    (fewer_keys kept (keys_by Name m) (keys_by Protocol m))
+    (fewer_keys kept (keys_by Name m) (keys_by Protocol m)))
+    (fewer_keys kept
+    (fewer_keys kept (keys_by DirectSource m) (keys_by SourceRange m))
+    (keys_by SourcePort m))

@@ -27,7 +27,10 @@ no_criteria = record {
   server_names = [];
   transport_protocol = None;
   application_protocols = [];
-  asks_source = false;
+  direct_source_prefix_ranges = [];
+  source_type = None;
+  source_prefix_ranges = [];
+  source_ports = [];
 }
 
 -- ---- a chain
@@ -114,14 +117,14 @@ chains_of tree = listed (objects_of (codes "filter_chains") tree)
 abbrev pub has_default : Data → Bool
 has_default tree = is_given (object_of (codes "default_filter_chain") tree)
 
--- What they break: what one of them breaks, the default chain's match left aside, and what they break together. V16: there is none.
--- V26: two of them, neither of which asks for a source, take a connection in common.
-unfoldable pub given_chains_broken : Data → BrokenRules
-given_chains_broken tree =
+-- What they break: what one of them breaks, the default chain's match left aside, and what they break together. V16: there is none,
+-- and the listener listens by TCP. V26: two of them take a connection in common.
+unfoldable pub given_chains_broken : Bool → Data → BrokenRules
+given_chains_broken udp tree =
     either_broken (any_broken envoy_chain_broken (chains_of tree))
     (either_broken (default_broken (object_of (codes "default_filter_chain") tree)) (record none_broken {
       v6 = is_wrong (objects_of (codes "filter_chains") tree) || is_wrong (object_of (codes "default_filter_chain") tree);
-      v16 = (length (chains_of tree) == 0) && not (has_default tree);
+      v16 = (length (chains_of tree) == 0) && not (has_default tree) && not udp;
       v26 = has_collision (map (λ (c : FilterChain). c.criteria) (map envoy_chain_of (chains_of tree)));
     }))
 
@@ -130,8 +133,8 @@ given_default_of tree = default_serve (object_of (codes "default_filter_chain") 
 
 -- ---- the chains that count: an API listener hides those that are given
 
-unfoldable pub envoy_chains_broken : Data → BrokenRules
-envoy_chains_broken tree = if has_api tree then api_broken tree else given_chains_broken tree
+unfoldable pub envoy_chains_broken : Bool → Data → BrokenRules
+envoy_chains_broken udp tree = if has_api tree then api_broken tree else given_chains_broken udp tree
 
 unfoldable pub envoy_chains_of : Data → List FilterChain
 envoy_chains_of tree =

@@ -2,6 +2,7 @@ pub mod Parts
 pub mod Members
 pub mod Managers
 pub mod Filters
+pub mod ListenerFilters
 pub mod Listeners
 pub mod ServerNames
 pub mod CidrRanges

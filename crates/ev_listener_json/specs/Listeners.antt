@@ -18,6 +18,7 @@ use Rattle.ev_tree.specs.Rules.{judged, is_name}
 use Rattle.ev_tree.specs.Broken.{none_broken, either_broken, any_broken, least_of}
 use Rattle.ev_listener_json.specs.Parts.{first_of}
 use Rattle.ev_listener_json.specs.Filters.{chain_serve, chain_broken}
+use Rattle.ev_listener_json.specs.ListenerFilters.{hands_over, restores, redirection_broken}
 use Rattle.ev_listener_json.specs.Chains.{chains_of, no_criteria, has_api, envoy_chains_of, envoy_default_of, envoy_chains_broken}
 
 -- ---- the parts of a listener
@@ -56,8 +57,10 @@ own_listener_broken tree = either_broken (any_broken chain_broken (chains_of tre
 abbrev pub own_listener_of : Data → Listener
 own_listener_of tree = record {
   name = listener_name tree;
-  address = record { address = address_text_of tree; port = port_of tree };
+  address = record { host = record { address = address_text_of tree; port = port_of tree }; udp = false };
   takes_every_address = false;
+  restores = false;
+  hands_over = false;
   filter_chains = record { criteria = no_criteria; serve = serve_of tree } ∷ [];
   default_filter_chain = None;
   body_text = body_text_of Own tree;
@@ -94,31 +97,38 @@ is_unusable by_name text broken = if by_name then not (is_name text) else broken
 abbrev pub has_bad_address : Data → Bool
 has_bad_address tree = is_unusable (lacks_address tree) (listening_text tree) (any_address_broken tree).v12
 
--- the text of an address that stands for every address
+-- the text of an address that represents every address
 abbrev pub is_every_address : List ℕ → Bool
 is_every_address text = bytes_eq text (codes "0.0.0.0") || bytes_eq text (codes "::")
 
--- What a listener breaks by itself. V3 and V6 as by the own rules. V14: no usable address, or one for datagrams.
-unfoldable pub envoy_parts_broken : Data → BrokenRules
-envoy_parts_broken tree = record none_broken {
+-- it listens by UDP
+unfoldable pub listens_by_udp : Data → Bool
+listens_by_udp tree = is_udp (enumeration_of (codes "protocol") Protocol (socket_of tree))
+
+-- What a listener breaks by itself. V3 and V6 as by the own rules. V14: no usable address.
+unfoldable pub envoy_self_broken : Data → BrokenRules
+envoy_self_broken tree = record none_broken {
   v3 = not (is_wrong (text_of (codes "name") tree)) && not (is_name (listener_name tree));
   v6 =
       is_wrong (text_of (codes "name") tree)
       || (any_address_broken tree).v6
       || is_wrong (enumeration_of (codes "protocol") Protocol (socket_of tree))
       || is_wrong (object_of (codes "internal_listener") tree);
-  v14 = has_bad_address tree || is_udp (enumeration_of (codes "protocol") Protocol (socket_of tree));
+  v14 = has_bad_address tree;
 }
 
--- what a listener breaks: what its chains break, and what it breaks itself
+-- what a listener breaks: what its chains break, what its members about redirected connections break, and what it breaks itself
 abbrev pub envoy_listener_broken : Data → BrokenRules
-envoy_listener_broken tree = either_broken (envoy_chains_broken tree) (envoy_parts_broken tree)
+envoy_listener_broken tree =
+    either_broken (envoy_chains_broken (listens_by_udp tree) tree) (either_broken (redirection_broken tree) (envoy_self_broken tree))
 
 abbrev pub envoy_listener_of : Data → Listener
 envoy_listener_of tree = record {
   name = listener_name tree;
-  address = record { address = listening_text tree; port = listening_port tree };
+  address = record { host = record { address = listening_text tree; port = listening_port tree }; udp = listens_by_udp tree };
   takes_every_address = is_every_address (listening_text tree);
+  restores = restores tree;
+  hands_over = hands_over tree;
   filter_chains = envoy_chains_of tree;
   default_filter_chain = envoy_default_of tree;
   body_text = body_text_of Envoy tree;

@@ -1,22 +1,45 @@
--- What a filter chain's match asks of the connection's source, which no script says: only whether it asks is read.
-use Rattle.std.specs.Prelude.{ℕ, ◌||◌, ◌==◌, List, length, Bool, not, nat_lt, if◌then◌else◌, Option, Some, None, is_some, codes}
+-- What a filter chain's match asks of where a connection comes from.
+use Rattle.std.specs.Prelude.{ℕ, ◌||◌, ◌&&◌, ◌==◌, List, map, Bool, false, not, nat_le, nat_lt, if◌then◌else◌, Option, Some, None, codes}
 use Rattle.std.specs.List.{list_all}
 use Rattle.std.specs.Str.{bytes_eq}
 use Rattle.serde_json.specs.Data.{unsigned, negative, float, Data, null, boolean, number, string, array, object}
+use Rattle.ev_types.specs.declared.filter_chains.SourceType.{SourceType}
+use Rattle.ev_types.specs.declared.filter_chains.SourceType.TheVariants.{SameIpOrLoopback, External}
 use Rattle.ev_tree.specs.declared.broken.BrokenRules.{BrokenRules}
+use Rattle.ev_tree.specs.declared.limits.TheConstants.{MAX_PORT}
 use Rattle.ev_tree.specs.declared.outcome.Found.{Found}
 use Rattle.ev_tree.specs.Scalars.{u32_in}
 use Rattle.ev_tree.specs.Forms.{is_wrong, given_or, listed, in_form, field_of, list_of, objects_of}
-use Rattle.ev_tree.specs.Broken.{none_broken}
+use Rattle.ev_tree.specs.Broken.{none_broken, either_broken, any_broken}
+use Rattle.ev_listener_json.specs.CidrRanges.{cidr_range_of, cidr_range_broken}
+use Rattle.ev_listener_json.specs.declared.source_criteria.Sources.{Sources}
+
+-- ---- a port: 1 to 65535
+
+abbrev pub is_destination : ℕ → Bool
+is_destination port = nat_le 1 port && nat_le port MAX_PORT
 
 -- ---- `source_ports`: a list of numbers
 
-abbrev pub is_u32 : Data → Bool
-is_u32 d = is_some (u32_in d)
+-- a number is given that is a port
+abbrev pub is_given_port : Option ℕ → Bool
+is_given_port None = false
+is_given_port (Some port) = is_destination port
 
--- each of these is a u32
-abbrev pub are_u32 : List Data → Bool
-are_u32 ds = list_all is_u32 ds
+abbrev pub is_source_port : Data → Bool
+is_source_port d = is_given_port (u32_in d)
+
+-- each of these is
+abbrev pub are_source_ports : List Data → Bool
+are_source_ports ds = list_all is_source_port ds
+
+-- the port. What is none breaks V6; it stands for port 0, which never shows.
+abbrev pub port_or_zero : Option ℕ → ℕ
+port_or_zero None = 0
+port_or_zero (Some port) = if is_destination port then port else 0
+
+abbrev pub source_port_in : Data → ℕ
+source_port_in d = port_or_zero (u32_in d)
 
 -- ---- `source_type`: an enum
 
@@ -42,27 +65,39 @@ source_type_in (object ms) = None
 unfoldable pub source_type_of : Data → Found ℕ
 source_type_of tree = in_form source_type_in (field_of (codes "source_type") tree)
 
+-- the type of this number: 0 is any
+abbrev pub source_type_numbered : ℕ → Option SourceType
+source_type_numbered n = if n == 1 then Some SameIpOrLoopback else if n == 2 then Some External else None
+
 -- ---- all of them
 
--- a list is given that isn't empty
-abbrev pub has_element : Found (List Data) → Bool
-has_element found = not (length (listed found) == 0)
+unfoldable pub direct_range_trees : Data → List Data
+direct_range_trees tree = listed (objects_of (codes "direct_source_prefix_ranges") tree)
 
--- one of the lists isn't empty, or the type isn't ANY
-unfoldable pub source_asked : Data → Bool
-source_asked tree =
-    has_element (objects_of (codes "direct_source_prefix_ranges") tree)
-    || has_element (objects_of (codes "source_prefix_ranges") tree)
-    || has_element (list_of (codes "source_ports") tree)
-    || not (given_or 0 (source_type_of tree) == 0)
+unfoldable pub source_range_trees : Data → List Data
+source_range_trees tree = listed (objects_of (codes "source_prefix_ranges") tree)
 
--- what they break: wrong forms alone
-unfoldable pub source_broken_by : Data → BrokenRules
-source_broken_by tree = record none_broken {
-  v6 =
-      is_wrong (objects_of (codes "direct_source_prefix_ranges") tree)
-      || is_wrong (objects_of (codes "source_prefix_ranges") tree)
-      || is_wrong (list_of (codes "source_ports") tree)
-      || not (are_u32 (listed (list_of (codes "source_ports") tree)))
-      || is_wrong (source_type_of tree);
+unfoldable pub source_port_trees : Data → List Data
+source_port_trees tree = listed (list_of (codes "source_ports") tree)
+
+-- what is asked of the source
+unfoldable pub sources_of : Data → Sources
+sources_of tree = record {
+  direct_ranges = map cidr_range_of (direct_range_trees tree);
+  source_type = source_type_numbered (given_or 0 (source_type_of tree));
+  ranges = map cidr_range_of (source_range_trees tree);
+  ports = map source_port_in (source_port_trees tree);
 }
+
+-- What they break: what one of the ranges breaks, and what they break themselves. V6: wrong forms, and a port that is none.
+unfoldable pub sources_broken : Data → BrokenRules
+sources_broken tree =
+    either_broken (any_broken cidr_range_broken (direct_range_trees tree))
+    (either_broken (any_broken cidr_range_broken (source_range_trees tree)) (record none_broken {
+      v6 =
+          is_wrong (objects_of (codes "direct_source_prefix_ranges") tree)
+          || is_wrong (objects_of (codes "source_prefix_ranges") tree)
+          || is_wrong (list_of (codes "source_ports") tree)
+          || not (are_source_ports (source_port_trees tree))
+          || is_wrong (source_type_of tree);
+    }))

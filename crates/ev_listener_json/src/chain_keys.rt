@@ -1,4 +1,4 @@
-ghost use Rattle.std.specs.Prelude.{◌≡◌, ◌∷◌, IfOk, map, option_to_list};
+ghost use Rattle.std.specs.Prelude.{◌≡◌, ◌<◌, ◌∷◌, IfOk, map, option_to_list};
 ghost use Rattle.ev_listener_json.specs.ChainKeys.{number_key, text_key, port_key, range_key, or_bare, keys_by};
 
 use ev_keys::Keys;
@@ -14,6 +14,9 @@ pub(crate) enum Criterion {
     Range,
     Name,
     Protocol,
+    DirectSource,
+    SourceRange,
+    SourcePort,
 }
 
 /// A value that a filter chain asks for by a criterion, or that it asks for none, as a key. Contracts see what it is made of: a
@@ -71,20 +74,21 @@ impl<'a> ChainKey<'a> {
         }
     }
 
-    // The key of a port.
-    fn of_port(port: u16) -> ChainKey<'a>
-        ensures { result ≡ port_key port }
+    // The key of a port, under a mark.
+    fn of_port(mark: u8, port: u16) -> ChainKey<'a>
+        ensures { result ≡ port_key mark port }
     {
-        ChainKey::of_number(1, 0, port as u128)
+        ChainKey::of_number(mark, 0, port as u128)
     }
 
-    // The key of a range.
-    fn of_range(range: CidrRange) -> ChainKey<'a>
-        ensures { result ≡ range_key range }
+    // The key of a range, under a mark for IPv4 and the next one for IPv6.
+    fn of_range(mark: u8, range: CidrRange) -> ChainKey<'a>
+        requires { mark < 255 }
+        ensures { result ≡ range_key mark range }
     {
         match range.prefix {
-            Ip::V4(bits) => ChainKey::of_number(3, range.prefix_len, bits as u128),
-            Ip::V6(bits) => ChainKey::of_number(4, range.prefix_len, bits),
+            Ip::V4(bits) => ChainKey::of_number(mark, range.prefix_len, bits as u128),
+            Ip::V6(bits) => ChainKey::of_number(mark + 1, range.prefix_len, bits),
         }
     }
 }
@@ -141,18 +145,28 @@ pub(crate) fn hash_keys_of(chains: &[FilterChain]) -> Keys {
 
 // Feeds a hasher with what a filter chain asks for.
 fn feed(fed: &mut DefaultHasher, asked: &FilterChainMatch) {
-    for range in asked.prefix_ranges.as_slice() {
-        ChainKey::of_range(*range).hash(fed);
-    }
-    for name in asked.server_names.as_slice() {
-        ChainKey::of_text(6, name.as_str()).hash(fed);
-    }
-    for protocol in asked.application_protocols.as_slice() {
-        ChainKey::of_text(8, protocol.as_str()).hash(fed);
+    feed_ranges(fed, asked.prefix_ranges.as_slice());
+    feed_texts(fed, asked.server_names.as_slice());
+    feed_texts(fed, asked.application_protocols.as_slice());
+    feed_ranges(fed, asked.direct_source_prefix_ranges.as_slice());
+    feed_ranges(fed, asked.source_prefix_ranges.as_slice());
+}
+
+// Feeds a hasher with ranges.
+fn feed_ranges(fed: &mut DefaultHasher, ranges: &[CidrRange]) {
+    for range in ranges {
+        ChainKey::of_range(3, *range).hash(fed);
     }
 }
 
-/// The keys of what a filter chain asks for by a criterion. There is none where it asks for a source.
+// Feeds a hasher with texts.
+fn feed_texts(fed: &mut DefaultHasher, texts: &[Text]) {
+    for text in texts {
+        ChainKey::of_text(6, text.as_str()).hash(fed);
+    }
+}
+
+/// The keys of what a filter chain asks for by a criterion.
 pub(crate) fn keys_by<'a>(
     alloc: Global,
     criterion: Criterion,
@@ -160,37 +174,61 @@ pub(crate) fn keys_by<'a>(
 ) -> Result<Vec<ChainKey<'a>>, AllocError>
     ensures { IfOk result (λ keys. keys.items ≡ keys_by criterion asked.now) }
 {
-    if asked.asks_source {
-        return Ok(Vec::new(alloc));
-    }
     match criterion {
-        Criterion::Port => port_keys(alloc, asked.destination_port),
-        Criterion::Range => range_keys(alloc, asked.prefix_ranges.as_slice()),
+        Criterion::Port => port_key_of(alloc, asked.destination_port),
+        Criterion::Range => range_keys(alloc, 2, 3, asked.prefix_ranges.as_slice()),
         Criterion::Name => text_keys(alloc, 5, 6, asked.server_names.as_slice()),
         Criterion::Protocol => text_keys(alloc, 7, 8, asked.application_protocols.as_slice()),
+        Criterion::DirectSource => {
+            range_keys(alloc, 9, 10, asked.direct_source_prefix_ranges.as_slice())
+        }
+        Criterion::SourceRange => range_keys(alloc, 12, 13, asked.source_prefix_ranges.as_slice()),
+        Criterion::SourcePort => port_keys(alloc, 15, 16, asked.source_ports.as_slice()),
     }
 }
 
-// The keys of a port, if one is asked for.
-fn port_keys<'a>(alloc: Global, port: Option<u16>) -> Result<Vec<ChainKey<'a>>, AllocError>
-    ensures { IfOk result (λ keys. keys.items ≡ or_bare 0 (map port_key (option_to_list port))) }
+// The key of a port that is asked for, if one is.
+fn port_key_of<'a>(alloc: Global, port: Option<u16>) -> Result<Vec<ChainKey<'a>>, AllocError>
+    ensures { IfOk result (λ keys. keys.items ≡ or_bare 0 (map (port_key 1) (option_to_list port))) }
 {
     let mut keys = Vec::new(alloc);
     if let Some(port) = port {
-        keys.push(ChainKey::of_port(port))?;
+        keys.push(ChainKey::of_port(1, port))?;
     }
     or_bare(0, keys)
 }
 
-// The keys of ranges.
-fn range_keys<'a>(alloc: Global, ranges: &[CidrRange]) -> Result<Vec<ChainKey<'a>>, AllocError>
-    ensures { IfOk result (λ keys. keys.items ≡ or_bare 2 (map range_key ranges.now)) }
+// The keys of ports, under a mark, or under another where there are none.
+fn port_keys<'a>(
+    alloc: Global,
+    bare: u8,
+    mark: u8,
+    ports: &[u16],
+) -> Result<Vec<ChainKey<'a>>, AllocError>
+    ensures { IfOk result (λ keys. keys.items ≡ or_bare bare (map (port_key mark) ports.now)) }
+{
+    let mut keys = Vec::new(alloc);
+    for port in ports {
+        keys.push(ChainKey::of_port(mark, *port))?;
+    }
+    or_bare(bare, keys)
+}
+
+// The keys of ranges, under two marks, or under another where there are none.
+fn range_keys<'a>(
+    alloc: Global,
+    bare: u8,
+    mark: u8,
+    ranges: &[CidrRange],
+) -> Result<Vec<ChainKey<'a>>, AllocError>
+    requires { mark < 255 }
+    ensures { IfOk result (λ keys. keys.items ≡ or_bare bare (map (range_key mark) ranges.now)) }
 {
     let mut keys = Vec::new(alloc);
     for range in ranges {
-        keys.push(ChainKey::of_range(*range))?;
+        keys.push(ChainKey::of_range(mark, *range))?;
     }
-    or_bare(2, keys)
+    or_bare(bare, keys)
 }
 
 // The keys of texts, under a mark, or under another where there are none.

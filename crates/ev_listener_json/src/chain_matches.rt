@@ -2,12 +2,12 @@ ghost use Rattle.std.specs.Prelude.{◌≡◌, IfOk, map};
 ghost use Rattle.std.specs.Str.{str_to_ascii_lowercase};
 ghost use Rattle.serde_json.specs.View.{view};
 ghost use Rattle.ev_tree.specs.Forms.{tree_of, text_in};
-ghost use Rattle.ev_listener_json.specs.ChainMatches.{is_destination, destination_in, is_no_destination, lower_text_in, filled_text, filter_chain_match_of, filter_chain_match_broken};
+ghost use Rattle.ev_listener_json.specs.ChainMatches.{destination_in, is_no_destination, lower_text_in, filled_text, filter_chain_match_of, filter_chain_match_broken};
 
 use crate::cidr_ranges::inspect_ranges;
 use crate::server_names::has_no_name;
-use crate::source_criteria::inspect_source;
-use ev_tree::{BrokenRules, Found, Inspection, MAX_PORT, member};
+use crate::source_criteria::{inspect_sources, is_destination};
+use ev_tree::{BrokenRules, Found, Inspection, member};
 use ev_types::{FilterChainMatch, Seq, Text};
 use serde_json::Value;
 use std::alloc::{AllocError, Global};
@@ -27,7 +27,7 @@ pub fn inspect_filter_chain_match(
     let transport = member::text(alloc, tree, "transport_protocol")?;
     let protocols = member::texts(alloc, tree, "application_protocols")?;
     let below = inspect_ranges(alloc, member::elements(ranges))?;
-    let source = inspect_source(alloc, tree)?;
+    let sources = inspect_sources(alloc, tree)?;
     let server_names = copy_in_lowercase(alloc, member::elements(names))?;
     let own = BrokenRules {
         v6: port.is_wrong()
@@ -46,17 +46,13 @@ pub fn inspect_filter_chain_match(
             server_names: Seq::from_vec(server_names),
             transport_protocol: filled_text(alloc, member::text_or_empty(transport))?,
             application_protocols: Seq::from_vec(copy_texts(alloc, member::elements(protocols))?),
-            asks_source: source.value,
+            direct_source_prefix_ranges: sources.value.direct_ranges,
+            source_type: sources.value.source_type,
+            source_prefix_ranges: sources.value.ranges,
+            source_ports: sources.value.ports,
         },
-        broken: below.broken.or(source.broken.or(own)),
+        broken: below.broken.or(sources.broken.or(own)),
     })
-}
-
-// Whether a number is a port that a connection can go to.
-fn is_destination(port: u32) -> bool
-    ensures { result ≡ is_destination port }
-{
-    1 <= port && port <= MAX_PORT
 }
 
 // The port, where one is given that is one.

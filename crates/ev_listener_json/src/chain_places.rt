@@ -1,4 +1,5 @@
 ghost use Rattle.std.specs.Prelude.{◌≡◌, [], OnOk};
+ghost use Rattle.ev_listener_json.specs.ChainKeys.{keys_by};
 ghost use Rattle.ev_listener_json.specs.ChainPlaces.{count_under, places_under, Enters, EntersMatch, Puts};
 
 use crate::chain_keys::{ChainKey, Criterion, keys_by};
@@ -62,15 +63,28 @@ impl<'a> ChainPlaces<'a> {
     ) -> Result<(), AllocError>
         ensures { OnOk result (EntersMatch asked.now place self.old self.new) }
     {
-        let ports = keys_by(alloc, Criterion::Port, asked)?;
-        let ranges = keys_by(alloc, Criterion::Range, asked)?;
-        let names = keys_by(alloc, Criterion::Name, asked)?;
-        let protocols = keys_by(alloc, Criterion::Protocol, asked)?;
-        self.put_all(alloc, ports.as_slice(), place)?;
-        self.put_all(alloc, ranges.as_slice(), place)?;
-        self.put_all(alloc, names.as_slice(), place)?;
-        self.put_all(alloc, protocols.as_slice(), place)?;
+        self.put_by(alloc, Criterion::Port, asked, place)?;
+        self.put_by(alloc, Criterion::Range, asked, place)?;
+        self.put_by(alloc, Criterion::Name, asked, place)?;
+        self.put_by(alloc, Criterion::Protocol, asked, place)?;
+        self.put_by(alloc, Criterion::DirectSource, asked, place)?;
+        self.put_by(alloc, Criterion::SourceRange, asked, place)?;
+        self.put_by(alloc, Criterion::SourcePort, asked, place)?;
         Ok(())
+    }
+
+    // Puts a place under the keys of a match by a criterion.
+    fn put_by(
+        &mut self,
+        alloc: Global,
+        criterion: Criterion,
+        asked: &'a FilterChainMatch,
+        place: usize,
+    ) -> Result<(), AllocError>
+        ensures { OnOk result (Enters (keys_by criterion asked.now) place self.old self.new) }
+    {
+        let keys = keys_by(alloc, criterion, asked)?;
+        self.put_all(alloc, keys.as_slice(), place)
     }
 
     // Puts a place under these keys.

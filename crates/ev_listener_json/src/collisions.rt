@@ -1,7 +1,7 @@
 ghost use Rattle.std.specs.Prelude.{◌≡◌, map, option_to_list, IfOk};
 ghost use Rattle.std.specs.List.{list_any};
 ghost use Rattle.std.specs.Option.{option_copied};
-ghost use Rattle.ev_types.specs.FilterChains.{has_value, overlap, collide, has_collision};
+ghost use Rattle.ev_types.specs.FilterChains.{has_value, overlap, collide, collide_for_destination, collide_for_source, has_collision};
 ghost use Rattle.ev_types.specs.declared.listeners.FilterChain as declared;
 ghost use Rattle.ev_listener_json.specs.ChainPlaces.{any_collides, any_under, collides_given, collides_there, fewer_keys, fewest_keys, HasAll};
 
@@ -10,8 +10,7 @@ use crate::chain_places::ChainPlaces;
 use ev_types::{FilterChain, FilterChainMatch};
 use std::alloc::{AllocError, Global};
 
-/// Whether two filter chains may take one connection: neither asks for a source, and by each criterion they have a
-/// value in common, or none in both. Each chain is compared with those before it that are found by its keys.
+/// Whether two filter chains may take one connection: by each criterion they have a value in common, or none in both. Each chain is compared with those before it that are found by its keys.
 pub fn has_collision(alloc: Global, chains: &[FilterChain]) -> Result<bool, AllocError>
     ensures { IfOk result (λ has. has ≡ has_collision (map (λ (c : declared.FilterChain). c.criteria) chains.now)) }
 {
@@ -40,7 +39,7 @@ fn collides_with_any<'a>(
     Ok(any_under(places, chains, one, keys.as_slice()))
 }
 
-// The keys of a match by a criterion: of the four one under whose keys the fewest places are.
+// The keys of a match by a criterion: of the seven one under whose keys the fewest places are.
 fn fewest_keys<'a>(
     alloc: Global,
     places: &ChainPlaces<'a>,
@@ -52,9 +51,18 @@ fn fewest_keys<'a>(
     let ranges = keys_by(alloc, Criterion::Range, one)?;
     let names = keys_by(alloc, Criterion::Name, one)?;
     let protocols = keys_by(alloc, Criterion::Protocol, one)?;
+    let direct = keys_by(alloc, Criterion::DirectSource, one)?;
+    let sources = keys_by(alloc, Criterion::SourceRange, one)?;
+    let source_ports = keys_by(alloc, Criterion::SourcePort, one)?;
     let numbers = fewer_keys(places, ports, ranges);
     let texts = fewer_keys(places, names, protocols);
-    Ok(fewer_keys(places, numbers, texts))
+    let peers = fewer_keys(places, direct, sources);
+    let destinations = fewer_keys(places, numbers, texts);
+    Ok(fewer_keys(
+        places,
+        destinations,
+        fewer_keys(places, peers, source_ports),
+    ))
 }
 
 // Of two lists of keys the one under which there are fewer places.
@@ -115,8 +123,14 @@ fn collides_given(one: &FilterChainMatch, chain: Option<&FilterChain>) -> bool
 fn collides(one: &FilterChainMatch, other: &FilterChainMatch) -> bool
     ensures { result ≡ collide one.now other.now }
 {
-    !(one.asks_source || other.asks_source)
-        && overlap_in_one(&one.destination_port, &other.destination_port)
+    collide_for_destination(one, other) && collide_for_source(one, other)
+}
+
+// Whether two chains may take a connection to one place.
+fn collide_for_destination(one: &FilterChainMatch, other: &FilterChainMatch) -> bool
+    ensures { result ≡ collide_for_destination one.now other.now }
+{
+    overlap_in_one(&one.destination_port, &other.destination_port)
         && overlap(one.prefix_ranges.as_slice(), other.prefix_ranges.as_slice())
         && overlap(one.server_names.as_slice(), other.server_names.as_slice())
         && overlap_in_one(&one.transport_protocol, &other.transport_protocol)
@@ -124,6 +138,21 @@ fn collides(one: &FilterChainMatch, other: &FilterChainMatch) -> bool
             one.application_protocols.as_slice(),
             other.application_protocols.as_slice(),
         )
+}
+
+// Whether two chains may take a connection from one source.
+fn collide_for_source(one: &FilterChainMatch, other: &FilterChainMatch) -> bool
+    ensures { result ≡ collide_for_source one.now other.now }
+{
+    overlap(
+        one.direct_source_prefix_ranges.as_slice(),
+        other.direct_source_prefix_ranges.as_slice(),
+    ) && overlap_in_one(&one.source_type, &other.source_type)
+        && overlap(
+            one.source_prefix_ranges.as_slice(),
+            other.source_prefix_ranges.as_slice(),
+        )
+        && overlap(one.source_ports.as_slice(), other.source_ports.as_slice())
 }
 
 // Whether two criteria of at most one value have the same value, or both have none.

@@ -24,25 +24,30 @@ pub struct ChainsFound {
     pub broken: BrokenRules,
 }
 
-/// Inspects the chains of a listener as Envoy reads them. An API listener hides those that are given.
+/// Inspects the chains of a listener as Envoy reads them: one that listens by UDP needs none. An API listener hides those that are
+/// given.
 #[tactic(auto, unfolding(crate::specs::Chains::envoy_chains_of, crate::specs::Chains::envoy_default_of, crate::specs::Chains::envoy_chains_broken))]
-pub fn inspect_envoy_chains(alloc: Global, listener: &Value) -> Result<ChainsFound, AllocError>
+pub fn inspect_envoy_chains(
+    alloc: Global,
+    listener: &Value,
+    udp: bool,
+) -> Result<ChainsFound, AllocError>
     ensures chains { IfOk result (λ found. found.chains.items ≡ envoy_chains_of (view listener.now)) }
     ensures default { IfOk result (λ found. found.default ≡ envoy_default_of (view listener.now)) }
-    ensures broken { IfOk result (λ found. found.broken ≡ envoy_chains_broken (view listener.now)) }
+    ensures broken { IfOk result (λ found. found.broken ≡ envoy_chains_broken udp (view listener.now)) }
 {
     if has_api(alloc, listener)? {
         inspect_api(alloc, listener)
     } else {
-        inspect_given(alloc, listener)
+        inspect_given(alloc, listener, udp)
     }
 }
 
 // Inspects the chains that are given.
-fn inspect_given(alloc: Global, listener: &Value) -> Result<ChainsFound, AllocError>
+fn inspect_given(alloc: Global, listener: &Value, udp: bool) -> Result<ChainsFound, AllocError>
     ensures chains { IfOk result (λ found. found.chains.items ≡ map envoy_chain_of (chains_of (view listener.now))) }
     ensures default { IfOk result (λ found. found.default ≡ given_default_of (view listener.now)) }
-    ensures broken { IfOk result (λ found. found.broken ≡ given_chains_broken (view listener.now)) }
+    ensures broken { IfOk result (λ found. found.broken ≡ given_chains_broken udp (view listener.now)) }
 {
     let chains = member::objects(alloc, Some(listener), "filter_chains")?;
     let default = member::object(alloc, Some(listener), "default_filter_chain")?;
@@ -51,7 +56,7 @@ fn inspect_given(alloc: Global, listener: &Value) -> Result<ChainsFound, AllocEr
     let last = inspect_default(alloc, default)?;
     let own = BrokenRules {
         v6: chains.is_wrong() | default.is_wrong(),
-        v16: elements.is_empty() & !default.is_given(),
+        v16: elements.is_empty() & !default.is_given() & !udp,
         v26: has_collision(alloc, below.value.as_slice())?,
         ..BrokenRules::none()
     };
@@ -116,7 +121,10 @@ pub fn no_criteria(alloc: Global) -> FilterChainMatch
         server_names: Seq::new(alloc),
         transport_protocol: None,
         application_protocols: Seq::new(alloc),
-        asks_source: false,
+        direct_source_prefix_ranges: Seq::new(alloc),
+        source_type: None,
+        source_prefix_ranges: Seq::new(alloc),
+        source_ports: Seq::new(alloc),
     }
 }
 

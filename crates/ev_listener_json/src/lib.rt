@@ -15,12 +15,11 @@
 //!   isn't text is V6.
 //! - A chain without a filter that serves stands for a table with no hosts in the definition of the value; it breaks
 //!   V16 or V17, so this never shows.
-//! - A match with all its criteria is read by `inspect_filter_chain_match`. Of the source it keeps only whether it is
-//!   asked for, since no script says where a connection comes from. A range that is none stands for all IPv4
-//!   addresses in the definition of the value; it breaks V16, so this never shows.
+//! - A match with all its criteria is read by `inspect_filter_chain_match`. A range that is none is read as all IPv4
+//!   addresses, and a source port that is none as port 0; they break V16 and V6, so this never shows.
 //! - Chains that collide are found by look-ups: each chain is compared only with those before it that have a value in
-//!   common with it by one criterion, or none in both. Of port, ranges, server names and application protocols that one
-//!   is taken by which there are the fewest.
+//!   common with it by one criterion, or none in both. Of all criteria but the transport protocol and the type of the
+//!   source, which have few values, that one is taken by which there are the fewest.
 //! - `source_ports` and `source_type` have readers here, since ev_tree has none for a list of numbers, nor this enum.
 //! - By the own rules a TCP proxy's other specifiers (`cluster_header` and the like) break V22 as in a route: it is the
 //!   same reader. As Envoy reads it, it has no other specifiers, so they are passed over.
@@ -34,6 +33,7 @@ mod cidr_ranges;
 mod collisions;
 mod envoy_chains;
 mod filters;
+mod listener_filters;
 mod listeners;
 mod managers;
 mod objects;

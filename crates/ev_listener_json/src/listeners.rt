@@ -6,15 +6,18 @@ ghost use Rattle.ev_types.specs.declared.events.Profile.{Profile};
 ghost use Rattle.ev_tree.specs.Addresses.{address_text_of, port_of, text_found, port_unless};
 ghost use Rattle.ev_tree.specs.Rules.{ReadsAs, IsLeast, is_name};
 ghost use Rattle.ev_tree.specs.Broken.{rules_of, least_of};
-ghost use Rattle.ev_listener_json.specs.Listeners.{listener_reading, listener_broken, own_listener_broken, listener_name, serve_of, is_udp, is_every_address, listening_text, listening_port, is_unusable, envoy_parts_broken, named_with};
+ghost use Rattle.ev_listener_json.specs.Listeners.{listener_reading, listener_broken, own_listener_broken, listener_name, serve_of, is_udp, listens_by_udp, is_every_address, listening_text, listening_port, is_unusable, envoy_self_broken, named_with};
 
 use crate::chains::{inspect_chains, serve_or_none};
 use crate::envoy_chains::{has_api, inspect_envoy_chains, no_criteria};
+use crate::listener_filters::inspect_redirection;
 use ev_tree::{
     AddressText, BrokenRules, EnumTable, Found, ReadError, any_address, body_text, is_name, member,
     socket_address,
 };
-use ev_types::{FilterChain, Host, Listener, Name, NameError, Profile, Seq, Serve, Shared};
+use ev_types::{
+    FilterChain, Host, Listener, Name, NameError, Profile, Seq, Serve, Shared, SocketAddress,
+};
 use serde_json::Value;
 use std::alloc::{AllocError, Global};
 
@@ -47,8 +50,13 @@ fn read_own_listener(alloc: Global, value: &Value) -> Result<Listener, ReadError
     })?;
     Ok(Listener {
         name: make_name(alloc, found.name)?,
-        address: make_host(alloc, found.address, found.port)?,
+        address: SocketAddress {
+            host: make_host(alloc, found.address, found.port)?,
+            udp: false,
+        },
         takes_every_address: false,
+        restores: false,
+        hands_over: false,
         filter_chains: Seq::from_vec(chains),
         default_filter_chain: None,
         body_text: body_text(alloc, Profile::Own, value)?,
@@ -60,16 +68,23 @@ fn read_envoy_listener(alloc: Global, value: &Value) -> Result<Listener, ReadErr
     ensures { ReadsAs result (listener_reading Profile.Envoy (view value.now)) }
 {
     let own = inspect_envoy_listener(alloc, value)?;
-    let below = inspect_envoy_chains(alloc, value)?;
-    if let Some(rule) = below.broken.or(own.broken).least() {
+    let below = inspect_envoy_chains(alloc, value, own.udp)?;
+    let redirection = inspect_redirection(alloc, value)?;
+    let broken = below.broken.or(redirection.broken.or(own.broken));
+    if let Some(rule) = broken.least() {
         return Err(ReadError::Rule(rule));
     }
     let address = own.address.as_str();
     let takes_every_address = is_every_address(address);
     Ok(Listener {
         name: make_name(alloc, own.name)?,
-        address: make_host(alloc, address, own.port)?,
+        address: SocketAddress {
+            host: make_host(alloc, address, own.port)?,
+            udp: own.udp,
+        },
         takes_every_address,
+        restores: redirection.restores,
+        hands_over: redirection.hands_over,
         filter_chains: Seq::from_vec(below.chains),
         default_filter_chain: below.default,
         body_text: body_text(alloc, Profile::Envoy, value)?,
@@ -83,14 +98,16 @@ struct EnvoyParts<'a> {
     name: &'a str,
     address: String,
     port: u16,
+    udp: bool,
 }
 
-// Inspects a listener itself, as Envoy reads it: its name and its address.
+// Inspects a listener itself, as Envoy reads it: its name and its address, its members about redirected connections left aside.
 fn inspect_envoy_listener(alloc: Global, value: &Value) -> Result<EnvoyParts<'_>, AllocError>
     ensures name { IfOk result (λ found. found.name.now ≡ listener_name (view value.now)) }
     ensures address { IfOk result (λ found. string_bytes found.address ≡ listening_text (view value.now)) }
     ensures port { IfOk result (λ found. found.port ≡ listening_port (view value.now)) }
-    ensures broken { IfOk result (λ found. found.broken ≡ envoy_parts_broken (view value.now)) }
+    ensures udp { IfOk result (λ found. found.udp ≡ listens_by_udp (view value.now)) }
+    ensures broken { IfOk result (λ found. found.broken ≡ envoy_self_broken (view value.now)) }
 {
     let name = member::text(alloc, Some(value), "name")?;
     let text = member::text_or_empty(name);
@@ -109,7 +126,7 @@ fn inspect_envoy_listener(alloc: Global, value: &Value) -> Result<EnvoyParts<'_>
     let broken = BrokenRules {
         v3: !name.is_wrong() & !is_name(text),
         v6: name.is_wrong() | address.broken.v6 | protocol.is_wrong() | internal.is_wrong(),
-        v14: bad | is_udp(protocol),
+        v14: bad,
         ..BrokenRules::none()
     };
     Ok(EnvoyParts {
@@ -117,6 +134,7 @@ fn inspect_envoy_listener(alloc: Global, value: &Value) -> Result<EnvoyParts<'_>
         name: text,
         address: listening,
         port: port_unless(by_name, address.port),
+        udp: is_udp(protocol),
     })
 }
 
@@ -172,7 +190,7 @@ fn named_address(alloc: Global, name: &str, api: bool, internal: bool) -> Result
     Ok(text)
 }
 
-// Whether the text of an address stands for every address.
+// Whether the text of an address represents every address.
 fn is_every_address(text: &str) -> bool
     ensures { result ≡ is_every_address text.now }
 {

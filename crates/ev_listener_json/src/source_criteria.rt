@@ -1,48 +1,113 @@
 ghost use Rattle.std.specs.Prelude.{◌≡◌, IfOk, map};
-ghost use Rattle.std.specs.Char.{is_ascii_digit};
 ghost use Rattle.std.specs.List.{list_all};
 ghost use Rattle.serde_json.specs.View.{view};
-ghost use Rattle.ev_tree.specs.Scalars.{is_numeral, u32_text, u32_in};
-ghost use Rattle.ev_tree.specs.Forms.{tree_of, found_map, value_or_wrong};
-ghost use Rattle.ev_listener_json.specs.SourceCriteria.{is_u32, source_type_named, source_type_in, source_type_of, has_element, source_asked, source_broken_by};
+ghost use Rattle.ev_tree.specs.Forms.{tree_of, value_or_wrong};
+ghost use Rattle.ev_listener_json.specs.SourceCriteria.{is_destination, is_source_port, source_port_in, source_type_named, source_type_in, source_type_of, source_type_numbered, sources_of, sources_broken};
 
-use ev_tree::{BrokenRules, Found, Inspection, MAX_U32_DIGITS, member};
+use crate::cidr_ranges::inspect_ranges;
+use ev_tree::{BrokenRules, Found, Inspection, MAX_PORT, member, u32_value};
+use ev_types::{CidrRange, Seq, SourceType};
 use serde_json::Value;
 use std::alloc::{AllocError, Global};
 
-/// Inspects what a filter chain's match asks of the source: whether it asks anything, and the wrong forms.
-pub(crate) fn inspect_source(
+/// What a filter chain's match asks of where a connection comes from, by each criterion.
+#[derive(Drop)]
+pub(crate) struct Sources {
+    pub direct_ranges: Seq<CidrRange>,
+    pub source_type: Option<SourceType>,
+    pub ranges: Seq<CidrRange>,
+    pub ports: Seq<u16>,
+}
+
+/// Inspects what a filter chain's match asks of where a connection comes from: it, and the rules that it breaks, of V6 and V16.
+pub(crate) fn inspect_sources(
     alloc: Global,
     tree: Option<&Value>,
-) -> Result<Inspection<bool>, AllocError>
-    ensures value { IfOk result (λ found. found.value ≡ source_asked (tree_of tree.entry)) }
-    ensures broken { IfOk result (λ found. found.broken ≡ source_broken_by (tree_of tree.entry)) }
+) -> Result<Inspection<Sources>, AllocError>
+    ensures value { IfOk result (λ found. found.value ≡ sources_of (tree_of tree.entry)) }
+    ensures broken { IfOk result (λ found. found.broken ≡ sources_broken (tree_of tree.entry)) }
 {
     let direct = member::objects(alloc, tree, "direct_source_prefix_ranges")?;
     let ranges = member::objects(alloc, tree, "source_prefix_ranges")?;
     let ports = member::list(alloc, tree, "source_ports")?;
     let kind = find_source_type(alloc, tree)?;
+    let direct_below = inspect_ranges(alloc, member::elements(direct))?;
+    let below = inspect_ranges(alloc, member::elements(ranges))?;
+    let own = BrokenRules {
+        v6: direct.is_wrong()
+            | ranges.is_wrong()
+            | ports.is_wrong()
+            | !are_source_ports(member::elements(ports))
+            | kind.is_wrong(),
+        ..BrokenRules::none()
+    };
     Ok(Inspection {
-        value: has_element(direct)
-            | has_element(ranges)
-            | has_element(ports)
-            | (kind.given_or(0) != 0),
-        broken: BrokenRules {
-            v6: direct.is_wrong()
-                | ranges.is_wrong()
-                | ports.is_wrong()
-                | !are_u32(member::elements(ports))
-                | kind.is_wrong(),
-            ..BrokenRules::none()
+        value: Sources {
+            direct_ranges: Seq::from_vec(direct_below.value),
+            source_type: source_type_numbered(kind.given_or(0)),
+            ranges: Seq::from_vec(below.value),
+            ports: Seq::from_vec(copy_ports(alloc, member::elements(ports))?),
         },
+        broken: direct_below.broken.or(below.broken.or(own)),
     })
 }
 
-// Whether a list is given that isn't empty.
-fn has_element(found: Found<&[Value]>) -> bool
-    ensures { result ≡ has_element (found_map (λ vs. map view vs.now) found.entry) }
+// Whether a number is a port that a connection can have: 1 to 65535.
+pub(crate) fn is_destination(port: u32) -> bool
+    ensures { result ≡ is_destination port }
 {
-    member::elements(found).len() != 0
+    1 <= port && port <= MAX_PORT
+}
+
+// The ports of these elements.
+fn copy_ports(alloc: Global, elements: &[Value]) -> Result<Vec<u16>, AllocError>
+    ensures { IfOk result (λ ports. ports.items ≡ map source_port_in (map view elements.now)) }
+{
+    let mut ports = Vec::new(alloc);
+    for element in elements {
+        ports.push(source_port_in(element))?;
+    }
+    Ok(ports)
+}
+
+// The port that a value is, or 0.
+fn source_port_in(value: &Value) -> u16
+    ensures { result ≡ source_port_in (view value.now) }
+{
+    match u32_value(value) {
+        Some(port) if is_destination(port) => port as u16,
+        _ => 0,
+    }
+}
+
+// Whether each of these is a port.
+fn are_source_ports(values: &[Value]) -> bool
+    ensures { result ≡ list_all (λ v. is_source_port (view v)) values.now }
+{
+    values.iter().all(|value| is_source_port(value))
+}
+
+// Whether a value is a port.
+fn is_source_port(value: &Value) -> bool
+    ensures { result ≡ is_source_port (view value.now) }
+{
+    match u32_value(value) {
+        Some(port) => is_destination(port),
+        None => false,
+    }
+}
+
+// The type of this number: 0 is any.
+fn source_type_numbered(number: u32) -> Option<SourceType>
+    ensures { result ≡ source_type_numbered number }
+{
+    if number == 1 {
+        Some(SourceType::SameIpOrLoopback)
+    } else if number == 2 {
+        Some(SourceType::External)
+    } else {
+        None
+    }
 }
 
 // The type of the source, if it is given.
@@ -96,55 +161,4 @@ fn named_source_type(name: &str) -> Option<u32>
     } else {
         None
     }
-}
-
-// Whether each of these is a u32.
-fn are_u32(values: &[Value]) -> bool
-    ensures { result ≡ list_all (λ v. is_u32 (view v)) values.now }
-{
-    values.iter().all(|value| is_u32(value))
-}
-
-// Whether a value is a u32: a whole number below 2^32, or a string of 1 to 10 digits that writes one.
-fn is_u32(value: &Value) -> bool
-    ensures { result ≡ is_u32 (view value.now) }
-{
-    u32_value(value).is_some()
-}
-
-// A value as a u32.
-#[tactic(auto, unfolding(ev_tree::specs::Scalars::u32_in))]
-fn u32_value(value: &Value) -> Option<u32>
-    ensures { result ≡ u32_in (view value.now) }
-{
-    if let Some(text) = value.as_str() {
-        return parse_u32(text);
-    }
-    u32::try_from(value.as_u64()?).ok()
-}
-
-// The number that 1 to 10 digits write, if it is below 2^32.
-#[tactic(auto, unfolding(ev_tree::specs::Scalars::u32_text))]
-fn parse_u32(text: &str) -> Option<u32>
-    ensures { result ≡ u32_text text.now }
-{
-    if is_numeral(text, MAX_U32_DIGITS) {
-        text.parse::<u32>().ok()
-    } else {
-        None
-    }
-}
-
-// Whether a text is 1 digit to `longest` digits.
-fn is_numeral(text: &str, longest: usize) -> bool
-    ensures { result ≡ is_numeral longest text.now }
-{
-    !text.is_empty() && text.len() <= longest && are_digits(text.as_bytes())
-}
-
-// Whether each byte is a digit.
-fn are_digits(bytes: &[u8]) -> bool
-    ensures { result ≡ list_all is_ascii_digit bytes.now }
-{
-    bytes.iter().all(|byte| byte.is_ascii_digit())
 }

@@ -1,8 +1,8 @@
 -- Where a connection goes, chosen in a picture: by the listener, its filter chain, what that serves, a route and its action, a
 -- cluster, and a host of it. Source: the Envoy v3 API on listeners, filter chains, virtual hosts, routes and weighted clusters,
 -- and on priorities and weights of hosts; the pick number is this project's own, for Envoy's load balancing policies.
-use Rattle.std.specs.Prelude.{ℕ, ◌-◌, ◌+◌, ◌/◌, ◌%◌, min, Bool, not, ◌&&◌, ◌==◌, nat_lt, if◌then◌else◌, List, [], ◌∷◌, filter, find, map, take, drop, length, Option, Some, None, codes, option_map, slice_get}
-use Rattle.std.specs.List.{flat_map, list_any, range_with_len, sum}
+use Rattle.std.specs.Prelude.{ℕ, ◌-◌, ◌+◌, ◌/◌, ◌%◌, min, Bool, not, ◌&&◌, ◌==◌, nat_lt, if◌then◌else◌, List, [], ◌∷◌, filter, find, map, take, drop, length, Option, Some, None, codes, option_map, slice_get, unwrap_or}
+use Rattle.std.specs.List.{flat_map, range_with_len, sum}
 use Rattle.std.specs.Option.{option_or}
 use Rattle.std.specs.Str.{bytes_eq, str_to_ascii_lowercase}
 use Rattle.ev_types.specs.Hosts.{HostRowParts}
@@ -10,6 +10,7 @@ use Rattle.ev_types.specs.SameHosts.{host_same}
 use Rattle.ev_types.specs.Weights.{weight_sum}
 use Rattle.ev_types.specs.declared.hosts.Host.{Host}
 use Rattle.ev_types.specs.declared.events.Ask.{Ask}
+use Rattle.ev_types.specs.declared.events.Peer.{Peer}
 use Rattle.ev_types.specs.declared.ips.Ip.{Ip}
 use Rattle.ev_types.specs.declared.ips.Ip.TheVariants.{V4, V6}
 use Rattle.ev_types.specs.declared.routes.Action.{Action}
@@ -22,7 +23,7 @@ use Rattle.ev_types.specs.declared.routes.VirtualHost.{VirtualHost}
 use Rattle.ev_types.specs.declared.routes.WeightedCluster.{WeightedCluster}
 use Rattle.ev_model.specs.Paths.{begins_with, ends_with}
 use Rattle.ev_model.specs.Conditions.{Requested, is_no, match_says}
-use Rattle.ev_model.specs.Narrowing.{Incoming, chains_left}
+use Rattle.ev_model.specs.Narrowing.{Incoming, chains_left, lacks_source}
 use Rattle.ev_model.specs.declared.pictures.Picture.{Picture}
 use Rattle.ev_model.specs.declared.pictures.Routing.{Routing}
 use Rattle.ev_model.specs.declared.pictures.Routing.TheVariants.{Table, Tcp, Other}
@@ -50,14 +51,50 @@ listener_of_any listeners port (Some (V4 bits)) =
     option_or (listener_for_every listeners port (codes "0.0.0.0")) (listener_for_every listeners port (codes "::"))
 listener_of_any listeners port (Some (V6 bits)) = listener_for_every listeners port (codes "::")
 
--- the listener that a connection comes to: at its address and port, else one that takes every address
-abbrev pub listener_for : List ServedListener → Ask → Option ServedListener
-listener_for listeners ask = option_or (listener_at listeners ask.address) (listener_of_any listeners ask.address.port ask.ip)
+-- the listeners that connections reach: those by TCP
+abbrev pub streams : List ServedListener → List ServedListener
+streams listeners = filter (λ (l : ServedListener). not l.udp) listeners
+
+-- the listener that a connection to this end comes to: at its address and port, else one that takes every address
+abbrev pub listener_for : List ServedListener → Peer → Option ServedListener
+listener_for listeners peer =
+    option_or (listener_at (streams listeners) peer.host) (listener_of_any (streams listeners) peer.host.port peer.ip)
+
+-- where a connection is meant to go
+abbrev pub meant_of : Ask → Peer
+meant_of ask = record { host = ask.address; ip = ask.ip }
+
+-- where it was delivered
+abbrev pub delivered_of : Ask → Peer
+delivered_of ask = unwrap_or ask.redirected_to (meant_of ask)
+
+-- the listener that takes a connection, and the end that its chains take it to come to
+pub record Reached : Type 0 where
+  pub listener : ServedListener
+  pub local_end : Peer
+
+-- the listener that takes a connection which came to this one: where it hands over, the one where the connection is meant to go,
+-- if there is one
+abbrev pub taker_of : List ServedListener → Ask → ServedListener → ServedListener
+taker_of listeners ask listener = if listener.hands_over then unwrap_or (listener_for listeners (meant_of ask)) listener else listener
+
+-- a listener that restores takes a connection to come to where it is meant to go, another one to where it was delivered
+abbrev pub reached_by : List ServedListener → Ask → ServedListener → Reached
+reached_by listeners ask listener =
+    if listener.restores
+    then record { listener = taker_of listeners ask listener; local_end = meant_of ask }
+    else record { listener = listener; local_end = delivered_of ask }
 
 -- what chains look at
-abbrev pub incoming_of : Ask → Incoming
-incoming_of ask =
-    record { port = ask.address.port; ip = ask.ip; server_name = ask.server_name; tls = ask.tls; alpn = ask.alpn }
+abbrev pub incoming_of : Ask → Peer → Incoming
+incoming_of ask local_end = record {
+  port = local_end.host.port;
+  ip = local_end.ip;
+  source = ask.source;
+  server_name = ask.server_name;
+  tls = ask.tls;
+  alpn = ask.alpn;
+}
 
 -- what routes look at
 abbrev pub requested_of : Ask → Requested
@@ -231,18 +268,24 @@ by_chain picture ask listener (Some routing) = by_routing picture ask listener r
 abbrev pub routing_left : List ServedChain → Option Routing → Option Routing
 routing_left chains default = option_or (option_map (λ (c : ServedChain). c.routing) (slice_get chains 0)) default
 
--- by the chains that are left; where one of them asks for a source, nothing in a script decides
-abbrev pub by_chains : Picture → Ask → ServedListener → List ServedChain → Choice
-by_chains picture ask listener chains =
-    if list_any (λ (c : ServedChain). c.criteria.asks_source) chains
+-- by the chains that are left; where one of them asks for a source and none is given, nothing in a script decides
+abbrev pub by_chains : Picture → Ask → ServedListener → Incoming → List ServedChain → Choice
+by_chains picture ask listener incoming chains =
+    if lacks_source incoming chains
     then Undecided listener.number
     else by_chain picture ask listener.number (routing_left chains listener.default_filter_chain)
 
--- by the listener, if there is one
+-- by the listener that takes it
+abbrev pub by_reached : Picture → Ask → Reached → Choice
+by_reached picture ask reached =
+    let incoming = incoming_of ask reached.local_end in
+    by_chains picture ask reached.listener incoming (chains_left incoming reached.listener.filter_chains)
+
+-- by the listener that it comes to, if there is one
 abbrev pub by_listener : Picture → Ask → Option ServedListener → Choice
 by_listener picture ask None = NoListener
-by_listener picture ask (Some listener) = by_chains picture ask listener (chains_left (incoming_of ask) listener.filter_chains)
+by_listener picture ask (Some listener) = by_reached picture ask (reached_by picture.shown.listeners ask listener)
 
 -- where a connection goes
 abbrev pub choice_of : Picture → Ask → Choice
-choice_of picture ask = by_listener picture ask (listener_for picture.shown.listeners ask)
+choice_of picture ask = by_listener picture ask (listener_for picture.shown.listeners (delivered_of ask))

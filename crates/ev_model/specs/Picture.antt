@@ -97,8 +97,11 @@ served_listener arrivals row (an_assignment rows) = []
 served_listener arrivals row (a_listener listener) = record {
   number = row.number;
   name = row.name;
-  address = listener.address;
+  address = listener.address.host;
   takes_every_address = listener.takes_every_address;
+  udp = listener.address.udp;
+  restores = listener.restores;
+  hands_over = listener.hands_over;
   filter_chains = map (served_chain arrivals) listener.filter_chains;
   default_filter_chain = option_map (routing_of arrivals) listener.default_filter_chain;
 } ∷ []
@@ -135,13 +138,21 @@ routing_same a b = false
 abbrev pub served_chain_same : ServedChain → ServedChain → Bool
 served_chain_same a b = filter_chain_match_same a.criteria b.criteria && routing_same a.routing b.routing
 
--- the same generation of the same listener, at the same address with the same mark, with the same chains in the same order
+-- the same address, and the same marks
+abbrev pub listens_same : ServedListener → ServedListener → Bool
+listens_same a b =
+    host_same a.address b.address
+    && bool_same a.takes_every_address b.takes_every_address
+    && bool_same a.udp b.udp
+    && bool_same a.restores b.restores
+    && bool_same a.hands_over b.hands_over
+
+-- the same generation of the same listener, that listens in the same way, with the same chains in the same order
 abbrev pub served_listener_same : ServedListener → ServedListener → Bool
 served_listener_same a b =
-    (a.number == b.number)
+    listens_same a b
+    && (a.number == b.number)
     && bytes_eq a.name b.name
-    && host_same a.address b.address
-    && bool_same a.takes_every_address b.takes_every_address
     && pointwise served_chain_same a.filter_chains b.filter_chains
     && option_eq routing_same a.default_filter_chain b.default_filter_chain
 
@@ -184,18 +195,25 @@ served_chain_decides a b = decides_as (both_decide (filter_chain_match_decides a
 
 pub served_listener_decides : (a b : ServedListener) → Decides (served_listener_same a b) (a ≡ b)
 served_listener_decides a b = decides_as
-    (both_decide (both_decide (both_decide (both_decide (both_decide
-    (numbers_decide a.number b.number)
-    (bytes_decide a.name b.name))
-    (host_decides a.address b.address))
+    (both_decide (both_decide (both_decide (both_decide
+    (both_decide (both_decide (both_decide (both_decide
+    (host_decides a.address b.address)
     (bool_decides a.takes_every_address b.takes_every_address))
+    (bool_decides a.udp b.udp))
+    (bool_decides a.restores b.restores))
+    (bool_decides a.hands_over b.hands_over))
+    (numbers_decide a.number b.number))
+    (bytes_decide a.name b.name))
     (pointwise_decides served_chain_decides a.filter_chains b.filter_chains))
     (option_decides routing_decides a.default_filter_chain b.default_filter_chain))
     (λ p. λ i. record {
-      number = p.0.0.0.0.0 i;
-      name = p.0.0.0.0.1 i;
-      address = p.0.0.0.1 i;
-      takes_every_address = p.0.0.1 i;
+      number = p.0.0.0.1 i;
+      name = p.0.0.1 i;
+      address = p.0.0.0.0.0.0.0.0 i;
+      takes_every_address = p.0.0.0.0.0.0.0.1 i;
+      udp = p.0.0.0.0.0.0.1 i;
+      restores = p.0.0.0.0.0.1 i;
+      hands_over = p.0.0.0.0.1 i;
       filter_chains = p.0.1 i;
       default_filter_chain = p.1 i;
     })
@@ -203,10 +221,19 @@ served_listener_decides a b = decides_as
       (
         (
           (
-            (ap (λ (l : ServedListener). l.number) e, ap (λ (l : ServedListener). l.name) e),
-            ap (λ (l : ServedListener). l.address) e,
+            (
+              (
+                (
+                  (ap (λ (l : ServedListener). l.address) e, ap (λ (l : ServedListener). l.takes_every_address) e),
+                  ap (λ (l : ServedListener). l.udp) e,
+                ),
+                ap (λ (l : ServedListener). l.restores) e,
+              ),
+              ap (λ (l : ServedListener). l.hands_over) e,
+            ),
+            ap (λ (l : ServedListener). l.number) e,
           ),
-          ap (λ (l : ServedListener). l.takes_every_address) e,
+          ap (λ (l : ServedListener). l.name) e,
         ),
         ap (λ (l : ServedListener). l.filter_chains) e,
       ),

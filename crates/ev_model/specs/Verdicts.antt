@@ -5,9 +5,9 @@ use Rattle.std.specs.Prelude.{ℕ, Bool, true, false, not, ◌&&◌, ◌||◌, �
 use Rattle.std.specs.List.{list_any}
 use Rattle.std.specs.Str.{bytes_eq}
 use Rattle.ev_types.specs.Items.{ItemParts, ResponseParts}
-use Rattle.ev_types.specs.SameHosts.{host_same}
+use Rattle.ev_types.specs.SameHosts.{socket_same}
 use Rattle.ev_types.specs.SameContents.{content_same}
-use Rattle.ev_types.specs.declared.hosts.Host.{Host}
+use Rattle.ev_types.specs.declared.hosts.SocketAddress.{SocketAddress}
 use Rattle.ev_types.specs.declared.contents.Kind.{Kind}
 use Rattle.ev_types.specs.declared.contents.Kind.TheVariants.{Cds, Eds, Lds, Rds}
 use Rattle.ev_types.specs.declared.contents.Body.{Body}
@@ -77,17 +77,17 @@ rule_of kind response lives versions item =
     (lesser (twice_rule response item) (lesser (removed_rule response item) (form_rule item.body)))
 
 -- a content's listening address
-abbrev pub listening_address : Content → Option Host
+abbrev pub listening_address : Content → Option SocketAddress
 listening_address (a_cluster cluster) = None
 listening_address (an_assignment rows) = None
 listening_address (a_listener listener) = Some listener.address
 listening_address (routes table) = None
 
--- both have an address, and it is the same
-abbrev pub shares_address : Option Host → Option Host → Bool
+-- both have an address, and it is the same, by the same protocol
+abbrev pub shares_address : Option SocketAddress → Option SocketAddress → Bool
 shares_address None other = false
 shares_address (Some address) None = false
-shares_address (Some address) (Some other) = host_same address other
+shares_address (Some address) (Some other) = socket_same address other
 
 -- a live row of another name has the address of the content
 abbrev pub is_taken : List Live → List ℕ → Content → Bool

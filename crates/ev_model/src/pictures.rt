@@ -73,8 +73,14 @@ pub struct ServedListener {
     pub number: Gen,
     pub name: Name,
     pub address: Host,
-    /// Whether its address stands for every address of its port, where no listener has that address itself.
+    /// Whether its address represents every address of its port, where no listener has that address itself.
     pub takes_every_address: bool,
+    /// Whether it listens by UDP: then no connection reaches it.
+    pub udp: bool,
+    /// Whether a redirected connection is taken as one to the address that it was meant for.
+    pub restores: bool,
+    /// Whether it hands such a connection over to the listener at that address.
+    pub hands_over: bool,
     /// Its chains in order.
     pub filter_chains: Seq<ServedChain>,
     /// Where connections go that no chain takes, if they go anywhere.

@@ -1,6 +1,6 @@
 -- A choice in a picture names generations that the picture shows, and so does the connection that it opens.
 use Rattle.std.proofs.Common.{◌≡◌, ℕ, Bool, true, false, ◌==◌, ◌/◌, List, [], ◌∷◌, map, filter, Option, Some, None, refl, sym, ◌∙◌, subst}
-use Rattle.std.specs.Prelude.{codes}
+use Rattle.std.specs.Prelude.{codes, unwrap_or, not}
 use Rattle.std.specs.Bool.{⊤}
 use Rattle.std.specs.List.{find, list_any}
 use Rattle.std.specs.Option.{IfSome, option_or}
@@ -10,6 +10,7 @@ use Rattle.std.proofs.lemmas.List.Folds.{list_any-append}
 use Rattle.ev_types.specs.Same.{numbers_decide}
 use Rattle.ev_types.specs.Weights.{weight_sum}
 use Rattle.ev_types.specs.declared.events.Ask.{Ask}
+use Rattle.ev_types.specs.declared.events.Peer.{Peer}
 use Rattle.ev_types.specs.declared.hosts.Host.{Host}
 use Rattle.ev_types.specs.declared.ips.Ip.{Ip}
 use Rattle.ev_types.specs.declared.ips.Ip.TheVariants.{V4, V6}
@@ -31,10 +32,10 @@ use Rattle.ev_model.specs.declared.pictures.Choice.TheVariants.{NoListener, NoCh
 use Rattle.ev_model.specs.declared.pictures.Taken.{Taken}
 use Rattle.ev_model.specs.declared.pictures.Taken.TheVariants.{No, Yes, Undecided as undecided}
 use Rattle.ev_model.specs.Conditions.{match_says}
-use Rattle.ev_model.specs.Narrowing.{chains_left}
+use Rattle.ev_model.specs.Narrowing.{chains_left, lacks_source}
 use Rattle.ev_model.specs.Picture.{has_number, is_shown}
 use Rattle.ev_model.specs.Dead.{is_open_on}
-use Rattle.ev_model.specs.Choice.{listener_at, listener_for_every, listener_of_any, listener_for, incoming_of, requested_of, virtual_host_for, route_for, name_picked, cluster_named, host_place, served_at, choice_in, forwarded, acted, by_word, by_route, by_host, by_routing, by_chain, routing_left, by_listener, choice_of}
+use Rattle.ev_model.specs.Choice.{listener_at, listener_for_every, listener_of_any, listener_for, streams, meant_of, delivered_of, Reached, taker_of, reached_by, incoming_of, requested_of, virtual_host_for, route_for, name_picked, cluster_named, host_place, served_at, choice_in, forwarded, acted, by_word, by_route, by_host, by_routing, by_chain, routing_left, by_reached, by_listener, choice_of}
 use Rattle.ev_model.specs.Connections.{member_on, members_of}
 use Rattle.ev_model_laws.proofs.AnyLemmas.{or_so, any_only, any_left, any_mapped}
 
@@ -122,16 +123,6 @@ module _ (picture : Picture) (listener : ℕ) (shown : is_shown listener picture
   chain_chosen ask None = tt
   chain_chosen ask (Some routing) = routing_chosen ask routing
 
-listener_chosen : (picture : Picture) (ask : Ask) (listener : Option ServedListener)
-    → IfSome listener (λ l. is_shown l.number picture.shown ≡ true) → ShowsChosen picture.shown (by_listener picture ask listener)
-listener_chosen picture ask None shown = tt
-listener_chosen picture ask (Some listener) shown =
-    let chains : List ServedChain = chains_left (incoming_of ask) listener.filter_chains in
-    let left : Option Routing = routing_left chains listener.default_filter_chain in
-    cond_both (list_any (λ (c : ServedChain). c.criteria.asks_source) chains) (Undecided listener.number)
-    (by_chain picture ask listener.number left) (ShowsChosen picture.shown)
-    (λ asks. shown) (λ none. chain_chosen picture listener.number shown ask left)
-
 -- what holds of two options holds of the first that is there
 either_has : {X : Type 0} (P : X → Type 0) (first second : Option X) → IfSome first P → IfSome second P → IfSome (option_or first second) P
 either_has P None second one other = other
@@ -142,36 +133,84 @@ module _ (shown : Shown) where
   abbrev IsListed : ServedListener → Type 0
   IsListed l = is_shown l.number shown ≡ true
 
-  at_listed : (address : Host) → IfSome (listener_at shown.listeners address) IsListed
-  at_listed address =
-      IfSome_then (listener_at shown.listeners address) (found_number (λ (l : ServedListener). l.number) _ shown.listeners)
-      (λ (l : ServedListener). listener_shown shown l.number)
-
-  every_listed : (port : ℕ) (address : List ℕ) → IfSome (listener_for_every shown.listeners port address) IsListed
-  every_listed port address =
-      let takes : ServedListener → Bool = λ (l : ServedListener). l.takes_every_address in
+  -- one that is found among the streams, or among some of those, is
+  found_listed : (listeners : List ServedListener) (test : ServedListener → Bool)
+      → ((n : ℕ) → list_any (λ (l : ServedListener). l.number == n) listeners ≡ true → list_any (λ (l : ServedListener). l.number == n) shown.listeners ≡ true)
+      → IfSome (find test listeners) IsListed
+  found_listed listeners test among =
       let number : ServedListener → ℕ = λ (l : ServedListener). l.number in
-      IfSome_then (listener_for_every shown.listeners port address) (found_number number _ (filter takes shown.listeners))
+      IfSome_then (find test listeners) (found_number number test listeners)
       (λ (l : ServedListener) h.
       listener_shown shown l.number
       (any_mapped (λ n. n == l.number) number shown.listeners
-      ∙ any_left (λ (other : ServedListener). other.number == l.number) takes shown.listeners
-      (sym (any_mapped (λ n. n == l.number) number (filter takes shown.listeners)) ∙ h)))
+      ∙ among l.number (sym (any_mapped (λ n. n == l.number) number listeners) ∙ h)))
 
-  any_listed : (port : ℕ) (ip : Option Ip) → IfSome (listener_of_any shown.listeners port ip) IsListed
+  among_streams : (n : ℕ) → list_any (λ (l : ServedListener). l.number == n) (streams shown.listeners) ≡ true
+      → list_any (λ (l : ServedListener). l.number == n) shown.listeners ≡ true
+  among_streams n h = any_left (λ (l : ServedListener). l.number == n) (λ (l : ServedListener). not l.udp) shown.listeners h
+
+  at_listed : (address : Host) → IfSome (listener_at (streams shown.listeners) address) IsListed
+  at_listed address = found_listed (streams shown.listeners) _ among_streams
+
+  every_listed : (port : ℕ) (address : List ℕ) → IfSome (listener_for_every (streams shown.listeners) port address) IsListed
+  every_listed port address =
+      found_listed (filter (λ (l : ServedListener). l.takes_every_address) (streams shown.listeners)) _
+      (λ n h.
+      among_streams n
+      (any_left (λ (l : ServedListener). l.number == n) (λ (l : ServedListener). l.takes_every_address) (streams shown.listeners) h))
+
+  any_listed : (port : ℕ) (ip : Option Ip) → IfSome (listener_of_any (streams shown.listeners) port ip) IsListed
   any_listed port None = tt
   any_listed port (Some (V4 bits)) =
-      either_has IsListed (listener_for_every shown.listeners port (codes "0.0.0.0")) (listener_for_every shown.listeners port (codes "::"))
+      either_has IsListed (listener_for_every (streams shown.listeners) port (codes "0.0.0.0"))
+      (listener_for_every (streams shown.listeners) port (codes "::"))
       (every_listed port (codes "0.0.0.0")) (every_listed port (codes "::"))
   any_listed port (Some (V6 bits)) = every_listed port (codes "::")
+
+  peer_listed : (peer : Peer) → IfSome (listener_for shown.listeners peer) IsListed
+  peer_listed peer =
+      either_has IsListed (listener_at (streams shown.listeners) peer.host)
+      (listener_of_any (streams shown.listeners) peer.host.port peer.ip)
+      (at_listed peer.host) (any_listed peer.host.port peer.ip)
+
+  -- the listener that takes a connection is one that was found, or the one that it came to
+  found_or_listed : (found : Option ServedListener) (listener : ServedListener) → IfSome found IsListed → IsListed listener
+      → IsListed (unwrap_or found listener)
+  found_or_listed None listener known own = own
+  found_or_listed (Some other) listener known own = known
+
+  taken_listed : (ask : Ask) (listener : ServedListener) → IsListed listener → IsListed (taker_of shown.listeners ask listener)
+  taken_listed ask listener own =
+      let meant = listener_for shown.listeners (meant_of ask) in
+      cond_both listener.hands_over (unwrap_or meant listener) listener IsListed
+      (λ hands. found_or_listed meant listener (peer_listed (meant_of ask)) own) (λ keeps. own)
+
+  reached_listed : (ask : Ask) (listener : ServedListener) → IsListed listener → IsListed (reached_by shown.listeners ask listener).listener
+  reached_listed ask listener own =
+      cond_both listener.restores (record { listener = taker_of shown.listeners ask listener; local_end = meant_of ask })
+      (record { listener = listener; local_end = delivered_of ask }) (λ (r : Reached). IsListed r.listener)
+      (λ restores. taken_listed ask listener own) (λ isnt. own)
+
+reached_chosen : (picture : Picture) (ask : Ask) (reached : Reached) → IsListed picture.shown reached.listener
+    → ShowsChosen picture.shown (by_reached picture ask reached)
+reached_chosen picture ask reached shown =
+    let listener = reached.listener in
+    let incoming = incoming_of ask reached.local_end in
+    let chains : List ServedChain = chains_left incoming listener.filter_chains in
+    let left : Option Routing = routing_left chains listener.default_filter_chain in
+    cond_both (lacks_source incoming chains) (Undecided listener.number) (by_chain picture ask listener.number left)
+    (ShowsChosen picture.shown) (λ asks. shown) (λ none. chain_chosen picture listener.number shown ask left)
+
+listener_chosen : (picture : Picture) (ask : Ask) (listener : Option ServedListener) → IfSome listener (IsListed picture.shown)
+    → ShowsChosen picture.shown (by_listener picture ask listener)
+listener_chosen picture ask None shown = tt
+listener_chosen picture ask (Some listener) shown =
+    reached_chosen picture ask (reached_by picture.shown.listeners ask listener) (reached_listed picture.shown ask listener shown)
 
 -- a choice in a picture names what the picture shows
 pub choice_shown : (picture : Picture) (ask : Ask) → ShowsChosen picture.shown (choice_of picture ask)
 choice_shown picture ask =
-    listener_chosen picture ask (listener_for picture.shown.listeners ask)
-    (either_has (IsListed picture.shown) (listener_at picture.shown.listeners ask.address)
-    (listener_of_any picture.shown.listeners ask.address.port ask.ip)
-    (at_listed picture.shown ask.address) (any_listed picture.shown ask.address.port ask.ip))
+    listener_chosen picture ask (listener_for picture.shown.listeners (delivered_of ask)) (peer_listed picture.shown (delivered_of ask))
 
 -- a connection is open on the generations that it was opened on
 open_on : (shown : Shown) (worker connection listener number : ℕ) (cluster : Option ℕ)

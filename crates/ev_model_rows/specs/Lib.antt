@@ -32,3 +32,4 @@ pub mod ChainsInOrder
 pub mod OpenRoutes
 pub mod WhatOpens
 pub mod EveryAddress
+pub mod Redirected

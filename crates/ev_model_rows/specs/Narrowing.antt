@@ -1,6 +1,8 @@
 -- Which filter chains of a listener are left for a connection: by one criterion after the other, and nothing comes back.
 use Rattle.std.specs.Prelude.{◌≡◌, ℕ, ◌*◌, ◌+◌, ◌^◌, true, false, List, [], ◌∷◌, codes, Some, None, map}
+use Rattle.ev_types.specs.declared.events.Peer.{Peer}
 use Rattle.ev_types.specs.declared.filter_chains.FilterChainMatch.{FilterChainMatch}
+use Rattle.ev_types.specs.declared.filter_chains.SourceType.TheVariants.{SameIpOrLoopback, External}
 use Rattle.ev_types.specs.declared.ips.Ip.{Ip}
 use Rattle.ev_types.specs.declared.ips.Ip.TheVariants.{V4, V6}
 use Rattle.ev_types.specs.declared.routes.Target.TheVariants.{One, Weighted, Elsewhere}
@@ -27,9 +29,9 @@ name_of Other = []
 abbrev pub names_left : Incoming → List ServedChain → List (List ℕ)
 names_left incoming chains = map (λ (c : ServedChain). name_of c.routing) (chains_left incoming chains)
 
--- a connection without TLS to port 443 of an address that is no IP address
+-- a connection without TLS, of which it isn't said who connects, to port 443 of an address that is no IP address
 abbrev pub plain : Incoming
-plain = record { port = 443; ip = None; server_name = []; tls = false; alpn = [] }
+plain = record { port = 443; ip = None; source = None; server_name = []; tls = false; alpn = [] }
 
 -- the address 10.1.2.3
 abbrev pub address : Ip
@@ -84,3 +86,50 @@ abbrev pub Protocols : Type 0
 Protocols = names_left (record plain { alpn = codes "h3" ∷ codes "h2" ∷ codes "http/1.1" ∷ [] })
     (chain (codes "old") (record no_criteria { application_protocols = codes "http/1.1" ∷ [] }) ∷ chain (codes "new") (record no_criteria { application_protocols = codes "h2" ∷ [] }) ∷ [])
     ≡ codes "new" ∷ []
+
+-- who connects from an address of IPv4 and a port
+abbrev pub peer : Ip → ℕ → Peer
+peer ip port = record { host = record { address = []; port = port }; ip = Some ip }
+
+-- the same connection from there
+abbrev pub coming_from : Ip → ℕ → Incoming
+coming_from ip port = record plain { source = Some (peer ip port) }
+
+-- chains for a range of whoever connects directly, for a range of the source, for a port of it, and for none of these
+abbrev pub sourced : List ServedChain
+sourced =
+    chain (codes "direct") (record no_criteria { direct_source_prefix_ranges = range_about address 24 ∷ [] })
+    ∷ chain (codes "range") (record no_criteria { source_prefix_ranges = range_about address 16 ∷ [] })
+    ∷ chain (codes "port") (record no_criteria { source_ports = 9 ∷ [] })
+    ∷ chain (codes "none") no_criteria
+    ∷ []
+
+-- the direct range goes first, then the range, then the port; without a source all are left
+abbrev pub Sources : Type 0
+Sources =
+    (names_left (coming_from address 9) sourced ≡ codes "direct" ∷ [])
+    × (names_left (coming_from (V4 (10 * 2 ^ 24 + 1 * 2 ^ 16)) 9) sourced ≡ codes "range" ∷ [])
+    × (names_left (coming_from (V4 (11 * 2 ^ 24)) 9) sourced ≡ codes "port" ∷ [])
+    × (names_left (coming_from (V4 (11 * 2 ^ 24)) 10) sourced ≡ codes "none" ∷ [])
+    × (names_left plain sourced ≡ codes "direct" ∷ codes "range" ∷ codes "port" ∷ codes "none" ∷ [])
+
+-- chains for this machine, and for elsewhere
+abbrev pub typed : List ServedChain
+typed =
+    chain (codes "same") (record no_criteria { source_type = Some SameIpOrLoopback })
+    ∷ chain (codes "external") (record no_criteria { source_type = Some External })
+    ∷ []
+
+-- who connects by a pipe
+abbrev pub from_pipe : Peer
+from_pipe = record { host = record { address = codes "pipe:x"; port = 0 }; ip = None }
+
+-- this machine's: a loopback address, the address that the connection comes to, and one that is no IP address
+abbrev pub SourceTypes : Type 0
+SourceTypes =
+    (names_left (coming_from (V4 (127 * 2 ^ 24 + 2)) 9) typed ≡ codes "same" ∷ [])
+    × (names_left (coming_from (V6 1) 9) typed ≡ codes "same" ∷ [])
+    × (names_left (record (coming_from address 9) { ip = Some address }) typed ≡ codes "same" ∷ [])
+    × (names_left (record plain { source = Some from_pipe }) typed ≡ codes "same" ∷ [])
+    × (names_left (coming_from address 9) typed ≡ codes "external" ∷ [])
+    × (names_left (coming_from (V6 2) 9) typed ≡ codes "external" ∷ [])

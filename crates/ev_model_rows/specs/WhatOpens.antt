@@ -20,7 +20,7 @@ abbrev pub chains : List FilterChain
 chains =
     chain_for (codes "a") to_cluster
     ∷ chain_for (codes "b") Other
-    ∷ chain_by (record no_criteria { server_names = codes "c" ∷ []; asks_source = true }) to_cluster
+    ∷ chain_by (record no_criteria { server_names = codes "c" ∷ []; source_ports = 1 ∷ [] }) to_cluster
     ∷ []
 
 -- the lines, from the second on

@@ -95,7 +95,10 @@ no_criteria = record {
   server_names = [];
   transport_protocol = None;
   application_protocols = [];
-  asks_source = false;
+  direct_source_prefix_ranges = [];
+  source_type = None;
+  source_prefix_ranges = [];
+  source_ports = [];
 }
 
 -- a chain that serves the connections that its match takes
@@ -110,7 +113,7 @@ open_chain serve = chain_by no_criteria serve
 abbrev pub chain_for : List ℕ → Serve → FilterChain
 chain_for name serve = chain_by (record no_criteria { server_names = name ∷ [] }) serve
 
--- a listener at a host, with its mark, chains, default chain and the text of its body, under the version `v1`
+-- a listener at a host by TCP, with its mark, chains, default chain and the text of its body, under the version `v1`
 abbrev pub listener_by : List ℕ → Host → Bool → List FilterChain → Option Serve → List ℕ → ItemParts
 listener_by name address every chains default text = record {
   name = name;
@@ -118,8 +121,10 @@ listener_by name address every chains default text = record {
   ttl = false;
   body = Good (Listener (record {
     name = name;
-    address = address;
+    address = record { host = address; udp = false };
     takes_every_address = every;
+    restores = false;
+    hands_over = false;
     filter_chains = chains;
     default_filter_chain = default;
     body_text = text;
@@ -220,6 +225,8 @@ asked connection = record {
   conn = connection;
   address = record { address = codes "10.1.0.1"; port = 8080 };
   ip = Some (V4 (10 * 2 ^ 24 + 2 ^ 16 + 1));
+  source = None;
+  redirected_to = None;
   server_name = [];
   tls = false;
   alpn = [];

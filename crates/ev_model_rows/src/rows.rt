@@ -21,8 +21,8 @@ ghost use Rattle.ev_model_rows.specs.TtlOfEndpoints.{TtlOfEndpointsAnswers, TtlO
 ghost use Rattle.ev_model_rows.specs.DrainedListenersWait.{AnswersOfFormat1, DrainedListenersWaitAnswers};
 ghost use Rattle.ev_model_rows.specs.FullBatch.{IsFull};
 ghost use Rattle.ev_model_rows.specs.Findings.{Found};
-ghost use Rattle.ev_model_rows.specs.Narrowing.{NoWayBack, Ranges, Names, Transports, Protocols};
-ghost use Rattle.ev_model_rows.specs.Conditions.{There, Missing, Paths};
+ghost use Rattle.ev_model_rows.specs.Narrowing.{NoWayBack, Ranges, Names, Transports, Protocols, Sources, SourceTypes};
+ghost use Rattle.ev_model_rows.specs.Conditions.{There, Missing, NumberRanges, Queries, Unclear, OfPath, Paths};
 ghost use Rattle.ev_model_rows.specs.FreshEndpoints.{FreshEndpointsAnswers, FreshEndpointsPictures};
 ghost use Rattle.ev_model_rows.specs.LateTimeouts.{LateTimeoutsAnswers};
 ghost use Rattle.ev_model_rows.specs.SharedRoutes.{SharedRoutesAnswers};
@@ -31,6 +31,7 @@ ghost use Rattle.ev_model_rows.specs.ChainsInOrder.{ChainsInOrderAnswers};
 ghost use Rattle.ev_model_rows.specs.OpenRoutes.{OpenRoutesAnswers};
 ghost use Rattle.ev_model_rows.specs.WhatOpens.{WhatOpensAnswers};
 ghost use Rattle.ev_model_rows.specs.EveryAddress.{EveryAddressAnswers};
+ghost use Rattle.ev_model_rows.specs.Redirected.{RedirectedAnswers};
 
 /// A content that returns: an update that never warmed is dropped, and the generation that served goes once nothing holds it. It does nothing.
 pub fn content_returns()
@@ -162,20 +163,31 @@ pub fn findings()
     ensures { Found }
 {}
 
-/// Filter chains are narrowed by port, address, server name, transport and application protocols, and nothing comes back. It does nothing.
+/// Filter chains are narrowed by port, address, server name, transport and application protocols, then by where a connection comes
+/// from, and nothing comes back. It does nothing.
 pub fn narrowing()
     ensures no_way_back { NoWayBack }
     ensures ranges { Ranges }
     ensures names { Names }
     ensures transports { Transports }
     ensures protocols { Protocols }
+    ensures sources { Sources }
+    ensures source_types { SourceTypes }
 {}
 
 /// What routes ask of headers and paths, and what that says where a header is missing or nothing decides it. It does nothing.
 pub fn conditions()
     ensures there { There }
     ensures missing { Missing }
+    ensures ranges { NumberRanges }
     ensures paths { Paths }
+{}
+
+/// What routes ask of query parameters, and what that says where Envoy may decode a query to another. It does nothing.
+pub fn queries()
+    ensures texts { Queries }
+    ensures unclear { Unclear }
+    ensures path { OfPath }
 {}
 
 /// An updated cluster waits until its endpoints are sent anew, though they are known, and the same ones wake it. It does nothing.
@@ -217,4 +229,9 @@ pub fn what_opens()
 /// A listener that takes every address of its port serves what no other listener has. It does nothing.
 pub fn every_address()
     ensures answers { EveryAddressAnswers }
+{}
+
+/// A redirected connection is taken by the listener where it was delivered, or by the one where it is meant to go. It does nothing.
+pub fn redirected()
+    ensures answers { RedirectedAnswers }
 {}

@@ -1,7 +1,8 @@
 -- What a route's match asks of a request where resources are read as Envoy reads them
--- (`envoy.config.route.v3.RouteMatch`, with its `HeaderMatcher`s and their `envoy.type.matcher.v3.StringMatcher`):
+-- (`envoy.config.route.v3.RouteMatch`, with its `HeaderMatcher`s, its `QueryParameterMatcher`s and their
+-- `envoy.type.matcher.v3.StringMatcher`, and the `envoy.type.v3.Int64Range` of a header):
 -- which paths, and which conditions beside the path.
-use Rattle.std.specs.Prelude.{ℕ, ◌||◌, ◌==◌, ◌++◌, List, [], ◌∷◌, length, map, Bool, false, not, if◌then◌else◌, Option, Some, None, codes}
+use Rattle.std.specs.Prelude.{ℕ, pos, ◌||◌, ◌==◌, ◌++◌, List, [], ◌∷◌, length, map, Bool, true, false, not, if◌then◌else◌, Option, Some, None, codes}
 use Rattle.std.specs.Map.Iter.{deref}
 use Rattle.std.specs.Str.{str_to_ascii_lowercase}
 use denote.Ref.{Bor}
@@ -11,23 +12,29 @@ use Rattle.ev_types.specs.declared.events.Profile.TheVariants.{Own, Envoy}
 use Rattle.ev_types.specs.declared.routes.PathMatch.{PathMatch}
 use Rattle.ev_types.specs.declared.matchers.StringPattern.{StringPattern}
 use Rattle.ev_types.specs.declared.matchers.StringPattern.TheVariants.{Exact, Prefix, Suffix, Contains}
+use Rattle.ev_types.specs.declared.matchers.StringMatcher.{StringMatcher}
 use Rattle.ev_types.specs.declared.matchers.HeaderTest.{HeaderTest}
-use Rattle.ev_types.specs.declared.matchers.HeaderTest.TheVariants.{Text as by_text, Present, Open as open_test}
+use Rattle.ev_types.specs.declared.matchers.HeaderTest.TheVariants.{Text as by_text, Present, Range, Open as open_test}
 use Rattle.ev_types.specs.declared.matchers.HeaderMatcher.{HeaderMatcher}
+use Rattle.ev_types.specs.declared.queries.QueryTest.{QueryTest}
+use Rattle.ev_types.specs.declared.queries.QueryTest.TheVariants.{Text as by_value, Present as is_there, Open as open_value}
+use Rattle.ev_types.specs.declared.queries.QueryParameterMatcher.{QueryParameterMatcher}
 use Rattle.ev_types.specs.declared.matchers.RouteCondition.{RouteCondition}
-use Rattle.ev_types.specs.declared.matchers.RouteCondition.TheVariants.{Header, Grpc, Open as open_condition}
+use Rattle.ev_types.specs.declared.matchers.RouteCondition.TheVariants.{Header, Query, Grpc, Open as open_condition}
 use Rattle.ev_types.specs.declared.matchers.PathSpecifier.{PathSpecifier}
 use Rattle.ev_types.specs.declared.matchers.PathSpecifier.TheVariants.{Cased, Folded, Connect, Open as open_path}
 use Rattle.ev_types.specs.declared.matchers.RouteMatch.{RouteMatch}
 use Rattle.ev_tree.specs.declared.broken.BrokenRules.{BrokenRules}
 use Rattle.ev_tree.specs.declared.outcome.Found.{Found}
-use Rattle.ev_tree.specs.Forms.{found_map, is_wrong, is_given, given_or, inside, listed, text_of, boolean_of, object_of, objects_of}
+use Rattle.ev_tree.specs.Forms.{found_map, is_wrong, is_given, given_or, inside, listed, text_of, integer_of, boolean_of, object_of, objects_of}
 use Rattle.ev_tree.specs.Broken.{none_broken, either_broken, any_broken, broken_where}
 use Rattle.ev_tree.specs.Counts.{exactly_one, more_than_one}
+use Rattle.ev_route_json.specs.declared.header_matchers.MatcherKind.{MatcherKind}
+use Rattle.ev_route_json.specs.declared.header_matchers.MatcherKind.TheVariants.{OfHeader, OfQuery}
 use Rattle.ev_route_json.specs.Targets.{is_empty_text}
 use Rattle.ev_route_json.specs.Matches.{path_of, match_broken, is_false, separated_is_bad}
 
--- ---- a text that a header's value is held against
+-- ---- a text that a value is held against
 
 -- the pattern that is given
 abbrev pub pattern_with : Found (List ℕ) → Found (List ℕ) → Found (List ℕ) → Found (List ℕ) → Option StringPattern
@@ -45,15 +52,15 @@ pattern_found exact prefix suffix contains =
 
 -- ---- a string matcher
 
--- the test by a pattern; without one it isn't decided here
-abbrev pub string_test : Option StringPattern → Bool → HeaderTest
-string_test None ignore = open_test
-string_test (Some pattern) ignore = by_text (record { pattern = pattern; ignore_case = ignore })
+-- the matcher by a pattern; there is none without one
+abbrev pub matcher_with : Option StringPattern → Bool → Option StringMatcher
+matcher_with None ignore = None
+matcher_with (Some pattern) ignore = Some (record { pattern = pattern; ignore_case = ignore })
 
--- the test that a string matcher is: `safe_regex` and `custom` aren't decided here
-unfoldable pub string_matcher_of : Data → HeaderTest
+-- the texts that a string matcher takes: none is given by `safe_regex` and `custom`, which aren't decided here
+unfoldable pub string_matcher_of : Data → Option StringMatcher
 string_matcher_of tree =
-    string_test
+    matcher_with
     (pattern_with (text_of (codes "exact") tree) (text_of (codes "prefix") tree) (text_of (codes "suffix") tree) (text_of (codes "contains") tree))
     (given_or false (boolean_of (codes "ignore_case") tree))
 
@@ -77,17 +84,38 @@ string_matcher_broken tree = record none_broken {
       || is_empty_text (text_of (codes "contains") tree);
 }
 
--- ---- the test of a header
-
 -- the tree of `string_match`
 unfoldable pub string_match_of : Data → Data
-string_match_of header = inside (object_of (codes "string_match") header)
+string_match_of matcher = inside (object_of (codes "string_match") matcher)
 
--- The test of what is given: a pattern, a string matcher, or one that isn't decided here. Without any it is that the
--- header is there.
-abbrev pub header_test_with : Option StringPattern → Bool → HeaderTest → Bool → HeaderTest
-header_test_with (Some pattern) by_string string undecided = by_text (record { pattern = pattern; ignore_case = false })
-header_test_with None by_string string undecided = if by_string then string else (if undecided then open_test else Present)
+-- ---- a range of numbers
+
+-- the tree of `range_match`
+unfoldable pub range_match_of : Data → Data
+range_match_of header = inside (object_of (codes "range_match") header)
+
+-- the range: an end that isn't given is 0
+unfoldable pub range_of : Data → HeaderTest
+range_of tree = Range (given_or (pos 0) (integer_of (codes "start") tree)) (given_or (pos 0) (integer_of (codes "end") tree))
+
+unfoldable pub range_broken : Data → BrokenRules
+range_broken tree = record none_broken {
+  v6 = is_wrong (integer_of (codes "start") tree) || is_wrong (integer_of (codes "end") tree);
+}
+
+-- ---- the test of a header
+
+-- the test by a string matcher; without a pattern it isn't decided here
+abbrev pub text_test : Option StringMatcher → HeaderTest
+text_test None = open_test
+text_test (Some matcher) = by_text matcher
+
+-- The test of what is given: a pattern, a string matcher, a range, or one that isn't decided here. Without any it is
+-- that the header is there.
+abbrev pub header_test_with : Option StringPattern → Bool → Option StringMatcher → Bool → HeaderTest → Bool → HeaderTest
+header_test_with (Some pattern) by_string matcher by_range range by_regex = by_text (record { pattern = pattern; ignore_case = false })
+header_test_with None by_string matcher by_range range by_regex =
+    if by_string then text_test matcher else (if by_range then range else (if by_regex then open_test else Present))
 
 unfoldable pub header_test_of : Data → HeaderTest
 header_test_of header =
@@ -95,12 +123,20 @@ header_test_of header =
     (pattern_with (text_of (codes "exact_match") header) (text_of (codes "prefix_match") header) (text_of (codes "suffix_match") header) (text_of (codes "contains_match") header))
     (is_given (object_of (codes "string_match") header))
     (string_matcher_of (string_match_of header))
-    (is_given (object_of (codes "safe_regex_match") header) || is_given (object_of (codes "range_match") header))
+    (is_given (object_of (codes "range_match") header))
+    (range_of (range_match_of header))
+    (is_given (object_of (codes "safe_regex_match") header))
 
--- What the tests of a header break: what its string matcher breaks, where it has one, and what they break themselves.
--- V21: more than one test, or an empty pattern but `exact_match`.
+-- what the parts of a header's test break: its string matcher, where it has one, and its range
+unfoldable pub test_parts_broken : Data → BrokenRules
+test_parts_broken header =
+    either_broken (broken_where (is_given (object_of (codes "string_match") header)) (string_matcher_broken (string_match_of header)))
+    (range_broken (range_match_of header))
+
+-- What the tests of a header break: what their parts break, and what they break themselves. V21: more than one test, or
+-- an empty pattern but `exact_match`.
 unfoldable pub header_test_broken : Data → BrokenRules
-header_test_broken header = either_broken (broken_where (is_given (object_of (codes "string_match") header)) (string_matcher_broken (string_match_of header))) (record none_broken {
+header_test_broken header = either_broken (test_parts_broken header) (record none_broken {
   v6 =
       is_wrong (text_of (codes "exact_match") header)
       || is_wrong (text_of (codes "prefix_match") header)
@@ -122,9 +158,9 @@ header_test_broken header = either_broken (broken_where (is_given (object_of (co
 
 -- ---- a header matcher
 
--- the name as it is written: the empty text where none is given
-unfoldable pub header_name_of : Data → List ℕ
-header_name_of header = given_or [] (text_of (codes "name") header)
+-- the name as it is written, of a header or a query parameter: the empty text where none is given
+unfoldable pub matched_name_of : Data → List ℕ
+matched_name_of matcher = given_or [] (text_of (codes "name") matcher)
 
 -- turned over, or as it is
 abbrev pub turned_over : Bool → Bool → Bool
@@ -133,7 +169,7 @@ turned_over turn said = if turn then not said else said
 -- That a header isn't there is asked by a `present_match` that is false: it is Present, turned over once more.
 unfoldable pub header_matcher_of : Data → HeaderMatcher
 header_matcher_of header = record {
-  name = str_to_ascii_lowercase (header_name_of header);
+  name = str_to_ascii_lowercase (matched_name_of header);
   test = header_test_of header;
   invert_match = turned_over (is_false (boolean_of (codes "present_match") header)) (given_or false (boolean_of (codes "invert_match") header));
   treat_missing_header_as_empty = given_or false (boolean_of (codes "treat_missing_header_as_empty") header);
@@ -146,17 +182,60 @@ header_matcher_broken header = either_broken (header_test_broken header) (record
       is_wrong (text_of (codes "name") header)
       || is_wrong (boolean_of (codes "invert_match") header)
       || is_wrong (boolean_of (codes "treat_missing_header_as_empty") header);
-  v21 = length (header_name_of header) == 0;
+  v21 = length (matched_name_of header) == 0;
+})
+
+-- ---- a query parameter's matcher
+
+-- the test by a string matcher; without a pattern it isn't decided here
+abbrev pub value_test : Option StringMatcher → QueryTest
+value_test None = open_value
+value_test (Some matcher) = by_value matcher
+
+-- the test by a string matcher where one is given, else that the parameter is there, or isn't
+abbrev pub query_test_with : Bool → Option StringMatcher → Bool → QueryTest
+query_test_with by_string matcher there = if by_string then value_test matcher else is_there there
+
+-- without any test it is that the parameter is there
+unfoldable pub query_matcher_of : Data → QueryParameterMatcher
+query_matcher_of parameter = record {
+  name = matched_name_of parameter;
+  test =
+      query_test_with (is_given (object_of (codes "string_match") parameter))
+      (string_matcher_of (string_match_of parameter))
+      (given_or true (boolean_of (codes "present_match") parameter));
+}
+
+-- What a query parameter's matcher breaks: what its string matcher breaks, where it has one, and what it breaks itself.
+-- V21: no name or an empty one, or both tests.
+unfoldable pub query_matcher_broken : Data → BrokenRules
+query_matcher_broken parameter = either_broken (broken_where (is_given (object_of (codes "string_match") parameter)) (string_matcher_broken (string_match_of parameter))) (record none_broken {
+  v6 =
+      is_wrong (text_of (codes "name") parameter)
+      || is_wrong (object_of (codes "string_match") parameter)
+      || is_wrong (boolean_of (codes "present_match") parameter);
+  v21 =
+      (length (matched_name_of parameter) == 0)
+      || more_than_one (is_given (object_of (codes "string_match") parameter) ∷ is_given (boolean_of (codes "present_match") parameter) ∷ []);
 })
 
 -- ---- the conditions
 
--- an element of `headers` as a condition
-abbrev pub header_condition_of : Data → RouteCondition
-header_condition_of header = Header (header_matcher_of header)
+-- an element of `headers` or of `query_parameters` as a condition
+abbrev pub condition_of : MatcherKind → Data → RouteCondition
+condition_of OfHeader tree = Header (header_matcher_of tree)
+condition_of OfQuery tree = Query (query_matcher_of tree)
+
+-- what it breaks
+abbrev pub condition_broken : MatcherKind → Data → BrokenRules
+condition_broken OfHeader tree = header_matcher_broken tree
+condition_broken OfQuery tree = query_matcher_broken tree
 
 unfoldable pub headers_of : Data → List Data
 headers_of tree = listed (objects_of (codes "headers") tree)
+
+unfoldable pub parameters_of : Data → List Data
+parameters_of tree = listed (objects_of (codes "query_parameters") tree)
 
 -- a list is given that has elements
 abbrev pub has_elements : Found (List Data) → Bool
@@ -167,7 +246,6 @@ unfoldable pub is_open : Data → Bool
 is_open tree =
     is_given (object_of (codes "runtime_fraction") tree)
     || is_given (object_of (codes "tls_context") tree)
-    || has_elements (objects_of (codes "query_parameters") tree)
     || has_elements (objects_of (codes "dynamic_metadata") tree)
     || has_elements (objects_of (codes "filter_state") tree)
 
@@ -176,7 +254,6 @@ unfoldable pub open_wrong : Data → Bool
 open_wrong tree =
     is_wrong (object_of (codes "runtime_fraction") tree)
     || is_wrong (object_of (codes "tls_context") tree)
-    || is_wrong (objects_of (codes "query_parameters") tree)
     || is_wrong (objects_of (codes "dynamic_metadata") tree)
     || is_wrong (objects_of (codes "filter_state") tree)
 
@@ -184,17 +261,27 @@ open_wrong tree =
 abbrev pub with_condition : List RouteCondition → Bool → RouteCondition → List RouteCondition
 with_condition conditions asked condition = if asked then conditions ++ condition ∷ [] else conditions
 
--- those on headers, then that it is a gRPC request, then one for all that aren't decided here
+-- those on headers and query parameters, then that it is a gRPC request, then one for all that aren't decided here
 abbrev pub conditions_with : List RouteCondition → Bool → Bool → List RouteCondition
-conditions_with headers grpc undecided = with_condition (with_condition headers grpc Grpc) undecided open_condition
+conditions_with matched grpc undecided = with_condition (with_condition matched grpc Grpc) undecided open_condition
 
 unfoldable pub conditions_of : Data → List RouteCondition
-conditions_of tree = conditions_with (map header_condition_of (headers_of tree)) (is_given (object_of (codes "grpc") tree)) (is_open tree)
+conditions_of tree =
+    conditions_with (map (condition_of OfHeader) (headers_of tree) ++ map (condition_of OfQuery) (parameters_of tree))
+    (is_given (object_of (codes "grpc") tree)) (is_open tree)
 
--- what the conditions break: what one of the header matchers breaks, and what they break themselves
+-- what the matchers of headers and of query parameters break
+unfoldable pub matchers_broken : Data → BrokenRules
+matchers_broken tree = either_broken (any_broken (condition_broken OfHeader) (headers_of tree)) (any_broken (condition_broken OfQuery) (parameters_of tree))
+
+-- what the conditions break: what one of their matchers breaks, and what they break themselves
 unfoldable pub conditions_broken : Data → BrokenRules
-conditions_broken tree = either_broken (any_broken header_matcher_broken (headers_of tree)) (record none_broken {
-  v6 = is_wrong (objects_of (codes "headers") tree) || is_wrong (object_of (codes "grpc") tree) || open_wrong tree;
+conditions_broken tree = either_broken (matchers_broken tree) (record none_broken {
+  v6 =
+      is_wrong (objects_of (codes "headers") tree)
+      || is_wrong (objects_of (codes "query_parameters") tree)
+      || is_wrong (object_of (codes "grpc") tree)
+      || open_wrong tree;
 })
 
 -- ---- the path

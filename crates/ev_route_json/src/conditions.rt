@@ -1,9 +1,11 @@
-ghost use Rattle.std.specs.Prelude.{◌≡◌, IfOk, map};
+ghost use Rattle.std.specs.Prelude.{◌≡◌, ◌++◌, IfOk, map};
 ghost use Rattle.serde_json.specs.View.{view};
 ghost use Rattle.ev_tree.specs.Forms.{tree_of, found_map};
-ghost use Rattle.ev_route_json.specs.Conditions.{has_elements, is_open, open_wrong, with_condition, conditions_with, conditions_of, conditions_broken, specifier_with, path_specifier_of, path_specifier_broken, route_match_of, route_match_broken, own_match_of, match_in, match_broken_in};
+ghost use Rattle.ev_tree.specs.Broken.{any_broken};
+ghost use Rattle.ev_route_json.specs.Conditions.{condition_of, condition_broken, has_elements, is_open, open_wrong, with_condition, conditions_with, conditions_of, conditions_broken, specifier_with, path_specifier_of, path_specifier_broken, route_match_of, route_match_broken, own_match_of, match_in, match_broken_in};
 ghost use Rattle.ev_route_json.specs.Matches.{match_broken};
 
+use crate::header_matchers::MatcherKind;
 use crate::matches::{inspect_match, is_false, make_path, separated_is_bad};
 use crate::parts::inspect_all;
 use ev_tree::{BrokenRules, Found, Inspection, exactly_one, member};
@@ -27,18 +29,15 @@ fn inspect_open(alloc: Global, tree: Option<&Value>) -> Result<OpenConditions, A
 {
     let fraction = member::object(alloc, tree, "runtime_fraction")?;
     let certificate = member::object(alloc, tree, "tls_context")?;
-    let query = member::objects(alloc, tree, "query_parameters")?;
     let metadata = member::objects(alloc, tree, "dynamic_metadata")?;
     let state = member::objects(alloc, tree, "filter_state")?;
     Ok(OpenConditions {
         given: fraction.is_given()
             | certificate.is_given()
-            | has_elements(query)
             | has_elements(metadata)
             | has_elements(state),
         wrong: fraction.is_wrong()
             | certificate.is_wrong()
-            | query.is_wrong()
             | metadata.is_wrong()
             | state.is_wrong(),
     })
@@ -67,15 +66,15 @@ fn with_condition(
     Ok(more)
 }
 
-// Those on headers, then that it is a gRPC request, then one for all that aren't decided here.
+// Those on headers and query parameters, then that it is a gRPC request, then one for all that aren't decided here.
 fn conditions_with(
-    headers: Vec<RouteCondition>,
+    matched: Vec<RouteCondition>,
     grpc: bool,
     undecided: bool,
 ) -> Result<Vec<RouteCondition>, AllocError>
-    ensures { IfOk result (λ made. made.items ≡ conditions_with headers.items grpc undecided) }
+    ensures { IfOk result (λ made. made.items ≡ conditions_with matched.items grpc undecided) }
 {
-    let decided = with_condition(headers, grpc, RouteCondition::Grpc)?;
+    let decided = with_condition(matched, grpc, RouteCondition::Grpc)?;
     with_condition(decided, undecided, RouteCondition::Open)
 }
 
@@ -88,21 +87,45 @@ fn inspect_conditions(
     ensures broken { IfOk result (λ found. found.broken ≡ conditions_broken (tree_of tree.entry)) }
 {
     let headers = member::objects(alloc, tree, "headers")?;
+    let parameters = member::objects(alloc, tree, "query_parameters")?;
     let grpc = member::object(alloc, tree, "grpc")?;
     let undecided = inspect_open(alloc, tree)?;
-    let below = inspect_all::<Profile, RouteCondition>(
-        alloc,
-        Profile::Envoy,
-        member::elements(headers),
-    )?;
+    let by_header = inspect_matchers(alloc, MatcherKind::OfHeader, member::elements(headers))?;
+    let by_query = inspect_matchers(alloc, MatcherKind::OfQuery, member::elements(parameters))?;
     let own = BrokenRules {
-        v6: headers.is_wrong() | grpc.is_wrong() | undecided.wrong,
+        v6: headers.is_wrong() | parameters.is_wrong() | grpc.is_wrong() | undecided.wrong,
         ..BrokenRules::none()
     };
+    let matched = joined(by_header.value, by_query.value)?;
     Ok(Inspection {
-        broken: below.broken.or(own),
-        value: conditions_with(below.value, grpc.is_given(), undecided.given)?,
+        broken: by_header.broken.or(by_query.broken).or(own),
+        value: conditions_with(matched, grpc.is_given(), undecided.given)?,
     })
+}
+
+// Inspects the elements of one of the two lists of matchers.
+fn inspect_matchers(
+    alloc: Global,
+    kind: MatcherKind,
+    trees: &[Value],
+) -> Result<Inspection<Vec<RouteCondition>>, AllocError>
+    ensures values { IfOk result (λ found. found.value.items ≡ map (condition_of kind) (map view trees.now)) }
+    ensures broken { IfOk result (λ found. found.broken ≡ any_broken (condition_broken kind) (map view trees.now)) }
+{
+    inspect_all::<MatcherKind, RouteCondition>(alloc, kind, trees)
+}
+
+// One list after the other.
+fn joined(
+    first: Vec<RouteCondition>,
+    second: Vec<RouteCondition>,
+) -> Result<Vec<RouteCondition>, AllocError>
+    ensures { IfOk result (λ made. made.items ≡ first.items ++ second.items) }
+{
+    let mut all = first;
+    let mut others = second;
+    all.append(&mut others)?;
+    Ok(all)
 }
 
 // The path specifier of what is given.

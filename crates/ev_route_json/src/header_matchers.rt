@@ -2,127 +2,68 @@ ghost use Rattle.std.specs.Prelude.{◌≡◌, IfOk};
 ghost use Rattle.std.specs.Str.{str_to_ascii_lowercase};
 ghost use Rattle.serde_json.specs.View.{view};
 ghost use Rattle.ev_tree.specs.Forms.{tree_of};
-ghost use Rattle.ev_route_json.specs.Conditions.{pattern_found, string_test, string_matcher_of, string_matcher_broken, header_test_with, header_test_of, header_test_broken, turned_over, header_matcher_of, header_matcher_broken};
+ghost use Rattle.ev_route_json.specs.Conditions.{text_test, header_test_with, header_test_of, header_test_broken, range_of, range_broken, turned_over, header_matcher_of, header_matcher_broken};
 
 use crate::matches::is_false;
 use crate::parts::Inspect;
+use crate::query_matchers::inspect_query_matcher;
+use crate::string_matchers::{inspect_string_matcher, make_pattern};
 use crate::targets::is_empty_text;
-use ev_tree::{BrokenRules, Found, Inspection, exactly_one, member, more_than_one};
-use ev_types::{
-    HeaderMatcher, HeaderTest, Profile, RouteCondition, StringMatcher, StringPattern, Text,
-};
+use ev_tree::{BrokenRules, Inspection, member, more_than_one};
+use ev_types::{HeaderMatcher, HeaderTest, RouteCondition, StringMatcher, StringPattern, Text};
 use serde_json::Value;
 use std::alloc::{AllocError, Global};
 
-impl Inspect<Profile> for RouteCondition {
-    ghost use Rattle.ev_route_json.specs.Conditions.{header_condition_of, header_matcher_broken};
+/// Which list of a match an element stands in.
+#[derive(Clone, Copy)]
+pub enum MatcherKind {
+    /// `headers`.
+    OfHeader,
+    /// `query_parameters`.
+    OfQuery,
+}
 
-    ghost value_of = { λ _. header_condition_of };
+impl Inspect<MatcherKind> for RouteCondition {
+    ghost use Rattle.ev_route_json.specs.Conditions.{condition_of, condition_broken};
 
-    ghost broken_of = { λ _. header_matcher_broken };
+    ghost value_of = { condition_of };
+
+    ghost broken_of = { condition_broken };
 
     fn inspect(
         alloc: Global,
-        _mode: Profile,
+        kind: MatcherKind,
         tree: &Value,
     ) -> Result<Inspection<RouteCondition>, AllocError> {
-        let found = inspect_header_matcher(alloc, tree)?;
-        Ok(Inspection {
-            value: RouteCondition::Header(found.value),
-            broken: found.broken,
-        })
+        match kind {
+            MatcherKind::OfHeader => {
+                let found = inspect_header_matcher(alloc, tree)?;
+                Ok(Inspection {
+                    value: RouteCondition::Header(found.value),
+                    broken: found.broken,
+                })
+            }
+            MatcherKind::OfQuery => {
+                let found = inspect_query_matcher(alloc, tree)?;
+                Ok(Inspection {
+                    value: RouteCondition::Query(found.value),
+                    broken: found.broken,
+                })
+            }
+        }
     }
-}
-
-// The pattern that is given.
-fn make_pattern(
-    alloc: Global,
-    exact: Found<&str>,
-    prefix: Found<&str>,
-    suffix: Found<&str>,
-    contains: Found<&str>,
-) -> Result<Option<StringPattern>, AllocError>
-    ensures { IfOk result (λ made. made ≡ pattern_found exact.entry prefix.entry suffix.entry contains.entry) }
-{
-    if let Found::Given(text) = exact {
-        return Ok(Some(StringPattern::Exact(Text::new(alloc, text)?)));
-    }
-    if let Found::Given(text) = prefix {
-        return Ok(Some(StringPattern::Prefix(Text::new(alloc, text)?)));
-    }
-    if let Found::Given(text) = suffix {
-        return Ok(Some(StringPattern::Suffix(Text::new(alloc, text)?)));
-    }
-    if let Found::Given(text) = contains {
-        return Ok(Some(StringPattern::Contains(Text::new(alloc, text)?)));
-    }
-    Ok(None)
-}
-
-// The test by a pattern; without one it isn't decided here.
-fn string_test(pattern: Option<StringPattern>, ignore_case: bool) -> HeaderTest
-    ensures { result ≡ string_test pattern ignore_case }
-{
-    match pattern {
-        Some(pattern) => HeaderTest::Text(StringMatcher {
-            pattern,
-            ignore_case,
-        }),
-        None => HeaderTest::Open,
-    }
-}
-
-// Inspects a string matcher, which may be missing.
-fn inspect_string_matcher(
-    alloc: Global,
-    tree: Option<&Value>,
-) -> Result<Inspection<HeaderTest>, AllocError>
-    ensures value { IfOk result (λ found. found.value ≡ string_matcher_of (tree_of tree.entry)) }
-    ensures broken { IfOk result (λ found. found.broken ≡ string_matcher_broken (tree_of tree.entry)) }
-{
-    let exact = member::text(alloc, tree, "exact")?;
-    let prefix = member::text(alloc, tree, "prefix")?;
-    let suffix = member::text(alloc, tree, "suffix")?;
-    let contains = member::text(alloc, tree, "contains")?;
-    let regex = member::object(alloc, tree, "safe_regex")?;
-    let custom = member::object(alloc, tree, "custom")?;
-    let ignore_case = member::boolean(alloc, tree, "ignore_case")?;
-    let kinds = [
-        exact.is_given(),
-        prefix.is_given(),
-        suffix.is_given(),
-        contains.is_given(),
-        regex.is_given(),
-        custom.is_given(),
-    ];
-    let pattern = make_pattern(alloc, exact, prefix, suffix, contains)?;
-    Ok(Inspection {
-        value: string_test(pattern, ignore_case.given_or(false)),
-        broken: BrokenRules {
-            v6: exact.is_wrong()
-                | prefix.is_wrong()
-                | suffix.is_wrong()
-                | contains.is_wrong()
-                | regex.is_wrong()
-                | custom.is_wrong()
-                | ignore_case.is_wrong(),
-            v21: !exactly_one(&kinds)
-                | is_empty_text(prefix)
-                | is_empty_text(suffix)
-                | is_empty_text(contains),
-            ..BrokenRules::none()
-        },
-    })
 }
 
 // The test of what is given. Without any it is that the header is there.
 fn header_test_with(
     pattern: Option<StringPattern>,
     by_string: bool,
-    string: HeaderTest,
-    undecided: bool,
+    matcher: Option<StringMatcher>,
+    by_range: bool,
+    range: HeaderTest,
+    by_regex: bool,
 ) -> HeaderTest
-    ensures { result ≡ header_test_with pattern by_string string undecided }
+    ensures { result ≡ header_test_with pattern by_string matcher by_range range by_regex }
 {
     match pattern {
         Some(pattern) => HeaderTest::Text(StringMatcher {
@@ -131,14 +72,45 @@ fn header_test_with(
         }),
         None => {
             if by_string {
-                string
-            } else if undecided {
+                text_test(matcher)
+            } else if by_range {
+                range
+            } else if by_regex {
                 HeaderTest::Open
             } else {
                 HeaderTest::Present
             }
         }
     }
+}
+
+// The test by a string matcher; without a pattern it isn't decided here.
+fn text_test(matcher: Option<StringMatcher>) -> HeaderTest
+    ensures { result ≡ text_test matcher }
+{
+    match matcher {
+        Some(matcher) => HeaderTest::Text(matcher),
+        None => HeaderTest::Open,
+    }
+}
+
+// Inspects a range of numbers, which may be missing.
+fn inspect_range(alloc: Global, tree: Option<&Value>) -> Result<Inspection<HeaderTest>, AllocError>
+    ensures value { IfOk result (λ found. found.value ≡ range_of (tree_of tree.entry)) }
+    ensures broken { IfOk result (λ found. found.broken ≡ range_broken (tree_of tree.entry)) }
+{
+    let start = member::number64(alloc, tree, "start")?;
+    let end = member::number64(alloc, tree, "end")?;
+    Ok(Inspection {
+        value: HeaderTest::Range {
+            start: start.given_or(0),
+            end: end.given_or(0),
+        },
+        broken: BrokenRules {
+            v6: start.is_wrong() | end.is_wrong(),
+            ..BrokenRules::none()
+        },
+    })
 }
 
 // Turned over, or as it is.
@@ -171,6 +143,7 @@ fn inspect_header_test(alloc: Global, header: &Value) -> Result<Inspection<Heade
     let regex = member::object(alloc, Some(header), "safe_regex_match")?;
     let range = member::object(alloc, Some(header), "range_match")?;
     let matcher = inspect_string_matcher(alloc, member::inner(string))?;
+    let numbers = inspect_range(alloc, member::inner(range))?;
     let tests = [
         exact.is_given(),
         prefix.is_given(),
@@ -197,10 +170,17 @@ fn inspect_header_test(alloc: Global, header: &Value) -> Result<Inspection<Heade
         ..BrokenRules::none()
     };
     let pattern = make_pattern(alloc, exact, prefix, suffix, contains)?;
-    let undecided = regex.is_given() | range.is_given();
+    let parts = matcher.broken.only_if(string.is_given()).or(numbers.broken);
     Ok(Inspection {
-        broken: matcher.broken.only_if(string.is_given()).or(own),
-        value: header_test_with(pattern, string.is_given(), matcher.value, undecided),
+        broken: parts.or(own),
+        value: header_test_with(
+            pattern,
+            string.is_given(),
+            matcher.value,
+            range.is_given(),
+            numbers.value,
+            regex.is_given(),
+        ),
     })
 }
 

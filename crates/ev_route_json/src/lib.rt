@@ -26,13 +26,16 @@ mod header_matchers;
 mod matches;
 mod parts;
 mod presence;
+mod query_matchers;
 mod readers;
 mod routes;
+mod string_matchers;
 mod tables;
 mod targets;
 
 pub use conditions::inspect_match_in;
 pub use domains::repeats_domain;
+pub use header_matchers::MatcherKind;
 pub use matches::inspect_match;
 pub use parts::{Inspect, inspect_all};
 pub use presence::{Presence, inspect_fields};

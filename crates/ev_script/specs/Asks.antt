@@ -8,8 +8,9 @@ use Rattle.ev_types.specs.declared.events.Ask.{Ask}
 use Rattle.ev_script.specs.declared.asks.Handshake.{Handshake}
 use Rattle.ev_script.specs.declared.asks.HttpRequest.{HttpRequest}
 use Rattle.ev_script.specs.declared.limits.TheConstants.{MAX_NUMBER, MAX_PATH_LENGTH}
+use Rattle.ev_script.specs.declared.peers.Ends.{Ends}
 use Rattle.ev_script.specs.Members.{whole_within, text_within, texts_in, member_of, member_or}
-use Rattle.ev_script.specs.LineForms.{host_in}
+use Rattle.ev_script.specs.Peers.{ends_in}
 use Rattle.ev_script.specs.Headers.{Headers, headers_of}
 
 -- a connection's number
@@ -68,13 +69,15 @@ request_in tree = option_and_then
 abbrev pub ask_in : Data → Option Ask
 ask_in tree = option_and_then
     (λ conn. option_and_then
-    (λ address. option_and_then
+    (λ (ends : Ends). option_and_then
     (λ (handshake : Handshake). option_and_then
     (λ (request : HttpRequest). option_map
     (λ pick. record {
       conn = conn;
-      address = address;
-      ip = ip_of address.address;
+      address = ends.address;
+      ip = ip_of ends.address.address;
+      source = ends.source;
+      redirected_to = ends.redirected_to;
       server_name = handshake.server_name;
       tls = handshake.tls;
       alpn = handshake.alpn;
@@ -86,5 +89,5 @@ ask_in tree = option_and_then
     (pick_in tree))
     (request_in tree))
     (handshake_in tree))
-    (host_in tree))
+    (ends_in tree))
     (conn_in tree)

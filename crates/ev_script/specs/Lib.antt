@@ -6,6 +6,7 @@ pub mod HealthLines
 pub mod TimerLines
 pub mod MainLines
 pub mod Headers
+pub mod Peers
 pub mod Asks
 pub mod WorkerLines
 pub mod Lines

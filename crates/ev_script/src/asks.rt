@@ -4,8 +4,8 @@ ghost use Rattle.ev_script.specs.Asks.{conn_in, alpn_in, handshake_in, headers_i
 
 use crate::headers::headers_of;
 use crate::limits::{MAX_NUMBER, MAX_PATH_LENGTH};
-use crate::line_forms::host_in;
 use crate::members::{flag_or, number_at, number_or, text_or, texts_in};
+use crate::peers::ends_in;
 use ev_types::{Ask, Ip, MAX_NAME_LENGTH, Seq, Text};
 use serde_json::Value;
 use std::alloc::{AllocError, Global};
@@ -24,7 +24,7 @@ pub(crate) fn ask_in(alloc: Global, tree: &Value) -> Result<Option<Ask>, AllocEr
     let Some(conn) = conn_in(tree) else {
         return Ok(None);
     };
-    let Some(address) = host_in(alloc, tree)? else {
+    let Some(ends) = ends_in(alloc, tree)? else {
         return Ok(None);
     };
     let Some(handshake) = handshake_in(alloc, tree)? else {
@@ -38,8 +38,10 @@ pub(crate) fn ask_in(alloc: Global, tree: &Value) -> Result<Option<Ask>, AllocEr
     };
     Ok(Some(Ask {
         conn,
-        ip: Ip::read(address.address.as_str()),
-        address,
+        ip: Ip::read(ends.address.address.as_str()),
+        address: ends.address,
+        source: ends.source,
+        redirected_to: ends.redirected_to,
         server_name: handshake.server_name,
         tls: handshake.tls,
         alpn: handshake.alpn,

@@ -25,11 +25,11 @@
 //!   it is none. A command whose input has other lines gives other forms.
 //! - Another line is read by the profile that the first sets. Where the first is no header the profile is the
 //!   project's own; no fault depends on it then, since that of the first line comes before.
-//! - Of an accept the profile decides which members there may be, and nothing else: where `serverName` and those
+//! - Of an accept the profile decides which members there may be, and nothing else: where `source` and those
 //!   beside it are no members, they are as where they are absent.
 //! - Headers are taken in the order of their written names, so of `X-A` and `x-a` the second counts. `:authority` and
 //!   `:path` are left out of them, since the ask's host and path stand for these.
-//! - The ask has the IP address that its address writes, so that a choice parses nothing.
+//! - The ask has the IP address that each of its addresses writes, so that a choice parses nothing.
 //! - The reader of an input is one loop, `read_up_to_journal`, over a type that says which lines there are and what is
 //!   kept of each (`Forms`): a script keeps a line as what it says. A command that reads other lines gives such a type
 //!   to `read_lines_with`, which reads whole inputs; the lines of a script are `ScriptLines`.
@@ -67,6 +67,7 @@ mod line_tree;
 mod lines;
 mod main_lines;
 mod members;
+mod peers;
 mod read_input;
 mod script;
 mod stream_lines;

@@ -50,6 +50,8 @@ fn has_accept_members(profile: Profile, tree: &Value) -> bool
                 "host",
                 "path",
                 "pick",
+                "source",
+                "redirectedTo",
                 "serverName",
                 "tls",
                 "alpn",

@@ -6,13 +6,15 @@ use Rattle.std.specs.Option.{option_or}
 use Rattle.std.proofs.lemmas.Bool.Decides.{nat_tests}
 use Rattle.std.proofs.lemmas.Grind.{common_steps}
 use Rattle.std.proofs.lemmas.List.{reverse-append}
-use Rattle.ev_types.specs.FilterChains.{has_value, prefix_ranges}
+use Rattle.ev_types.specs.FilterChains.{has_value}
 use Rattle.ev_types.specs.Ips.{cidr_range_same, range_about}
 use Rattle.ev_types.specs.declared.filter_chains.FilterChainMatch.{FilterChainMatch}
 use Rattle.ev_types.specs.declared.ips.CidrRange.{CidrRange}
 use Rattle.ev_types.specs.declared.ips.Ip.{Ip}
 use Rattle.ev_model.specs.Narrowing.{is_asked, wildcards}
 use Rattle.ev_model.specs.declared.pictures.ServedChain.{ServedChain}
+use Rattle.ev_snapshot.specs.RangeCriteria.{ranges_by}
+use Rattle.ev_snapshot.specs.declared.criterion.RangeCriterion.{RangeCriterion}
 use Rattle.ev_snapshot.specs.Wanted.{asks_range, wildcard_of}
 
 -- one number more, at the end
@@ -68,24 +70,26 @@ neither : (a b : Bool) → a || b ≡ false → (a ≡ false) × (b ≡ false)
 neither true b h = absurd (cc)
 neither false b h = (refl, h)
 
-range_unasked : (m : FilterChainMatch) (range : CidrRange) → asks_range m ≡ false → has_value cidr_range_same m.prefix_ranges range ≡ false
-range_unasked m range none = by m.prefix_ranges none
+range_unasked : (by : RangeCriterion) (m : FilterChainMatch) (range : CidrRange) → asks_range by m ≡ false
+    → has_value cidr_range_same (ranges_by by m) range ≡ false
+range_unasked by m range none = among (ranges_by by m) none
   where
-    by : (ranges : List CidrRange) → nat_lt 0 (length ranges) ≡ false → has_value cidr_range_same ranges range ≡ false
-    by [] is = refl
-    by (r ∷ rs) is = grind (arith, common_steps, nat_tests)
+    among : (ranges : List CidrRange) → nat_lt 0 (length ranges) ≡ false → has_value cidr_range_same ranges range ≡ false
+    among [] is = refl
+    among (r ∷ rs) is = grind (arith, common_steps, nat_tests)
 
-no_range : (chains : List ServedChain) (range : CidrRange) → list_any (λ (c : ServedChain). asks_range c.criteria) chains ≡ false
-    → is_asked cidr_range_same prefix_ranges chains range ≡ false
-no_range [] range none = refl
-no_range (c ∷ chains) range none =
-    let parts = neither (asks_range c.criteria) (list_any (λ (c : ServedChain). asks_range c.criteria) chains) none in
-    λ i. range_unasked c.criteria range parts.0 i || no_range chains range parts.1 i
+no_range : (by : RangeCriterion) (chains : List ServedChain) (range : CidrRange) → list_any (λ (c : ServedChain). asks_range by c.criteria) chains ≡ false
+    → is_asked cidr_range_same (ranges_by by) chains range ≡ false
+no_range by [] range none = refl
+no_range by (c ∷ chains) range none =
+    let parts = neither (asks_range by c.criteria) (list_any (λ (c : ServedChain). asks_range by c.criteria) chains) none in
+    λ i. range_unasked by c.criteria range parts.0 i || no_range by chains range parts.1 i
 
 pub never_found : {X : Type 0} (p : X → Bool) (xs : List X) → ((x : X) → p x ≡ false) → find p xs ≡ None
 never_found p [] never = refl
 never_found p (x ∷ xs) never = λ i. cond (never x i) (Some x) (never_found p xs never i)
 
-pub no_range_found : (chains : List ServedChain) (ranges : List CidrRange) → list_any (λ (c : ServedChain). asks_range c.criteria) chains ≡ false
-    → find (is_asked cidr_range_same prefix_ranges chains) ranges ≡ None
-no_range_found chains ranges none = never_found (is_asked cidr_range_same prefix_ranges chains) ranges (λ range. no_range chains range none)
+pub no_range_found : (by : RangeCriterion) (chains : List ServedChain) (ranges : List CidrRange)
+    → list_any (λ (c : ServedChain). asks_range by c.criteria) chains ≡ false
+    → find (is_asked cidr_range_same (ranges_by by) chains) ranges ≡ None
+no_range_found by chains ranges none = never_found (is_asked cidr_range_same (ranges_by by) chains) ranges (λ range. no_range by chains range none)

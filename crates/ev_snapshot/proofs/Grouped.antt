@@ -1,14 +1,14 @@
 -- The group of what passes a test, when one element goes out or comes in.
-use Rattle.std.proofs.Common.{◌≡◌, ◌∙◌, ℕ, ◌+◌, ◌==◌, not, Bool, true, false, cond, List, [], ◌∷◌, ◌++◌, filter, find, position, slice_get, insert, length, nat_lt, suc, arith, Some, None, refl, sym, ap, true≢false}
+use Rattle.std.proofs.Common.{◌≡◌, ◌∙◌, ℕ, ◌+◌, ◌==◌, ◌&&◌, not, Bool, true, false, cond, List, [], ◌∷◌, ◌++◌, filter, find, position, slice_get, insert, length, nat_lt, suc, arith, Some, None, refl, sym, ap, true≢false}
 use Rattle.std.specs.List.{AllByRecursion, position_or_len}
 use Rattle.ev_types.specs.Same.{numbers_decide}
 use Rattle.ev_types.specs.SameHosts.{host_decides, host_same}
 use Rattle.ev_types.specs.declared.hosts.Host.{Host}
-use Rattle.ev_model.specs.Choice.{listener_at}
+use Rattle.ev_model.specs.Choice.{listener_at, streams}
 use Rattle.ev_model.specs.Sorted.{put_by}
 use Rattle.ev_model.specs.Versions.{is_before}
 use Rattle.ev_model.specs.declared.pictures.ServedListener.{ServedListener}
-use Rattle.ev_snapshot.specs.Groups.{those_at}
+use Rattle.ev_snapshot.specs.Groups.{is_reached_at, those_at}
 use Rattle.ev_snapshot.specs.Changes.{IsInOrder, IsPairwise}
 use Rattle.ev_snapshot.specs.Rows.{numbered, put_before, without_number}
 use Rattle.ev_snapshot.proofs.Order.{before_then, every_kept, every_so, found_passes}
@@ -34,16 +34,40 @@ filters_turn p q (x ∷ xs) = by (p x) (q x) refl refl (filters_turn p q xs)
     by false true e f rest = (λ i. cond (e i) (x ∷ filter p (filter q xs)) (filter p (filter q xs))) ∙ rest
     by false false e f rest = rest
 
+-- a filter by two tests is two filters
+pub filter_both : {X : Type 0} (p q : X → Bool) (xs : List X) → filter (λ x. p x && q x) xs ≡ filter q (filter p xs)
+filter_both p q [] = refl
+filter_both {X} p q (x ∷ xs) = by (p x) (q x) refl (filter_both p q xs)
+  where
+    by : (a b : Bool) → q x ≡ b → filter (λ y. p y && q y) xs ≡ filter q (filter p xs)
+        → cond (a && b) (x ∷ filter (λ y. p y && q y) xs) (filter (λ y. p y && q y) xs) ≡ filter q (cond a (x ∷ filter p xs) (filter p xs))
+    by true true is rest = ap (λ ys. x ∷ ys) rest ∙ (λ i. cond (sym is i) (x ∷ filter q (filter p xs)) (filter q (filter p xs)))
+    by true false is rest = rest ∙ (λ i. cond (sym is i) (x ∷ filter q (filter p xs)) (filter q (filter p xs)))
+    by false b is rest = rest
+
+-- those at an address, by the listeners that connections reach
+pub those_streams : (address : Host) (listeners : List ServedListener)
+    → those_at address listeners ≡ filter (λ (l : ServedListener). host_same l.address address) (streams listeners)
+those_streams address listeners =
+    filter_both (λ (l : ServedListener). not l.udp) (λ (l : ServedListener). host_same l.address address) listeners
+
+-- the first of a group is the first at the group's address
+pub group_first : (address : Host) (listeners : List ServedListener) → slice_get (those_at address listeners) 0 ≡ listener_at (streams listeners) address
+group_first address listeners =
+    ap (λ ls. slice_get ls 0) (those_streams address listeners)
+    ∙ first_found (λ (l : ServedListener). host_same l.address address) (streams listeners)
+
 -- the first of a group that takes every address is the first at the group's address of those that do
 pub every_found : (address : Host) (listeners : List ServedListener)
     → find (λ (l : ServedListener). l.takes_every_address) (those_at address listeners)
-    ≡ listener_at (filter (λ (l : ServedListener). l.takes_every_address) listeners) address
+    ≡ listener_at (filter (λ (l : ServedListener). l.takes_every_address) (streams listeners)) address
 every_found address listeners =
     let every : ServedListener → Bool = λ l. l.takes_every_address in
     let here : ServedListener → Bool = λ l. host_same l.address address in
-    sym (first_found every (filter here listeners))
-    ∙ ap (λ ls. slice_get ls 0) (filters_turn every here listeners)
-    ∙ first_found here (filter every listeners)
+    ap (find every) (those_streams address listeners)
+    ∙ sym (first_found every (filter here (streams listeners)))
+    ∙ ap (λ ls. slice_get ls 0) (filters_turn every here (streams listeners))
+    ∙ first_found here (filter every (streams listeners))
 
 -- a filter doesn't see that what fails it goes
 pub filter_blind : {X : Type 0} (p q : X → Bool) (xs : List X) → AllByRecursion (λ x. q x ≡ false → p x ≡ false) xs → filter p (filter q xs) ≡ filter p xs
@@ -155,7 +179,7 @@ unplaced b x ys e = put_last b x ys (unplaced_by (nat_lt (position_or_len (b x) 
 -- ---- listeners by their addresses
 module _ (address : Host) where
   abbrev at : ServedListener → Bool
-  at l = host_same l.address address
+  at l = is_reached_at address l
 
   abbrev number : ServedListener → ℕ
   number l = l.number
@@ -164,20 +188,20 @@ module _ (address : Host) where
   name l = l.name
 
   pub group_put : (l : ServedListener) (ls : List ServedListener) → IsInOrder number name ls
-      → cond (host_same l.address address) (put_before name l (those_at address ls)) (those_at address ls) ≡ those_at address (put_before name l ls)
-  group_put l ls o = by (host_same l.address address) refl
+      → cond (is_reached_at address l) (put_before name l (those_at address ls)) (those_at address ls) ≡ those_at address (put_before name l ls)
+  group_put l ls o = by (is_reached_at address l) refl
     where
-      by : (b : Bool) → host_same l.address address ≡ b → cond b (put_before name l (those_at address ls)) (those_at address ls) ≡ those_at address (put_before name l ls)
+      by : (b : Bool) → is_reached_at address l ≡ b → cond b (put_before name l (those_at address ls)) (those_at address ls) ≡ those_at address (put_before name l ls)
       by true e = put_seen name at l ls o.names e
       by false e = sym (put_blind at (λ one other. is_before (name one) (name other)) l ls e)
 
   pub group_less : (n : ℕ) (c : ServedListener) (ls : List ServedListener) → IsInOrder number name ls → numbered number ls n ≡ Some c
-      → cond (host_same c.address address) (without_number number c.number (those_at address ls)) (those_at address ls) ≡ those_at address (without_number number n ls)
+      → cond (is_reached_at address c) (without_number number c.number (those_at address ls)) (those_at address ls) ≡ those_at address (without_number number n ls)
   group_less n c ls o found =
-      (λ i. cond (host_same c.address address) (without_number number ((numbers_decide c.number n).0 (found_passes (λ (l : ServedListener). l.number == n) ls c found) i) (those_at address ls)) (those_at address ls))
-      ∙ by (host_same c.address address) refl
+      (λ i. cond (is_reached_at address c) (without_number number ((numbers_decide c.number n).0 (found_passes (λ (l : ServedListener). l.number == n) ls c found) i) (those_at address ls)) (those_at address ls))
+      ∙ by (is_reached_at address c) refl
     where
-      by : (b : Bool) → host_same c.address address ≡ b → cond b (without_number number n (those_at address ls)) (those_at address ls) ≡ those_at address (without_number number n ls)
+      by : (b : Bool) → is_reached_at address c ≡ b → cond b (without_number number n (those_at address ls)) (those_at address ls) ≡ those_at address (without_number number n ls)
       by true e = sym (filters_turn at (λ l. not (number l == n)) ls)
       by false e =
           sym (filter_blind at (λ l. not (number l == n)) ls

@@ -1,6 +1,5 @@
 -- A choice goes to a host that its cluster shows, of the lowest priority there.
 use Rattle.std.proofs.Common.{◌≡◌, ℕ, ◌+◌, ◌/◌, ◌%◌, ◌<◌, ◌≤◌, ◌==◌, min, Bool, true, false, cond, List, [], ◌∷◌, length, map, take, sum, find, Option, Some, None, All, Contains, zero, suc, refl, sym, ◌∙◌, subst, inl, inr, arith, get_or}
-use Rattle.std.specs.List.{list_any}
 use Rattle.std.proofs.lemmas.Bool.{cases_lt}
 use Rattle.std.proofs.lemmas.Bool.Decides.{nat_tests}
 use Rattle.std.proofs.lemmas.List.Elements.{All-cons, All-nil, All-weaker}
@@ -15,9 +14,9 @@ use Rattle.ev_types.specs.declared.routes.Target.{Target}
 use Rattle.ev_types.specs.declared.routes.Target.TheVariants.{One, Weighted, Elsewhere as elsewhere}
 use Rattle.ev_types.specs.declared.routes.VirtualHost.{VirtualHost}
 use Rattle.std.specs.Str.{bytes_eq}
-use Rattle.ev_model.specs.Choice.{acted, by_chain, by_chains, by_host, by_listener, by_route, by_routing, by_word, choice_in, choice_of, cluster_named, counted_weights, forwarded, host_place, in_cluster, incoming_of, listener_for, lowest_priority, name_picked, requested_of, route_for, routing_left, served_at, virtual_host_for, weight_at}
+use Rattle.ev_model.specs.Choice.{Reached, acted, by_chain, by_chains, by_host, by_listener, by_reached, by_route, by_routing, by_word, choice_in, choice_of, cluster_named, counted_weights, delivered_of, forwarded, host_place, in_cluster, incoming_of, listener_for, lowest_priority, name_picked, reached_by, requested_of, route_for, routing_left, served_at, virtual_host_for, weight_at}
 use Rattle.ev_model.specs.Conditions.{match_says}
-use Rattle.ev_model.specs.Narrowing.{chains_left}
+use Rattle.ev_model.specs.Narrowing.{Incoming, chains_left, lacks_source}
 use Rattle.ev_model.specs.declared.pictures.Choice.TheVariants.{Elsewhere, Undecided}
 use Rattle.ev_model.specs.declared.pictures.Picture.{Picture}
 use Rattle.ev_model.specs.declared.pictures.Shown.{Shown}
@@ -154,9 +153,9 @@ by_chain_takes : (picture : Picture) (ask : Ask) (listener : ℕ) (routing : Opt
 by_chain_takes picture ask listener None = tt
 by_chain_takes picture ask listener (Some routing) = by_routing_takes picture ask listener routing
 
-by_chains_takes : (picture : Picture) (ask : Ask) (listener : ServedListener) (chains : List ServedChain)
-    → TakesLowest picture.shown (by_chains picture ask listener chains)
-by_chains_takes picture ask listener chains = by (list_any (λ (c : ServedChain). c.criteria.asks_source) chains)
+by_chains_takes : (picture : Picture) (ask : Ask) (listener : ServedListener) (incoming : Incoming) (chains : List ServedChain)
+    → TakesLowest picture.shown (by_chains picture ask listener incoming chains)
+by_chains_takes picture ask listener incoming chains = by (lacks_source incoming chains)
   where
     routing : Option Routing
     routing = routing_left chains listener.default_filter_chain
@@ -165,9 +164,14 @@ by_chains_takes picture ask listener chains = by (list_any (λ (c : ServedChain)
     by true = tt
     by false = by_chain_takes picture ask listener.number routing
 
+by_reached_takes : (picture : Picture) (ask : Ask) (reached : Reached) → TakesLowest picture.shown (by_reached picture ask reached)
+by_reached_takes picture ask reached =
+    let incoming = incoming_of ask reached.local_end in
+    by_chains_takes picture ask reached.listener incoming (chains_left incoming reached.listener.filter_chains)
+
 by_listener_takes : (picture : Picture) (ask : Ask) (found : Option ServedListener) → TakesLowest picture.shown (by_listener picture ask found)
 by_listener_takes picture ask None = tt
-by_listener_takes picture ask (Some listener) = by_chains_takes picture ask listener (chains_left (incoming_of ask) listener.filter_chains)
+by_listener_takes picture ask (Some listener) = by_reached_takes picture ask (reached_by picture.shown.listeners ask listener)
 
 pub choice_takes_lowest : (picture : Picture) (ask : Ask) → TakesLowest picture.shown (choice_of picture ask)
-choice_takes_lowest picture ask = by_listener_takes picture ask (listener_for picture.shown.listeners ask)
+choice_takes_lowest picture ask = by_listener_takes picture ask (listener_for picture.shown.listeners (delivered_of ask))

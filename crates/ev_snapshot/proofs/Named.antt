@@ -1,5 +1,5 @@
 -- A choice names only generations that the picture shows.
-use Rattle.std.proofs.Common.{◌≡◌, ℕ, ◌&&◌, ◌||◌, ◌==◌, ◌/◌, Bool, true, false, cond, List, [], ◌∷◌, codes, Option, Some, None, filter, find, map, refl, sym, ap, ◌∙◌, arith}
+use Rattle.std.proofs.Common.{◌≡◌, ℕ, ◌&&◌, ◌||◌, ◌==◌, ◌/◌, Bool, true, false, cond, List, [], ◌∷◌, codes, Option, Some, None, filter, find, map, not, unwrap_or, refl, sym, ap, ◌∙◌, arith}
 use Rattle.std.specs.List.{list_any}
 use Rattle.std.specs.Option.{option_or}
 use Rattle.std.proofs.lemmas.Grind.{common_steps}
@@ -7,6 +7,7 @@ use Rattle.std.proofs.lemmas.List.Folds.{list_any-append}
 use Rattle.ev_types.specs.SameHosts.{host_same}
 use Rattle.ev_types.specs.Weights.{weight_sum}
 use Rattle.ev_types.specs.declared.events.Ask.{Ask}
+use Rattle.ev_types.specs.declared.events.Peer.{Peer}
 use Rattle.ev_types.specs.declared.ips.Ip.{Ip}
 use Rattle.ev_types.specs.declared.ips.Ip.TheVariants.{V4, V6}
 use Rattle.ev_types.specs.declared.routes.Action.{Action}
@@ -16,9 +17,9 @@ use Rattle.ev_types.specs.declared.routes.Target.{Target}
 use Rattle.ev_types.specs.declared.routes.Target.TheVariants.{One, Weighted, Elsewhere as elsewhere}
 use Rattle.ev_types.specs.declared.routes.VirtualHost.{VirtualHost}
 use Rattle.std.specs.Str.{bytes_eq}
-use Rattle.ev_model.specs.Choice.{acted, by_chain, by_chains, by_host, by_listener, by_route, by_routing, by_word, choice_in, choice_of, cluster_named, forwarded, host_place, in_cluster, incoming_of, listener_at, listener_for, listener_for_every, listener_of_any, name_picked, requested_of, route_for, routing_left, served_at, virtual_host_for}
+use Rattle.ev_model.specs.Choice.{Reached, acted, by_chain, by_chains, by_host, by_listener, by_reached, by_route, by_routing, by_word, choice_in, choice_of, cluster_named, delivered_of, forwarded, host_place, in_cluster, incoming_of, listener_at, listener_for, listener_for_every, listener_of_any, meant_of, name_picked, reached_by, requested_of, route_for, routing_left, served_at, streams, virtual_host_for}
 use Rattle.ev_model.specs.Conditions.{match_says}
-use Rattle.ev_model.specs.Narrowing.{chains_left}
+use Rattle.ev_model.specs.Narrowing.{Incoming, chains_left, lacks_source}
 use Rattle.ev_model.specs.Picture.{is_shown}
 use Rattle.ev_model.specs.declared.pictures.Choice.TheVariants.{Elsewhere, Undecided}
 use Rattle.ev_model.specs.declared.pictures.Picture.{Picture}
@@ -84,27 +85,51 @@ find_both p q (x ∷ xs) = by (q x) (find_both p q xs)
     by true rest = ap (λ o. cond (p x) (Some x) o) rest
     by false rest = rest
 
-every_shown : (picture : Picture) (port : ℕ) (address : List ℕ) → IsAmong picture (listener_for_every picture.shown.listeners port address)
+-- a listener by TCP that passes a test
+stream_shown : (picture : Picture) (p : ServedListener → Bool) → IsAmong picture (find p (streams picture.shown.listeners))
+stream_shown picture p l found =
+    at_shown picture (λ (x : ServedListener). not x.udp && p x) l
+    (sym (find_both p (λ (x : ServedListener). not x.udp) picture.shown.listeners) ∙ found)
+
+every_shown : (picture : Picture) (port : ℕ) (address : List ℕ) → IsAmong picture (listener_for_every (streams picture.shown.listeners) port address)
 every_shown picture port address l found =
     let at : ServedListener → Bool = λ x. host_same x.address (record { address = address; port = port }) in
-    at_shown picture (λ (x : ServedListener). x.takes_every_address && at x) l
-    (sym (find_both at (λ (x : ServedListener). x.takes_every_address) picture.shown.listeners) ∙ found)
+    stream_shown picture (λ (x : ServedListener). x.takes_every_address && at x) l
+    (sym (find_both at (λ (x : ServedListener). x.takes_every_address) (streams picture.shown.listeners)) ∙ found)
 
 either_shown : (picture : Picture) (one other : Option ServedListener) → IsAmong picture one → IsAmong picture other → IsAmong picture (option_or one other)
 either_shown picture None other first second = second
 either_shown picture (Some l) other first second = first
 
-any_shown : (picture : Picture) (port : ℕ) (ip : Option Ip) → IsAmong picture (listener_of_any picture.shown.listeners port ip)
+any_shown : (picture : Picture) (port : ℕ) (ip : Option Ip) → IsAmong picture (listener_of_any (streams picture.shown.listeners) port ip)
 any_shown picture port None = λ l found. absurd (cc)
 any_shown picture port (Some (V4 bits)) =
-    either_shown picture (listener_for_every picture.shown.listeners port (codes "0.0.0.0")) (listener_for_every picture.shown.listeners port (codes "::"))
+    either_shown picture (listener_for_every (streams picture.shown.listeners) port (codes "0.0.0.0")) (listener_for_every (streams picture.shown.listeners) port (codes "::"))
     (every_shown picture port (codes "0.0.0.0")) (every_shown picture port (codes "::"))
 any_shown picture port (Some (V6 bits)) = every_shown picture port (codes "::")
 
-listener_shown : (picture : Picture) (ask : Ask) → IsAmong picture (listener_for picture.shown.listeners ask)
-listener_shown picture ask =
-    either_shown picture (listener_at picture.shown.listeners ask.address) (listener_of_any picture.shown.listeners ask.address.port ask.ip)
-    (at_shown picture (λ (x : ServedListener). host_same x.address ask.address)) (any_shown picture ask.address.port ask.ip)
+listener_shown : (picture : Picture) (end : Peer) → IsAmong picture (listener_for picture.shown.listeners end)
+listener_shown picture end =
+    either_shown picture (listener_at (streams picture.shown.listeners) end.host) (listener_of_any (streams picture.shown.listeners) end.host.port end.ip)
+    (stream_shown picture (λ (x : ServedListener). host_same x.address end.host)) (any_shown picture end.host.port end.ip)
+
+-- whoever takes a connection is shown where the listener is that it came to
+reached_shown : (picture : Picture) (ask : Ask) (listener : ServedListener) → is_shown listener.number picture.shown ≡ true
+    → is_shown (reached_by picture.shown.listeners ask listener).listener.number picture.shown ≡ true
+reached_shown picture ask listener l = by listener.restores listener.hands_over
+  where
+    taker : (found : Option ServedListener) → IsAmong picture found → is_shown (unwrap_or found listener).number picture.shown ≡ true
+    taker None among = l
+    taker (Some other) among = among other refl
+
+    other_taker : Bool → ServedListener
+    other_taker hands_over = cond hands_over (unwrap_or (listener_for picture.shown.listeners (meant_of ask)) listener) listener
+
+    by : (restores hands_over : Bool) → is_shown (cond {A = Reached} restores (record { listener = other_taker hands_over; local_end = meant_of ask })
+        (record { listener = listener; local_end = delivered_of ask })).listener.number picture.shown ≡ true
+    by true true = taker (listener_for picture.shown.listeners (meant_of ask)) (listener_shown picture (meant_of ask))
+    by true false = l
+    by false hands_over = l
 
 one_shown : (a : Bool) → a ≡ true → a && true ≡ true
 one_shown a t = both a true t refl
@@ -172,9 +197,9 @@ by_chain_shown : (picture : Picture) (ask : Ask) (listener : ℕ) (routing : Opt
 by_chain_shown picture ask listener None l = refl
 by_chain_shown picture ask listener (Some routing) l = by_routing_shown picture ask listener routing l
 
-by_chains_shown : (picture : Picture) (ask : Ask) (listener : ServedListener) (chains : List ServedChain) → is_shown listener.number picture.shown ≡ true
-    → names_shown picture.shown (by_chains picture ask listener chains) ≡ true
-by_chains_shown picture ask listener chains l = by (list_any (λ (c : ServedChain). c.criteria.asks_source) chains)
+by_chains_shown : (picture : Picture) (ask : Ask) (listener : ServedListener) (incoming : Incoming) (chains : List ServedChain)
+    → is_shown listener.number picture.shown ≡ true → names_shown picture.shown (by_chains picture ask listener incoming chains) ≡ true
+by_chains_shown picture ask listener incoming chains l = by (lacks_source incoming chains)
   where
     routing : Option Routing
     routing = routing_left chains listener.default_filter_chain
@@ -183,11 +208,18 @@ by_chains_shown picture ask listener chains l = by (list_any (λ (c : ServedChai
     by true = one_shown (is_shown listener.number picture.shown) l
     by false = by_chain_shown picture ask listener.number routing l
 
+by_reached_shown : (picture : Picture) (ask : Ask) (reached : Reached) → is_shown reached.listener.number picture.shown ≡ true
+    → names_shown picture.shown (by_reached picture ask reached) ≡ true
+by_reached_shown picture ask reached l =
+    let incoming = incoming_of ask reached.local_end in
+    by_chains_shown picture ask reached.listener incoming (chains_left incoming reached.listener.filter_chains) l
+
 by_listener_shown : (picture : Picture) (ask : Ask) (found : Option ServedListener)
     → ((l : ServedListener) → found ≡ Some l → is_shown l.number picture.shown ≡ true) → names_shown picture.shown (by_listener picture ask found) ≡ true
 by_listener_shown picture ask None l = refl
 by_listener_shown picture ask (Some listener) l =
-    by_chains_shown picture ask listener (chains_left (incoming_of ask) listener.filter_chains) (l listener refl)
+    by_reached_shown picture ask (reached_by picture.shown.listeners ask listener) (reached_shown picture ask listener (l listener refl))
 
 pub choice_shown : (picture : Picture) (ask : Ask) → names_shown picture.shown (choice_of picture ask) ≡ true
-choice_shown picture ask = by_listener_shown picture ask (listener_for picture.shown.listeners ask) (listener_shown picture ask)
+choice_shown picture ask =
+    by_listener_shown picture ask (listener_for picture.shown.listeners (delivered_of ask)) (listener_shown picture (delivered_of ask))

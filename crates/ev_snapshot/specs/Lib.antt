@@ -1,6 +1,8 @@
 pub mod Domains
 pub mod Paths
 pub mod Indexed
+pub mod RangeCriteria
+pub mod Unnarrowed
 pub mod Wanted
 pub mod Requests
 pub mod Tables

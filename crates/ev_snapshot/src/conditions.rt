@@ -3,16 +3,18 @@ ghost use Rattle.std.specs.List.{list_any};
 ghost use Rattle.std.specs.Option.{option_copied};
 ghost use Rattle.std.specs.Str.{bytes_eq};
 ghost use Rattle.ev_model.specs.Choice.{requested_of};
-ghost use Rattle.ev_model.specs.Conditions.{condition_says, found_says, header_value, inverted, is_grpc, is_no, is_pattern_met, is_undecided, match_says, missing_says, path_says, value_says, yes_if};
+ghost use Rattle.ev_model.specs.Conditions.{condition_says, found_says, header_value, inverted, is_grpc, is_in_range, is_no, is_pattern_met, is_undecided, match_says, missing_says, path_says, value_says, yes_if};
 ghost use Rattle.ev_snapshot.specs.Requests.{has_grpc_type, is_connect, value_in};
 
 use crate::folded_paths::is_folded_path_taken;
+use crate::queries::query_says;
 use crate::routes::is_path_taken;
 use crate::texts::begins_with;
 use crate::texts_in_case::{begins_in_case, ends_in_case, has_part_in_case, same_in_case};
 use ev_model::Taken;
 use ev_types::{
     Ask, HeaderMatcher, HeaderTest, PathSpecifier, RouteCondition, RouteMatch, StringPattern, Text,
+    read_decimal,
 };
 
 /// What a route's match says of a request.
@@ -70,8 +72,8 @@ fn any_is_undecided(ask: &Ask, conditions: &[RouteCondition]) -> bool
         .any(|said| is_undecided(said))
 }
 
-// Yes where it is so, else no.
-fn yes_if(so: bool) -> Taken
+/// Yes where it is so, else no.
+pub(crate) fn yes_if(so: bool) -> Taken
     ensures { result ≡ yes_if so }
 {
     if so { Taken::Yes } else { Taken::No }
@@ -94,9 +96,8 @@ fn path_says(ask: &Ask, path: &PathSpecifier) -> Taken
 fn is_connect(ask: &Ask) -> bool
     ensures { result ≡ is_connect (requested_of ask.now) }
 {
-    let connect: &[u8] = b"CONNECT";
-    match header_value(ask, b":method") {
-        Some(method) => connect == method,
+    match header_value(ask, ":method") {
+        Some(method) => "CONNECT" == method,
         None => false,
     }
 }
@@ -106,10 +107,10 @@ fn condition_says(ask: &Ask, condition: &RouteCondition) -> Taken
     ensures { result ≡ condition_says (requested_of ask.now) condition.now }
 {
     match condition {
-        RouteCondition::Header(matcher) => found_says(
-            matcher,
-            header_value(ask, matcher.name.as_str().as_bytes()),
-        ),
+        RouteCondition::Header(matcher) => {
+            found_says(matcher, header_value(ask, matcher.name.as_str()))
+        }
+        RouteCondition::Query(matcher) => query_says(ask.path.as_str(), matcher),
         RouteCondition::Grpc => yes_if(has_grpc_type(ask)),
         RouteCondition::Open => Taken::Undecided,
     }
@@ -119,8 +120,8 @@ fn condition_says(ask: &Ask, condition: &RouteCondition) -> Taken
 fn has_grpc_type(ask: &Ask) -> bool
     ensures { result ≡ has_grpc_type (requested_of ask.now) }
 {
-    match header_value(ask, b"content-type") {
-        Some(value) => is_grpc(value),
+    match header_value(ask, "content-type") {
+        Some(value) => is_grpc(value.as_bytes()),
         None => false,
     }
 }
@@ -134,28 +135,31 @@ fn is_grpc(value: &[u8]) -> bool
 }
 
 // What a matcher says of what was found of its header.
-fn found_says(matcher: &HeaderMatcher, found: Option<&[u8]>) -> Taken
+fn found_says(matcher: &HeaderMatcher, found: Option<&str>) -> Taken
     ensures { result ≡ found_says matcher.now (option_copied found.entry) }
 {
     match found {
         Some(value) => value_says(&matcher.test, matcher.invert_match, value),
         None if matcher.treat_missing_header_as_empty => {
-            value_says(&matcher.test, matcher.invert_match, b"")
+            value_says(&matcher.test, matcher.invert_match, "")
         }
         None => missing_says(&matcher.test, matcher.invert_match),
     }
 }
 
 // What a test says of a header's value.
-fn value_says(test: &HeaderTest, invert: bool, value: &[u8]) -> Taken
+fn value_says(test: &HeaderTest, invert: bool, value: &str) -> Taken
     ensures { result ≡ value_says test.now invert value.now }
 {
     match test {
         HeaderTest::Text(matcher) => yes_if(inverted(
             invert,
-            is_pattern_met(matcher.ignore_case, value, &matcher.pattern),
+            is_pattern_met(matcher.ignore_case, value.as_bytes(), &matcher.pattern),
         )),
         HeaderTest::Present => yes_if(inverted(invert, true)),
+        HeaderTest::Range { start, end } => {
+            yes_if(inverted(invert, is_in_range(*start, *end, value)))
+        }
         HeaderTest::Open => Taken::Undecided,
     }
 }
@@ -165,8 +169,18 @@ fn missing_says(test: &HeaderTest, invert: bool) -> Taken
     ensures { result ≡ missing_says test.now invert }
 {
     match test {
-        HeaderTest::Text(_) | HeaderTest::Open => Taken::No,
+        HeaderTest::Text(_) | HeaderTest::Range { .. } | HeaderTest::Open => Taken::No,
         HeaderTest::Present => yes_if(inverted(invert, false)),
+    }
+}
+
+// Whether the text is the decimal text of a number that is at least the start and below the end.
+fn is_in_range(start: i64, end: i64, text: &str) -> bool
+    ensures { result ≡ is_in_range start end text.now }
+{
+    match read_decimal(text) {
+        Some(number) => start <= number && number < end,
+        None => false,
     }
 }
 
@@ -177,8 +191,8 @@ fn inverted(invert: bool, said: bool) -> bool
     if invert { !said } else { said }
 }
 
-// Whether the pattern takes the text.
-fn is_pattern_met(ignore: bool, text: &[u8], pattern: &StringPattern) -> bool
+/// Whether the pattern takes the text.
+pub(crate) fn is_pattern_met(ignore: bool, text: &[u8], pattern: &StringPattern) -> bool
     ensures { result ≡ is_pattern_met ignore text.now pattern.now }
 {
     match pattern {
@@ -190,33 +204,31 @@ fn is_pattern_met(ignore: bool, text: &[u8], pattern: &StringPattern) -> bool
 }
 
 // The value of a header of the request; its host and its path are headers, too.
-fn header_value<'a>(ask: &'a Ask, name: &[u8]) -> Option<&'a [u8]>
+fn header_value<'a>(ask: &'a Ask, name: &str) -> Option<&'a str>
     ensures { option_copied result ≡ header_value (requested_of ask.now) name.now }
 {
-    let authority: &[u8] = b":authority";
-    let path: &[u8] = b":path";
-    if authority == name {
-        return Some(ask.host.as_str().as_bytes());
+    if ":authority" == name {
+        return Some(ask.host.as_str());
     }
-    if path == name {
-        return Some(ask.path.as_str().as_bytes());
+    if ":path" == name {
+        return Some(ask.path.as_str());
     }
     header_in(ask.headers.as_slice(), name)
 }
 
 // The value of the header of this name.
-fn header_in<'a>(headers: &'a [(Text, Text)], name: &[u8]) -> Option<&'a [u8]>
+fn header_in<'a>(headers: &'a [(Text, Text)], name: &str) -> Option<&'a str>
     ensures { option_copied result ≡ value_in headers.now name.now }
 {
     match headers.iter().find(|header| is_named(header, name)) {
-        Some(header) => Some(header.1.as_str().as_bytes()),
+        Some(header) => Some(header.1.as_str()),
         None => None,
     }
 }
 
 // Whether a header has this name.
-fn is_named(header: &(Text, Text), name: &[u8]) -> bool
+fn is_named(header: &(Text, Text), name: &str) -> bool
     ensures { result ≡ bytes_eq header.now.0 name.now }
 {
-    header.0.as_str().as_bytes() == name
+    header.0.as_str() == name
 }

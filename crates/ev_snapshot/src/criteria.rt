@@ -1,17 +1,22 @@
-ghost use Rattle.std.specs.Prelude.{◌≡◌, ◌+◌, ◌≤◌, ◌∷◌, ◌&&◌, [], drop, find, slice_get};
+ghost use Rattle.std.specs.Prelude.{◌≡◌, ◌+◌, ◌≤◌, ◌∷◌, ◌&&◌, [], Some, drop, find, is_some, not, slice_get};
 ghost use Rattle.std.specs.List.{list_any};
 ghost use Rattle.std.specs.Option.{option_copied};
 ghost use Rattle.std.specs.Str.{str_to_ascii_lowercase};
-ghost use Rattle.ev_types.specs.FilterChains.{has_value};
-ghost use Rattle.ev_types.specs.Ips.{range_about, ranges_about, width};
+ghost use Rattle.ev_types.specs.FilterChains.{asks_source, has_value};
+ghost use Rattle.ev_types.specs.Ips.{cidr_range_same, range_about, ranges_about, width};
 ghost use Rattle.ev_model.specs.Choice.{incoming_of};
-ghost use Rattle.ev_model.specs.Narrowing.{chains_left, is_asked, names_brought, wildcards};
+ghost use Rattle.ev_model.specs.Narrowing.{by_source, chains_left, is_asked, is_loopback, names_brought, source_type_of, wildcards};
 ghost use Rattle.ev_model.specs.declared.pictures.ServedChain.{ServedChain};
-ghost use Rattle.ev_snapshot.specs.Wanted.{asks_range, first_asked, first_name, first_protocol, first_range, is_left, is_met, left_by, wanted_of, wildcard_of};
+ghost use Rattle.ev_snapshot.specs.RangeCriteria.{ranges_by};
+ghost use Rattle.ev_snapshot.specs.Unnarrowed.{ignores_source};
+ghost use Rattle.ev_snapshot.specs.Wanted.{asks_range, first_asked, first_name, first_protocol, first_range, is_left, is_met, left_by, meets_destination, wanted_of, wildcard_of};
 
-use crate::criterion::{Criterion, Protocol, ServerName, Transport};
+use crate::criterion::{
+    Criterion, Protocol, RangeCriterion, ServerName, SourcePort, Transport, ranges_by,
+};
+use crate::local_ends::LocalEnd;
 use crate::routed_chain::RoutedChain;
-use ev_types::{Ask, CidrRange, FilterChainMatch, Ip, Text};
+use ev_types::{Ask, CidrRange, FilterChainMatch, Ip, Peer, SourceType, Text};
 
 /// What the chains that are left have to ask for by a criterion.
 #[derive(Drop)]
@@ -30,12 +35,16 @@ pub(crate) struct Criteria<'a> {
     server_name: Wanted<ServerName<'a>>,
     transport: Wanted<Transport>,
     protocol: Wanted<Protocol<'a>>,
+    direct_range: Wanted<CidrRange>,
+    source_type: Wanted<SourceType>,
+    source_range: Wanted<CidrRange>,
+    source_port: Wanted<SourcePort>,
 }
 
 impl<'a> Criteria<'a> {
-    /// The criteria by which these chains are narrowed for a connection.
-    pub(crate) fn of(chains: &[RoutedChain], ask: &'a Ask) -> Criteria<'a>
-        ensures { left_by result chains.now ≡ chains_left (incoming_of ask.now) chains.now }
+    /// The criteria by which these chains are narrowed for a connection that is taken to come to this end.
+    pub(crate) fn of(chains: &[RoutedChain], ask: &'a Ask, local_end: &LocalEnd<'_>) -> Criteria<'a>
+        ensures { left_by result chains.now ≡ chains_left (incoming_of ask.now local_end.now) chains.now }
     {
         let mut criteria = Criteria {
             port: Wanted::Anything,
@@ -43,18 +52,50 @@ impl<'a> Criteria<'a> {
             server_name: Wanted::Anything,
             transport: Wanted::Anything,
             protocol: Wanted::Anything,
+            direct_range: Wanted::Anything,
+            source_type: Wanted::Anything,
+            source_range: Wanted::Anything,
+            source_port: Wanted::Anything,
         };
-        criteria.port = criteria.wanted(chains, ask.address.port);
-        criteria.range = criteria.range_wanted(chains, ask.ip);
+        criteria.port = criteria.wanted(chains, local_end.port());
+        criteria.range = criteria.range_wanted(RangeCriterion::Destination, chains, local_end.ip());
         criteria.server_name = criteria.name_wanted(chains, ask.server_name.as_str().as_bytes());
         criteria.transport = criteria.wanted(chains, Transport::of(ask.tls));
         criteria.protocol = criteria.protocol_wanted(chains, ask.alpn.as_slice());
+        match &ask.source {
+            Some(source) => criteria.and_source(chains, local_end.ip(), source),
+            None => criteria,
+        }
+    }
+
+    // These criteria, which don't look at the source yet, and those of the source.
+    fn and_source(self, chains: &[RoutedChain], local_ip: Option<Ip>, source: &Peer) -> Criteria<'a>
+        requires { ignores_source self }
+        ensures { left_by result chains.now ≡ by_source local_ip (Some source.now) (left_by self.entry chains.now) }
+    {
+        let mut criteria = self;
+        criteria.direct_range = criteria.range_wanted(
+            RangeCriterion::DirectSource,
+            chains,
+            source.ip,
+        );
+        criteria.source_type = criteria.wanted(chains, source_type_of(local_ip, source.ip));
+        criteria.source_range = criteria.range_wanted(RangeCriterion::Source, chains, source.ip);
+        criteria.source_port = criteria.wanted(chains, SourcePort::new(source.host.port));
         criteria
     }
 
-    /// Whether one of the chains that are left asks for a source.
-    pub(crate) fn leave_source(&self, chains: &[RoutedChain]) -> bool
-        ensures { result ≡ list_any (λ (c : ServedChain). c.criteria.asks_source) (left_by self.now chains.now) }
+    /// Whether one of the chains that are left asks for a source, and the connection gives none.
+    pub(crate) fn lack_source(&self, chains: &[RoutedChain], ask: &Ask) -> bool
+        ensures { result ≡ (not (is_some ask.now.source)
+            && list_any (λ (c : ServedChain). asks_source c.criteria) (left_by self.now chains.now)) }
+    {
+        ask.source.is_none() && self.leave_source(chains)
+    }
+
+    // Whether one of the chains that are left asks for a source.
+    fn leave_source(&self, chains: &[RoutedChain]) -> bool
+        ensures { result ≡ list_any (λ (c : ServedChain). asks_source c.criteria) (left_by self.now chains.now) }
     {
         self.any_leaves_source(chains)
     }
@@ -62,16 +103,16 @@ impl<'a> Criteria<'a> {
     // Whether one of these chains is left and asks for a source.
     fn any_leaves_source(&self, chains: &[RoutedChain]) -> bool
         ensures { result ≡ list_any (λ (c : ServedChain). is_left self.now c.criteria
-            && c.criteria.asks_source) chains.now }
+            && asks_source c.criteria) chains.now }
     {
         chains.iter().any(|chain| self.leaves_source(chain))
     }
 
     // Whether a chain is left and asks for a source.
     fn leaves_source(&self, chain: &RoutedChain) -> bool
-        ensures { result ≡ (is_left self.now chain.now.criteria && chain.now.criteria.asks_source) }
+        ensures { result ≡ (is_left self.now chain.now.criteria && asks_source chain.now.criteria) }
     {
-        self.leaves(chain) && chain.criteria().asks_source
+        self.leaves(chain) && asks_source(chain.criteria())
     }
 
     /// The first of the chains that are left.
@@ -93,10 +134,21 @@ impl<'a> Criteria<'a> {
         ensures { result ≡ is_left self.now chain.now.criteria }
     {
         let criteria = chain.criteria();
+        is_met(&self.source_port, criteria)
+            && is_range_met(RangeCriterion::Source, &self.source_range, criteria)
+            && is_met(&self.source_type, criteria)
+            && is_range_met(RangeCriterion::DirectSource, &self.direct_range, criteria)
+            && self.meets_destination(criteria)
+    }
+
+    // Whether a chain's match meets each criterion of where a connection goes and what it offers.
+    fn meets_destination(&self, criteria: &FilterChainMatch) -> bool
+        ensures { result ≡ meets_destination self.now criteria.now }
+    {
         is_met(&self.protocol, criteria)
             && is_met(&self.transport, criteria)
             && is_met(&self.server_name, criteria)
-            && is_met(&self.range, criteria)
+            && is_range_met(RangeCriterion::Destination, &self.range, criteria)
             && is_met(&self.port, criteria)
     }
 
@@ -135,45 +187,82 @@ impl<'a> Criteria<'a> {
         }
     }
 
-    // The longest range with the address that a chain asks for.
-    fn range_wanted(&self, chains: &[RoutedChain], ip: Option<Ip>) -> Wanted<CidrRange>
-        ensures { result ≡ wanted_of (first_range self.now chains.now (ranges_about ip)) }
+    // Whether one of the chains that are left asks for a range by a criterion.
+    fn is_range_asked(&self, by: RangeCriterion, chains: &[RoutedChain], range: &CidrRange) -> bool
+        ensures { result ≡ is_asked cidr_range_same (ranges_by by) (left_by self.now chains.now) range.now }
+    {
+        self.any_asks_for(by, chains, range)
+    }
+
+    // Whether one of these chains is left and asks for a range.
+    fn any_asks_for(&self, by: RangeCriterion, chains: &[RoutedChain], range: &CidrRange) -> bool
+        ensures { result ≡ list_any
+            (λ (c : ServedChain). is_left self.now c.criteria
+            && has_value cidr_range_same (ranges_by by c.criteria) range.now) chains.now }
+    {
+        chains.iter().any(|chain| self.asks_for(by, chain, range))
+    }
+
+    // Whether a chain is left and asks for a range.
+    fn asks_for(&self, by: RangeCriterion, chain: &RoutedChain, range: &CidrRange) -> bool
+        ensures { result ≡ (is_left self.now chain.now.criteria
+            && has_value cidr_range_same (ranges_by by chain.now.criteria) range.now) }
+    {
+        self.leaves(chain) && has_range(ranges_by(by, chain.criteria()), range)
+    }
+
+    // The longest range with the address that a chain asks for by a criterion.
+    fn range_wanted(
+        &self,
+        by: RangeCriterion,
+        chains: &[RoutedChain],
+        ip: Option<Ip>,
+    ) -> Wanted<CidrRange>
+        ensures { result ≡ wanted_of (first_range by self.now chains.now (ranges_about ip)) }
     {
         match ip {
-            Some(ip) if self.ask_range(chains) => self.range_about(chains, ip, count_about(ip)),
+            Some(ip) if self.ask_range(by, chains) => {
+                self.range_about(by, chains, ip, count_about(ip))
+            }
             _ => Wanted::Nothing,
         }
     }
 
-    // Whether one of the chains that are left asks for a range.
-    fn ask_range(&self, chains: &[RoutedChain]) -> bool
-        ensures { result ≡ list_any (λ (c : ServedChain). asks_range c.criteria) (left_by self.now chains.now) }
+    // Whether one of the chains that are left asks for a range by a criterion.
+    fn ask_range(&self, by: RangeCriterion, chains: &[RoutedChain]) -> bool
+        ensures { result ≡ list_any (λ (c : ServedChain). asks_range by c.criteria) (left_by self.now chains.now) }
     {
-        self.any_asks_range(chains)
+        self.any_asks_range(by, chains)
     }
 
-    // Whether one of these chains is left and asks for a range.
-    fn any_asks_range(&self, chains: &[RoutedChain]) -> bool
+    // Whether one of these chains is left and asks for a range by a criterion.
+    fn any_asks_range(&self, by: RangeCriterion, chains: &[RoutedChain]) -> bool
         ensures { result ≡ list_any (λ (c : ServedChain). is_left self.now c.criteria
-            && asks_range c.criteria) chains.now }
+            && asks_range by c.criteria) chains.now }
     {
-        chains.iter().any(|chain| self.asks_range(chain))
+        chains.iter().any(|chain| self.asks_range(by, chain))
     }
 
-    // Whether a chain is left and asks for a range.
-    fn asks_range(&self, chain: &RoutedChain) -> bool
-        ensures { result ≡ (is_left self.now chain.now.criteria && asks_range chain.now.criteria) }
+    // Whether a chain is left and asks for a range by a criterion.
+    fn asks_range(&self, by: RangeCriterion, chain: &RoutedChain) -> bool
+        ensures { result ≡ (is_left self.now chain.now.criteria && asks_range by chain.now.criteria) }
     {
-        self.leaves(chain) && chain.criteria().prefix_ranges.len() > 0
+        self.leaves(chain) && ranges_by(by, chain.criteria()).len() > 0
     }
 
     // The longest range with the address that a chain asks for; of those, there is one of each length below the count.
-    fn range_about(&self, chains: &[RoutedChain], ip: Ip, count: u32) -> Wanted<CidrRange>
+    fn range_about(
+        &self,
+        by: RangeCriterion,
+        chains: &[RoutedChain],
+        ip: Ip,
+        count: u32,
+    ) -> Wanted<CidrRange>
         requires { count ≡ width ip + 1 }
-        ensures { result ≡ wanted_of (first_range self.now chains.now (ranges_about (Some ip))) }
+        ensures { result ≡ wanted_of (first_range by self.now chains.now (ranges_about (Some ip))) }
     {
         for length in (0..count).rev() {
-            if let Some(range) = self.range_of(chains, ip, length) {
+            if let Some(range) = self.range_of(by, chains, ip, length) {
                 return Wanted::Value(range);
             }
         }
@@ -181,14 +270,20 @@ impl<'a> Criteria<'a> {
     }
 
     // The range of this length with the address, where a chain asks for it.
-    fn range_of(&self, chains: &[RoutedChain], ip: Ip, length: u32) -> Option<CidrRange>
+    fn range_of(
+        &self,
+        by: RangeCriterion,
+        chains: &[RoutedChain],
+        ip: Ip,
+        length: u32,
+    ) -> Option<CidrRange>
         requires { length ≤ width ip }
-        ensures { result ≡ first_range self.now chains.now (range_about ip length ∷ []) }
+        ensures { result ≡ first_range by self.now chains.now (range_about ip length ∷ []) }
     {
         let Some(range) = CidrRange::about(ip, length) else {
             return None;
         };
-        if self.is_asked(chains, &range) {
+        if self.is_range_asked(by, chains, &range) {
             Some(range)
         } else {
             None
@@ -271,5 +366,55 @@ fn is_met<V: Criterion>(wanted: &Wanted<V>, criteria: &FilterChainMatch) -> bool
         Wanted::Anything => true,
         Wanted::Nothing => V::is_unasked(criteria),
         Wanted::Value(value) => value.is_asked_by(criteria),
+    }
+}
+
+// The same of a criterion by ranges.
+fn is_range_met(by: RangeCriterion, wanted: &Wanted<CidrRange>, criteria: &FilterChainMatch) -> bool
+    ensures { result ≡ is_met cidr_range_same wanted.now (ranges_by by criteria.now) }
+{
+    let ranges = ranges_by(by, criteria);
+    match wanted {
+        Wanted::Anything => true,
+        Wanted::Nothing => ranges.len() == 0,
+        Wanted::Value(range) => has_range(ranges, range),
+    }
+}
+
+// Whether a range is among these.
+fn has_range(ranges: &[CidrRange], range: &CidrRange) -> bool
+    ensures { result ≡ has_value cidr_range_same ranges.now range.now }
+{
+    ranges.iter().any(|other| *range == *other)
+}
+
+// Whether a match asks where a connection comes from.
+fn asks_source(criteria: &FilterChainMatch) -> bool
+    ensures { result ≡ asks_source criteria.now }
+{
+    criteria.direct_source_prefix_ranges.len() != 0
+        || criteria.source_type.is_some()
+        || criteria.source_prefix_ranges.len() != 0
+        || criteria.source_ports.len() != 0
+}
+
+// The type of the source of a connection, by the address that it comes to and its own.
+fn source_type_of(local_ip: Option<Ip>, ip: Option<Ip>) -> SourceType
+    ensures { result ≡ source_type_of local_ip ip }
+{
+    match ip {
+        None => SourceType::SameIpOrLoopback,
+        Some(ip) if is_loopback(ip) || local_ip == Some(ip) => SourceType::SameIpOrLoopback,
+        Some(_) => SourceType::External,
+    }
+}
+
+// Whether an address is one by which a machine reaches itself.
+fn is_loopback(ip: Ip) -> bool
+    ensures { result ≡ is_loopback ip }
+{
+    match ip {
+        Ip::V4(bits) => bits / 16_777_216 == 127,
+        Ip::V6(bits) => bits == 1,
     }
 }

@@ -3,10 +3,11 @@ ghost use Rattle.std.specs.Str.{bytes_eq, str_to_ascii_lowercase};
 ghost use Rattle.ev_types.specs.FilterChains.{has_value};
 ghost use Rattle.ev_types.specs.declared.filter_chains.FilterChainMatch.{FilterChainMatch};
 ghost use Rattle.ev_model.specs.Narrowing.{transport_of};
+ghost use Rattle.ev_snapshot.specs.RangeCriteria.{ranges_by};
 
 use crate::star_texts::SuffixText;
 use crate::texts::is_lower;
-use ev_types::{CidrRange, FilterChainMatch, Text};
+use ev_types::{CidrRange, FilterChainMatch, SourceType, Text};
 use std::marker::Model;
 
 /// A value that a connection brings by one of the criteria of filter chains.
@@ -44,21 +45,87 @@ impl Criterion for u16 {
     }
 }
 
-/// A range that holds the address that a connection goes to.
-impl Criterion for CidrRange {
-    ghost use Rattle.ev_types.specs.FilterChains.{prefix_ranges};
-    ghost use Rattle.ev_types.specs.Ips.{cidr_range_same};
+/// The type of the source that a connection comes from.
+impl Criterion for SourceType {
+    ghost use Rattle.ev_types.specs.FilterChains.{source_type_same, source_types};
 
-    ghost same = { cidr_range_same };
+    ghost same = { source_type_same };
 
-    ghost values = { prefix_ranges };
+    ghost values = { source_types };
 
     fn is_asked_by(&self, criteria: &FilterChainMatch) -> bool {
-        criteria.prefix_ranges.iter().any(|range| *self == *range)
+        match criteria.source_type {
+            Some(asked) => *self == asked,
+            None => false,
+        }
     }
 
     fn is_unasked(criteria: &FilterChainMatch) -> bool {
-        criteria.prefix_ranges.len() == 0
+        criteria.source_type.is_none()
+    }
+}
+
+/// The port that a connection comes from.
+#[derive(Drop)]
+pub(crate) struct SourcePort {
+    port: u16,
+}
+
+impl Model for SourcePort {
+    ghost use Rattle.std.specs.Prelude.{ℕ};
+
+    ghost Value = { ℕ };
+
+    ghost view = { λ p. p.port };
+}
+
+impl SourcePort {
+    /// The criterion of this port.
+    pub(crate) fn new(port: u16) -> SourcePort
+        ensures { result ≡ port }
+    {
+        SourcePort { port }
+    }
+}
+
+impl Criterion for SourcePort {
+    ghost use Rattle.std.specs.Prelude.{◌≡◌, ◌==◌, length};
+    ghost use Rattle.ev_types.specs.FilterChains.{nat_same, source_ports};
+
+    ghost same = { nat_same };
+
+    ghost values = { source_ports };
+
+    fn is_asked_by(&self, criteria: &FilterChainMatch) -> bool {
+        criteria.source_ports.iter().any(|port| self.port == *port)
+    }
+
+    fn is_unasked(criteria: &FilterChainMatch) -> bool
+        ensures { result ≡ (length (source_ports criteria.now) == 0) }
+    {
+        criteria.source_ports.len() == 0
+    }
+}
+
+/// A criterion by ranges of IP addresses.
+#[derive(Clone, Copy, Debug)]
+pub(crate) enum RangeCriterion {
+    /// Where the address that a connection goes to lies.
+    Destination,
+    /// Where the address of the peer that connects directly lies.
+    DirectSource,
+    /// Where the address that it comes from lies.
+    Source,
+}
+
+/// The ranges that a chain asks for by such a criterion.
+pub(crate) fn ranges_by(by: RangeCriterion, criteria: &FilterChainMatch) -> &[CidrRange]
+    ensures { result.now ≡ ranges_by by criteria.now }
+{
+    match by {
+        RangeCriterion::Destination => criteria.prefix_ranges.as_slice(),
+        RangeCriterion::DirectSource => criteria.direct_source_prefix_ranges.as_slice(),
+        RangeCriterion::Source => criteria.source_prefix_ranges.as_slice(),
     }
 }
 
@@ -144,6 +211,7 @@ pub(crate) struct Transport {
 impl Model for Transport {
     ghost use Rattle.std.specs.Prelude.{List, ℕ};
     ghost use Rattle.ev_model.specs.Narrowing.{transport_of};
+    ghost use Rattle.ev_snapshot.specs.RangeCriteria.{ranges_by};
 
     ghost Value = { List ℕ };
 

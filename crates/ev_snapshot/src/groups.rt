@@ -2,7 +2,7 @@ ghost use Rattle.std.specs.Prelude.{◌≡◌, ◌==◌, not, position, IfOk, On
 ghost use Rattle.std.specs.Option.{option_copied};
 ghost use Rattle.ev_model.specs.Versions.{is_before};
 ghost use Rattle.ev_model.specs.declared.pictures.ServedListener.{ServedListener};
-ghost use Rattle.ev_snapshot.specs.Groups.{ChangesGroup, group_of, with_listener, without_listener};
+ghost use Rattle.ev_snapshot.specs.Groups.{ChangesGroup, ChangesGroupAt, group_of, with_listener, without_listener};
 
 use crate::addresses::ListenerAddress;
 use crate::names::Row;
@@ -17,7 +17,7 @@ type Group = Shared<Seq<Shared<RoutedListener>>>;
 /// The groups by address.
 pub(crate) type Groups = Table<ListenerAddress, Group>;
 
-/// Takes a listener, which goes by its number, out of the group at its address.
+/// Takes a listener, which goes by its number, out of the group at its address. One by UDP is in none.
 pub(crate) fn leave_group(
     alloc: Global,
     groups: &mut Groups,
@@ -25,6 +25,9 @@ pub(crate) fn leave_group(
 ) -> Result<(), AllocError>
     ensures { OnOk result (ChangesGroup listener.now (without_listener listener.now.number) groups.old groups.new) }
 {
+    if listener.get().is_udp() {
+        return Ok(());
+    }
     let group = group_without(
         alloc,
         groups.get(listener.get().address()),
@@ -34,7 +37,7 @@ pub(crate) fn leave_group(
     Ok(())
 }
 
-/// Puts a listener into the group at its address.
+/// Puts a listener into the group at its address. One by UDP is in none.
 pub(crate) fn enter_group(
     alloc: Global,
     groups: &mut Groups,
@@ -42,6 +45,9 @@ pub(crate) fn enter_group(
 ) -> Result<(), AllocError>
     ensures { OnOk result (ChangesGroup listener.now (with_listener listener.now) groups.old groups.new) }
 {
+    if listener.get().is_udp() {
+        return Ok(());
+    }
     let group = group_with(alloc, groups.get(listener.get().address()), listener)?;
     set_group(alloc, groups, listener, group)?;
     Ok(())
@@ -54,7 +60,7 @@ fn set_group(
     listener: &Shared<RoutedListener>,
     group: Seq<Shared<RoutedListener>>,
 ) -> Result<(), AllocError>
-    ensures { OnOk result (ChangesGroup listener.now (λ before. group) groups.old groups.new) }
+    ensures { OnOk result (ChangesGroupAt listener.now.address (λ before. group) groups.old groups.new) }
 {
     let group = entry_of(alloc, group)?;
     let address = ListenerAddress::new(listener.share()?);

@@ -1,6 +1,6 @@
 ghost use Rattle.std.specs.Prelude.{◌≡◌, [], None, Some, IfOk, find, map, slice_get};
 ghost use Rattle.std.specs.Option.{option_copied};
-ghost use Rattle.ev_model.specs.Choice.{listener_at, listener_for, listener_for_every, listener_of_any};
+ghost use Rattle.ev_model.specs.Choice.{listener_at, listener_for, listener_for_every, listener_of_any, streams};
 ghost use Rattle.ev_model.specs.Picture.{has_number};
 ghost use Rattle.ev_model.specs.declared.pictures.ServedListener.{ServedListener};
 ghost use Rattle.ev_snapshot.specs.Changes.{IsInOrder, put_listener};
@@ -9,12 +9,13 @@ ghost use Rattle.ev_snapshot.specs.Rows.{named, numbered, put_before, without_na
 
 use crate::address_texts::AddressText;
 use crate::groups::{Groups, enter_group, leave_group};
+use crate::local_ends::LocalEnd;
 use crate::names::Row;
 use crate::routed::RoutedListener;
 use crate::rows::Rows;
 use crate::table::Table;
 use ev_keys::Keys;
-use ev_types::{Ask, Gen, Host, Ip, Shared};
+use ev_types::{Gen, Host, Ip, Shared};
 use std::alloc::{AllocError, Global};
 use std::marker::Model;
 
@@ -55,19 +56,19 @@ impl Listeners {
         self.groups.keys()
     }
 
-    /// The listener that a connection comes to: at its address and port, else one that takes every address.
-    pub(crate) fn for_ask(&self, ask: &Ask) -> Option<&RoutedListener>
-        ensures { option_copied result ≡ listener_for self.now ask.now }
+    /// The listener that a connection to this end comes to: at its address and port, else one that takes every address.
+    pub(crate) fn for_end(&self, end: &LocalEnd<'_>) -> Option<&RoutedListener>
+        ensures { option_copied result ≡ listener_for self.now end.now }
     {
-        match self.at(&ask.address) {
+        match self.at(end.host()) {
             Some(listener) => Some(listener),
-            None => self.of_any(ask.address.port, ask.ip),
+            None => self.of_any(end.port(), end.ip()),
         }
     }
 
     // A listener that takes every address, for an IP address: at `0.0.0.0`, for IPv4 alone, else at `::`.
     fn of_any(&self, port: u16, ip: Option<Ip>) -> Option<&RoutedListener>
-        ensures { option_copied result ≡ listener_of_any self.now port ip }
+        ensures { option_copied result ≡ listener_of_any (streams self.now) port ip }
     {
         match ip {
             Some(Ip::V4(_)) => match self.for_every(port, "0.0.0.0") {
@@ -81,7 +82,7 @@ impl Listeners {
 
     // The first listener at this address and port that takes every address.
     fn for_every(&self, port: u16, address: &str) -> Option<&RoutedListener>
-        ensures { option_copied result ≡ listener_for_every self.now port address.now }
+        ensures { option_copied result ≡ listener_for_every (streams self.now) port address.now }
     {
         let _ = &self.rows;
         let Some(group) = self.groups.get(&AddressText::new(address, port)) else {
@@ -92,7 +93,7 @@ impl Listeners {
 
     // The first listener at this address and port.
     fn at(&self, address: &Host) -> Option<&RoutedListener>
-        ensures { option_copied result ≡ listener_at self.now address.now }
+        ensures { option_copied result ≡ listener_at (streams self.now) address.now }
     {
         let _ = &self.rows;
         let Some(group) = self.groups.get(address) else {

@@ -1,6 +1,7 @@
 ghost use Rattle.std.specs.Prelude.{◌≡◌, ◌<◌, IfOk, length, slice_get};
 ghost use Rattle.std.specs.Option.{option_copied};
 ghost use Rattle.ev_model.specs.Choice.{routing_left};
+ghost use Rattle.ev_model.specs.Picture.{listens_same};
 ghost use Rattle.ev_snapshot.specs.Wanted.{left_by};
 
 use crate::criteria::Criteria;
@@ -19,6 +20,9 @@ pub(crate) struct RoutedListener {
     name: Name,
     address: Host,
     takes_every_address: bool,
+    udp: bool,
+    restores: bool,
+    hands_over: bool,
     filter_chains: Seq<RoutedChain>,
     default_filter_chain: Option<Shared<IndexedRouting>>,
 }
@@ -33,6 +37,9 @@ impl Model for RoutedListener {
       name = l.name;
       address = l.address;
       takes_every_address = l.takes_every_address;
+      udp = l.udp;
+      restores = l.restores;
+      hands_over = l.hands_over;
       filter_chains = l.filter_chains;
       default_filter_chain = l.default_filter_chain;
     } };
@@ -61,6 +68,9 @@ impl RoutedListener {
             name: listener.name.copy(alloc)?,
             address: listener.address.copy(alloc)?,
             takes_every_address: listener.takes_every_address,
+            udp: listener.udp,
+            restores: listener.restores,
+            hands_over: listener.hands_over,
             filter_chains,
             default_filter_chain,
         })
@@ -73,11 +83,43 @@ impl RoutedListener {
         &self.address
     }
 
-    /// Whether its address stands for every address of its port.
+    /// Whether its address represents every address of its port.
     pub(crate) fn takes_every_address(&self) -> bool
         ensures { result ≡ self.now.takes_every_address }
     {
         self.takes_every_address
+    }
+
+    /// Whether it listens by UDP.
+    pub(crate) fn is_udp(&self) -> bool
+        ensures { result ≡ self.now.udp }
+    {
+        self.udp
+    }
+
+    /// Whether a redirected connection is taken as one to the address that it was meant for.
+    pub(crate) fn restores(&self) -> bool
+        ensures { result ≡ self.now.restores }
+    {
+        self.restores
+    }
+
+    /// Whether it hands such a connection over to the listener at that address.
+    pub(crate) fn hands_over(&self) -> bool
+        ensures { result ≡ self.now.hands_over }
+    {
+        self.hands_over
+    }
+
+    // Whether both have the same address and the same marks.
+    fn listens_as(&self, other: &RoutedListener) -> bool
+        ensures { result ≡ listens_same self.now other.now }
+    {
+        self.address == other.address
+            && self.takes_every_address == other.takes_every_address
+            && self.udp == other.udp
+            && self.restores == other.restores
+            && self.hands_over == other.hands_over
     }
 
     /// Its filter chains.
@@ -190,10 +232,9 @@ impl Row for RoutedListener {
     }
 
     fn is_same(&self, other: &RoutedListener) -> bool {
-        self.number == other.number
+        self.listens_as(other)
+            && self.number == other.number
             && self.name == other.name
-            && self.address == other.address
-            && self.takes_every_address == other.takes_every_address
             && self.filter_chains == other.filter_chains
             && self.default_filter_chain == other.default_filter_chain
     }

@@ -1,7 +1,7 @@
 ghost use Rattle.std.specs.Prelude.{◌≡◌, ◌+◌, true, Some, IfOk};
 ghost use Rattle.std.specs.Arc.{arc_value};
 ghost use Rattle.std.specs.Option.{option_copied};
-ghost use Rattle.ev_model.specs.Choice.{acted, by_chain, by_host, by_listener, by_route, by_routing, choice_in, choice_of, cluster_named, forwarded, in_cluster};
+ghost use Rattle.ev_model.specs.Choice.{acted, by_chain, by_host, by_listener, by_reached, by_route, by_routing, choice_in, choice_of, cluster_named, forwarded, in_cluster, taker_of};
 ghost use Rattle.ev_model.specs.declared.pictures.ServedCluster.{ServedCluster};
 ghost use Rattle.ev_model.specs.declared.pictures.ServedListener.{ServedListener};
 ghost use Rattle.ev_model.specs.Picture.{is_shown, shown_of};
@@ -12,6 +12,7 @@ ghost use Rattle.ev_snapshot.specs.Chosen.{TakesEligible, TakesLowest, host_of, 
 use crate::changes::Changes;
 use crate::conditions::match_says;
 use crate::criteria::Criteria;
+use crate::local_ends::LocalEnd;
 use crate::names::Row;
 use crate::parts::{Parts, keep_all, parts_with};
 use crate::routed::RoutedListener;
@@ -114,7 +115,7 @@ impl Snapshot {
         served.get().hosts.host(place)
     }
 
-    /// Where a connection goes: by its listener, the filter chain that is left for it, the virtual host and the first route that
+    /// Where a connection goes: by the listener that takes it, the filter chain that is left for it, the virtual host and the first route that
     /// doesn't say no to its host text, path and headers, the weights of the route's clusters, and the lowest priority and the
     /// weights of the cluster's hosts. It takes no memory.
     #[tactic(auto, using(crate::proofs::Named::choice_shown, crate::proofs::Lowest::choice_takes_lowest, crate::proofs::Eligible::takes_eligible))]
@@ -127,23 +128,52 @@ impl Snapshot {
         self.choose_by_listener(ask)
     }
 
-    // The choice by the listener.
+    // The choice by the listener that the connection comes to.
     fn choose_by_listener(&self, ask: &Ask) -> Choice
         ensures { result ≡ choice_of self.now ask.now }
     {
-        match self.parts.listeners.for_ask(ask) {
-            Some(listener) => self.choose_by_chains(listener, ask),
+        match self.parts.listeners.for_end(&LocalEnd::delivered_by(ask)) {
+            Some(listener) => self.choose_by_reached(listener, ask),
             None => Choice::NoListener,
         }
     }
 
-    // The choice by the chains of a listener that are left.
-    fn choose_by_chains(&self, listener: &RoutedListener, ask: &Ask) -> Choice
+    // The choice by the listener that takes the connection which came to this one.
+    fn choose_by_reached(&self, listener: &RoutedListener, ask: &Ask) -> Choice
         ensures { result ≡ by_listener self.now ask.now (Some listener.now) }
     {
+        if listener.restores() {
+            self.choose_by_chains(self.taker_of(listener, ask), &LocalEnd::meant_by(ask), ask)
+        } else {
+            self.choose_by_chains(listener, &LocalEnd::delivered_by(ask), ask)
+        }
+    }
+
+    // The listener that takes a connection which came to one that restores.
+    fn taker_of<'s>(&'s self, listener: &'s RoutedListener, ask: &Ask) -> &'s RoutedListener
+        ensures { result.now ≡ taker_of self.now.shown.listeners ask.now listener.now }
+    {
+        if !listener.hands_over() {
+            return listener;
+        }
+        match self.parts.listeners.for_end(&LocalEnd::meant_by(ask)) {
+            Some(taker) => taker,
+            None => listener,
+        }
+    }
+
+    // The choice by the chains of a listener that are left for a connection to this end.
+    fn choose_by_chains(
+        &self,
+        listener: &RoutedListener,
+        local_end: &LocalEnd<'_>,
+        ask: &Ask,
+    ) -> Choice
+        ensures { result ≡ by_reached self.now ask.now (record { listener = listener.now; local_end = local_end.now }) }
+    {
         let chains = listener.filter_chains();
-        let criteria = Criteria::of(chains, ask);
-        if criteria.leave_source(chains) {
+        let criteria = Criteria::of(chains, ask, local_end);
+        if criteria.lack_source(chains, ask) {
             return Choice::Undecided {
                 listener: listener.number(),
             };

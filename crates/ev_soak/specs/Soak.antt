@@ -79,7 +79,10 @@ no_criteria = record {
   server_names = [];
   transport_protocol = None;
   application_protocols = [];
-  asks_source = false;
+  direct_source_prefix_ranges = [];
+  source_type = None;
+  source_prefix_ranges = [];
+  source_ports = [];
 }
 
 -- a filter chain that takes every connection, with the routes of this number
@@ -90,8 +93,10 @@ chain_for n = record { criteria = no_criteria; serve = by_routes (routes_name n)
 abbrev pub listener_content : ℕ → ℕ → Content
 listener_content n port = Listener (record {
   name = listener_name n;
-  address = listening port;
+  address = record { host = listening port; udp = false };
   takes_every_address = false;
+  restores = false;
+  hands_over = false;
   filter_chains = chain_for n ∷ [];
   default_filter_chain = None;
   body_text = [];
@@ -148,6 +153,8 @@ accept_line at worker connection port pick = record {
     conn = connection;
     address = listening port;
     ip = ip_of (listening port).address;
+    source = None;
+    redirected_to = None;
     server_name = [];
     tls = false;
     alpn = [];

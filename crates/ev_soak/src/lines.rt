@@ -195,6 +195,8 @@ fn accepts(alloc: Global, draws: &mut Draws, at: u32) -> Result<Line, AllocError
         conn,
         ip: Ip::read(address.address.as_str()),
         address,
+        source: None,
+        redirected_to: None,
         server_name: Text::new(alloc, "")?,
         tls: false,
         alpn: Seq::new(alloc),

@@ -9,7 +9,7 @@ ghost use Rattle.ev_soak.specs.Soak.{numbered, cluster_name, listener_name, rout
 use ev_types::{
     Action, Assignment, Cluster, Content, Discovery, FilterChain, FilterChainMatch, Host, HostRow,
     Listener, Name, NameError, PathMatch, PathSpecifier, Route, RouteMatch, RouteTable, Seq, Serve,
-    Shared, Target, Text, VirtualHost,
+    Shared, SocketAddress, Target, Text, VirtualHost,
 };
 use std::alloc::{AllocError, Global};
 
@@ -132,8 +132,13 @@ pub(crate) fn listener_content(alloc: Global, number: u32, port: u16) -> Result<
 {
     let listener = Listener {
         name: listener_name(alloc, number)?,
-        address: listening(alloc, port)?,
+        address: SocketAddress {
+            host: listening(alloc, port)?,
+            udp: false,
+        },
         takes_every_address: false,
+        restores: false,
+        hands_over: false,
         filter_chains: Seq::from_vec(vec![in alloc; chain_for(alloc, number)?]?),
         default_filter_chain: None,
         body_text: Text::new(alloc, "")?,
@@ -164,7 +169,10 @@ fn no_criteria(alloc: Global) -> FilterChainMatch
         server_names: Seq::new(alloc),
         transport_protocol: None,
         application_protocols: Seq::new(alloc),
-        asks_source: false,
+        direct_source_prefix_ranges: Seq::new(alloc),
+        source_type: None,
+        source_prefix_ranges: Seq::new(alloc),
+        source_ports: Seq::new(alloc),
     }
 }
 

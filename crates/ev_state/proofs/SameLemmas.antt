@@ -124,8 +124,11 @@ module _ (before after : List Arrived) where
       λ i. record {
         number = row.number;
         name = row.name;
-        address = listener.address;
+        address = listener.address.host;
         takes_every_address = listener.takes_every_address;
+        udp = listener.address.udp;
+        restores = listener.restores;
+        hands_over = listener.hands_over;
         filter_chains = chains_same listener.filter_chains (option_and_then serve_need listener.default_filter_chain) at_places i;
         default_filter_chain = default_same listener.filter_chains listener.default_filter_chain at_places i;
       } ∷ []

@@ -4,7 +4,7 @@ ghost use Rattle.ev_managers.specs.Managers.{AreManagersKept};
 use ev_managers::Managers;
 use ev_mentions::LiveRow;
 use ev_subscription::Subscription;
-use ev_types::{Host, Kind};
+use ev_types::{Kind, SocketAddress};
 use ev_verdicts::Known;
 use std::alloc::{AllocError, Global};
 use std::marker::Model;
@@ -58,7 +58,11 @@ impl<'a> Known for Before<'a> {
         }
     }
 
-    fn holders(&self, alloc: Global, address: &Host) -> Result<Vec<LiveRow<'_>>, AllocError> {
+    fn holders(
+        &self,
+        alloc: Global,
+        address: &SocketAddress,
+    ) -> Result<Vec<LiveRow<'_>>, AllocError> {
         self.managers.listeners.state.holders(alloc, address)
     }
 

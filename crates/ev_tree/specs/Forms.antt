@@ -1,6 +1,6 @@
 -- What reading a field of an object gives, by the proto3 JSON mapping in this project's profile: each
 -- form is a function of the tree, for the readers' clauses and for the rules above alike.
-use Rattle.std.specs.Prelude.{◌≡◌, ℕ, List, [], Bool, true, false, if◌then◌else◌, Option, Some, None, is_some, option_and_then, unwrap_or, Result, Ok, Err, ⊤}
+use Rattle.std.specs.Prelude.{◌≡◌, ℕ, ℤ, List, [], Bool, true, false, if◌then◌else◌, Option, Some, None, is_some, option_and_then, unwrap_or, Result, Ok, Err, ⊤}
 use Rattle.std.specs.List.{list_all}
 use Rattle.std.specs.Str.{bytes_eq}
 use denote.Ref.{Bor}
@@ -15,7 +15,7 @@ use Rattle.ev_tree.specs.declared.outcome.ReadError.TheVariants.{Rule, OutOfMemo
 use Rattle.ev_tree.specs.declared.span.Span.{Span}
 use Rattle.ev_tree.specs.declared.tables.EnumTable.{EnumTable}
 use Rattle.ev_tree.specs.Spelling.{camel_of}
-use Rattle.ev_tree.specs.Scalars.{u32_in, list_in, span_of, enum_in}
+use Rattle.ev_tree.specs.Scalars.{u32_in, i64_in, list_in, span_of, enum_in}
 
 -- the same outcome, of what f makes of the value
 abbrev pub found_map : {A B : Type 0} → (A → B) → Found A → Found B
@@ -99,6 +99,9 @@ text_of name tree = in_form as_str (field_of name tree)
 
 unfoldable pub number_of : List ℕ → Data → Found ℕ
 number_of name tree = in_form u32_in (field_of name tree)
+
+unfoldable pub integer_of : List ℕ → Data → Found ℤ
+integer_of name tree = in_form i64_in (field_of name tree)
 
 unfoldable pub boolean_of : List ℕ → Data → Found Bool
 boolean_of name tree = in_form as_bool (field_of name tree)

@@ -1,20 +1,17 @@
 -- The forms of single values: what a tree gives as a number, a list or a length of time.
-use Rattle.std.specs.Prelude.{ℕ, ◌^◌, ◌&&◌, ◌==◌, List, [], ◌∷◌, length, Bool, true, false, nat_lt, nat_le, if◌then◌else◌, Option, Some, None, is_some, option_map, option_and_then, position, codes}
+use Rattle.std.specs.Prelude.{ℕ, ◌^◌, ◌&&◌, ◌==◌, ℤ, pos, List, [], ◌∷◌, length, Bool, true, false, nat_lt, nat_le, if◌then◌else◌, Option, Some, None, is_some, option_map, option_and_then, position, codes}
 use Rattle.std.specs.List.{list_all, before_first, after_first}
-use Rattle.std.specs.Char.{is_ascii_digit}
 use Rattle.std.specs.Str.{bytes_eq}
 use Rattle.std.specs.Str.Parse.{digits_value}
 use Rattle.serde_json.specs.Data.{unsigned, negative, float, Data, null, boolean, number, string, array, object, Items, no_items, item}
 use Rattle.serde_json.specs.Find.{as_array}
+pub use Rattle.ev_types.specs.Decimals.{is_numeral}
+use Rattle.ev_types.specs.Decimals.{decimal_of}
 use Rattle.ev_tree.specs.declared.limits.TheConstants.{MAX_U32_DIGITS, MAX_SECONDS_DIGITS, MAX_FRACTION_DIGITS, MAX_SECONDS}
 use Rattle.ev_tree.specs.declared.span.Span.{Span}
 use Rattle.ev_tree.specs.declared.span.Span.TheVariants.{Negative, Zero, Positive}
 use Rattle.ev_tree.specs.declared.tables.EnumTable.{EnumTable}
 use Rattle.ev_tree.specs.declared.tables.EnumTable.TheVariants.{Discovery, Health, Protocol}
-
--- one digit to `longest` digits, and nothing else
-abbrev pub is_numeral : ℕ → List ℕ → Bool
-is_numeral longest s = nat_lt 0 (length s) && (nat_le (length s) longest && list_all is_ascii_digit s)
 
 -- the number that 1 to 10 digits write, where 32 bits hold it
 unfoldable pub u32_text : List ℕ → Option ℕ
@@ -30,6 +27,17 @@ u32_in (number (float x)) = None
 u32_in (string s) = u32_text s
 u32_in (array ds) = None
 u32_in (object ms) = None
+
+-- i64: a whole number that isn't negative, or a decimal text
+unfoldable pub i64_in : Data → Option ℤ
+i64_in null = None
+i64_in (boolean b) = None
+i64_in (number (unsigned n)) = if nat_lt n (2 ^ 63) then Some (pos n) else None
+i64_in (number (negative z)) = None
+i64_in (number (float x)) = None
+i64_in (string s) = decimal_of s
+i64_in (array ds) = None
+i64_in (object ms) = None
 
 -- the elements of an array
 abbrev pub elements_of : Items → List Data

@@ -2,8 +2,8 @@ ghost use Rattle.std.specs.Prelude.{◌≡◌};
 ghost use Rattle.ev_tree.specs.Scalars.{is_seconds, all_zeros, seconds_span, whole_span, fraction_span, signed_span, span_of, span_at};
 
 use crate::limits::{MAX_FRACTION_DIGITS, MAX_SECONDS, MAX_SECONDS_DIGITS};
-use crate::numbers::is_numeral;
 use crate::span::Span;
+use ev_types::is_numeral;
 
 /// Where the duration lies that a text writes: an optional minus, 1 to 12 digits of whole seconds,
 /// optionally a point and 1 to 9 digits, and `s`.

@@ -51,6 +51,7 @@ pub use inspections::Inspection;
 pub use limits::{
     MAX_FRACTION_DIGITS, MAX_NAME_BYTES, MAX_PORT, MAX_SECONDS, MAX_SECONDS_DIGITS, MAX_U32_DIGITS,
 };
+pub use numbers::u32_value;
 pub use outcome::{Found, ReadError};
 pub use readers::{boolean, duration, enumeration, field, list, number32, object, text};
 pub use rules::{first_is_least, is_name, least};

@@ -3,11 +3,11 @@
 ghost use Rattle.std.specs.Prelude.{◌≡◌, [], IfOk, map, option_map};
 ghost use Rattle.serde_json.specs.Find.{get};
 ghost use Rattle.serde_json.specs.View.{view};
-ghost use Rattle.ev_tree.specs.Forms.{Shows, text_in, given_or, inside, listed, found_map, tree_of, present_member, value_or_absent, either_spelling, value_or_wrong, field_of, text_of, number_of, boolean_of, duration_of, object_of, list_of, objects_of, texts_of, enumeration_of};
+ghost use Rattle.ev_tree.specs.Forms.{Shows, text_in, given_or, inside, listed, found_map, tree_of, present_member, value_or_absent, either_spelling, value_or_wrong, field_of, text_of, number_of, integer_of, boolean_of, duration_of, object_of, list_of, objects_of, texts_of, enumeration_of};
 
 use crate::durations::span;
 use crate::lists::{list_value, object_value, objects_value, texts_value};
-use crate::numbers::u32_value;
+use crate::numbers::{i64_value, u32_value};
 use crate::outcome::Found;
 use crate::span::Span;
 use crate::spelling::camel_case;
@@ -99,6 +99,18 @@ pub fn number32(alloc: Global, object: Option<&Value>, name: &str) -> Result<Fou
         Found::Absent => Ok(Found::Absent),
         Found::Wrong => Ok(Found::Wrong),
         Found::Given(value) => Ok(give_or_wrong(u32_value(value))),
+    }
+}
+
+/// A field that is an i64: a whole number below 2^63 that isn't negative, or a decimal text.
+#[tactic(auto, unfolding(crate::specs::Forms::integer_of))]
+pub fn number64(alloc: Global, object: Option<&Value>, name: &str) -> Result<Found<i64>, AllocError>
+    ensures { IfOk result (λ found. found ≡ integer_of name.now (tree_of object.entry)) }
+{
+    match field(alloc, object, name)? {
+        Found::Absent => Ok(Found::Absent),
+        Found::Wrong => Ok(Found::Wrong),
+        Found::Given(value) => Ok(give_or_wrong(i64_value(value))),
     }
 }
 

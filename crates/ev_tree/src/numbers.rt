@@ -1,25 +1,10 @@
-ghost use Rattle.std.specs.Prelude.{◌≡◌, ◌≤◌};
-ghost use Rattle.std.specs.Char.{is_ascii_digit};
-ghost use Rattle.std.specs.List.{list_all};
-ghost use Rattle.ev_tree.specs.Scalars.{is_numeral, u32_text, u32_in};
+ghost use Rattle.std.specs.Prelude.{◌≡◌};
+ghost use Rattle.ev_tree.specs.Scalars.{u32_text, u32_in, i64_in};
 ghost use Rattle.serde_json.specs.View.{view};
 
 use crate::limits::MAX_U32_DIGITS;
+use ev_types::{is_numeral, read_decimal};
 use serde_json::Value;
-
-/// Whether a text is 1 digit to `longest` digits.
-pub fn is_numeral(text: &str, longest: usize) -> bool
-    ensures { result ≡ is_numeral longest text.now }
-{
-    !text.is_empty() && text.len() <= longest && are_digits(text.as_bytes())
-}
-
-// Whether each byte is a digit.
-fn are_digits(bytes: &[u8]) -> bool
-    ensures { result ≡ list_all is_ascii_digit bytes.now }
-{
-    bytes.iter().all(|byte| byte.is_ascii_digit())
-}
 
 // The number that 1 to 10 digits write, if it is below 2^32.
 #[tactic(auto, unfolding(crate::specs::Scalars::u32_text))]
@@ -42,4 +27,16 @@ pub fn u32_value(value: &Value) -> Option<u32>
         return parse_u32(text);
     }
     u32::try_from(value.as_u64()?).ok()
+}
+
+/// A value as an i64: a whole number below 2^63 that isn't negative, or a decimal text that writes one. A negative number
+/// stands as a text, as protobuf's JSON mapping writes it.
+#[tactic(auto, unfolding(crate::specs::Scalars::i64_in))]
+pub fn i64_value(value: &Value) -> Option<i64>
+    ensures { result ≡ i64_in (view value.now) }
+{
+    if let Some(text) = value.as_str() {
+        return read_decimal(text);
+    }
+    i64::try_from(value.as_u64()?).ok()
 }

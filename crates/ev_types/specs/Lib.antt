@@ -18,4 +18,5 @@ pub mod Statuses
 pub mod SameAnswers
 pub mod Ips
 pub mod FilterChains
+pub mod Decimals
 pub mod SameMatchers

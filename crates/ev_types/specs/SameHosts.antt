@@ -9,6 +9,7 @@ use Rattle.std.specs.Str.{bytes_eq}
 use Rattle.std.proofs.Common.{ap}
 use lib.Pointwise.{pointwise, pointwise_decides}
 use Rattle.ev_types.specs.declared.hosts.Host.{Host}
+use Rattle.ev_types.specs.declared.hosts.SocketAddress.{SocketAddress}
 use Rattle.ev_types.specs.Hosts.{HostRowParts}
 use Rattle.ev_types.specs.Same.{bool_same, bool_decides, both_decide, decides_as, bytes_decide, numbers_decide}
 
@@ -19,6 +20,14 @@ host_same a b = bytes_eq a.address b.address && (a.port == b.port)
 -- what a hasher is fed of a host
 abbrev pub host_hash_input : Host → fed.HashWrites
 host_hash_input host = fed.str host.address ++ fed.u16 host.port
+
+-- the same host, by the same protocol
+abbrev pub socket_same : SocketAddress → SocketAddress → Bool
+socket_same a b = host_same a.host b.host && bool_same a.udp b.udp
+
+-- what a hasher is fed of a socket address
+abbrev pub socket_hash_input : SocketAddress → fed.HashWrites
+socket_hash_input socket = host_hash_input socket.host ++ fed.bool socket.udp
 
 -- the same host, weight, priority and use
 abbrev pub host_row_same : HostRowParts → HostRowParts → Bool
@@ -54,6 +63,11 @@ pub host_decides : (a b : Host) → Decides (host_same a b) (a ≡ b)
 host_decides a b = decides_as (both_decide (bytes_decide a.address b.address) (numbers_decide a.port b.port))
     (λ (p, q). λ i. record { address = p i; port = q i })
     (λ e. (ap (λ (h : Host). h.address) e, ap (λ (h : Host). h.port) e))
+
+pub socket_decides : (a b : SocketAddress) → Decides (socket_same a b) (a ≡ b)
+socket_decides a b = decides_as (both_decide (host_decides a.host b.host) (bool_decides a.udp b.udp))
+    (λ p. λ i. record { host = p.0 i; udp = p.1 i })
+    (λ e. (ap (λ (s : SocketAddress). s.host) e, ap (λ (s : SocketAddress). s.udp) e))
 
 pub host_row_decides : (a b : HostRowParts) → Decides (host_row_same a b) (a ≡ b)
 host_row_decides a b = decides_as

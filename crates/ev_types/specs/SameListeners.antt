@@ -11,7 +11,7 @@ use Rattle.ev_types.specs.declared.listeners.FilterChain.{FilterChain}
 use Rattle.ev_types.specs.declared.listeners.Listener.{Listener}
 use Rattle.ev_types.specs.FilterChains.{filter_chain_match_same, filter_chain_match_decides}
 use Rattle.ev_types.specs.Same.{bool_same, bool_decides, both_decide, decides_as, bytes_decide, option_decides}
-use Rattle.ev_types.specs.SameHosts.{host_same, host_decides}
+use Rattle.ev_types.specs.SameHosts.{socket_same, socket_decides}
 use Rattle.ev_types.specs.SameRoutes.{route_table_same, route_table_decides, target_same, target_decides}
 
 -- the same routes, the same name under the same kind of time limit, or the same target; what isn't read is one
@@ -26,15 +26,25 @@ serve_same a b = false
 abbrev pub filter_chain_same : FilterChain → FilterChain → Bool
 filter_chain_same a b = filter_chain_match_same a.criteria b.criteria && serve_same a.serve b.serve
 
--- the same name, address and mark, the same chains in the same order, and the same text of the body
-abbrev pub listener_same : Listener → Listener → Bool
-listener_same a b =
-    bytes_eq a.name b.name
-    && host_same a.address b.address
+-- the same address, and the same marks
+abbrev pub listens_same : Listener → Listener → Bool
+listens_same a b =
+    socket_same a.address b.address
     && bool_same a.takes_every_address b.takes_every_address
+    && bool_same a.restores b.restores
+    && bool_same a.hands_over b.hands_over
+
+-- the same name, the same chains in the same order, and the same text of the body
+abbrev pub serves_same : Listener → Listener → Bool
+serves_same a b =
+    bytes_eq a.name b.name
     && pointwise filter_chain_same a.filter_chains b.filter_chains
     && option_eq serve_same a.default_filter_chain b.default_filter_chain
     && bytes_eq a.body_text b.body_text
+
+-- equal in all of these
+abbrev pub listener_same : Listener → Listener → Bool
+listener_same a b = listens_same a b && serves_same a b
 
 pub serve_decides : (a b : Serve) → Decides (serve_same a b) (a ≡ b)
 serve_decides (Rds name limited) (Rds name' limited') =
@@ -50,32 +60,40 @@ filter_chain_decides a b = decides_as (both_decide (filter_chain_match_decides a
     (λ e. (ap (λ (c : FilterChain). c.criteria) e, ap (λ (c : FilterChain). c.serve) e))
 
 pub listener_decides : (a b : Listener) → Decides (listener_same a b) (a ≡ b)
-listener_decides a b = decides_as
-    (both_decide (both_decide (both_decide (both_decide (both_decide
-    (bytes_decide a.name b.name)
-    (host_decides a.address b.address))
+listener_decides a b = decides_as (both_decide
+    (both_decide (both_decide (both_decide
+    (socket_decides a.address b.address)
     (bool_decides a.takes_every_address b.takes_every_address))
+    (bool_decides a.restores b.restores))
+    (bool_decides a.hands_over b.hands_over))
+    (both_decide (both_decide (both_decide
+    (bytes_decide a.name b.name)
     (pointwise_decides filter_chain_decides a.filter_chains b.filter_chains))
     (option_decides serve_decides a.default_filter_chain b.default_filter_chain))
-    (bytes_decide a.body_text b.body_text))
+    (bytes_decide a.body_text b.body_text)))
     (λ p. λ i. record {
-      name = p.0.0.0.0.0 i;
-      address = p.0.0.0.0.1 i;
+      name = p.1.0.0.0 i;
+      address = p.0.0.0.0 i;
       takes_every_address = p.0.0.0.1 i;
-      filter_chains = p.0.0.1 i;
-      default_filter_chain = p.0.1 i;
-      body_text = p.1 i;
+      restores = p.0.0.1 i;
+      hands_over = p.0.1 i;
+      filter_chains = p.1.0.0.1 i;
+      default_filter_chain = p.1.0.1 i;
+      body_text = p.1.1 i;
     })
     (λ e. (
       (
         (
-          (
-            (ap (λ (l : Listener). l.name) e, ap (λ (l : Listener). l.address) e),
-            ap (λ (l : Listener). l.takes_every_address) e,
-          ),
-          ap (λ (l : Listener). l.filter_chains) e,
+          (ap (λ (l : Listener). l.address) e, ap (λ (l : Listener). l.takes_every_address) e),
+          ap (λ (l : Listener). l.restores) e,
         ),
-        ap (λ (l : Listener). l.default_filter_chain) e,
+        ap (λ (l : Listener). l.hands_over) e,
       ),
-      ap (λ (l : Listener). l.body_text) e,
+      (
+        (
+          (ap (λ (l : Listener). l.name) e, ap (λ (l : Listener). l.filter_chains) e),
+          ap (λ (l : Listener). l.default_filter_chain) e,
+        ),
+        ap (λ (l : Listener). l.body_text) e,
+      ),
     ))

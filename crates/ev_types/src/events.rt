@@ -19,15 +19,28 @@ pub enum Actor {
     Worker(u32),
 }
 
+/// One end of a connection.
+#[derive(Drop)]
+pub struct Peer {
+    /// Its address and port.
+    pub host: Host,
+    /// The IP address that the address writes, if it writes one.
+    pub ip: Option<Ip>,
+}
+
 /// What a connection asks for, when a worker accepts it.
 #[derive(Drop)]
 pub struct Ask {
     /// The connection's number, by which its worker closes it.
     pub conn: u64,
-    /// The address and port that it came to.
+    /// The address and port that it is meant for.
     pub address: Host,
     /// The IP address that the address writes, if it writes one.
     pub ip: Option<Ip>,
+    /// Who connects, if that is said.
+    pub source: Option<Peer>,
+    /// Where it was delivered, as by iptables, if not where it is meant to go.
+    pub redirected_to: Option<Peer>,
     /// The server that it names in the TLS handshake, or nothing.
     pub server_name: Text,
     /// Whether it comes over TLS.

@@ -1,5 +1,38 @@
 use crate::{CidrRange, Seq, Text};
 
+/// Where a connection comes from. Source: Envoy's `FilterChainMatch.ConnectionSourceType`.
+#[derive(Clone, Copy, Debug)]
+pub enum SourceType {
+    /// From this machine: from a loopback address, or from the address that it goes to.
+    SameIpOrLoopback,
+    /// From elsewhere.
+    External,
+}
+
+impl PartialEq for SourceType {
+    ghost use Rattle.std.specs.Cmp.{decided, partial_equiv_from_equiv};
+    ghost use Rattle.ev_types.specs.FilterChains.{source_type_same, source_type_decides};
+
+    ghost eq = { source_type_same };
+
+    ghost laws = { partial_equiv_from_equiv (decided source_type_same source_type_decides) };
+
+    fn eq(&self, other: &SourceType) -> bool {
+        match (self, other) {
+            (SourceType::SameIpOrLoopback, SourceType::SameIpOrLoopback) => true,
+            (SourceType::External, SourceType::External) => true,
+            _ => false,
+        }
+    }
+}
+
+impl Eq for SourceType {
+    ghost use Rattle.std.specs.Cmp.{decided};
+    ghost use Rattle.ev_types.specs.FilterChains.{source_type_same, source_type_decides};
+
+    ghost laws = { decided source_type_same source_type_decides };
+}
+
 /// Which connections a filter chain takes: of each criterion what it asks for, or nothing. Source: Envoy's `FilterChainMatch`.
 #[derive(Drop)]
 pub struct FilterChainMatch {
@@ -13,8 +46,14 @@ pub struct FilterChainMatch {
     pub transport_protocol: Option<Text>,
     /// The application protocols that it offers.
     pub application_protocols: Seq<Text>,
-    /// Whether it asks where the connection comes from, which no script says.
-    pub asks_source: bool,
+    /// Where the address of the peer that connects directly lies.
+    pub direct_source_prefix_ranges: Seq<CidrRange>,
+    /// Whether the connection comes from this machine or from elsewhere; nothing is any source.
+    pub source_type: Option<SourceType>,
+    /// Where the address that it comes from lies.
+    pub source_prefix_ranges: Seq<CidrRange>,
+    /// The ports that it comes from.
+    pub source_ports: Seq<u16>,
 }
 
 impl PartialEq for FilterChainMatch {
@@ -31,7 +70,10 @@ impl PartialEq for FilterChainMatch {
             && self.server_names == other.server_names
             && self.transport_protocol == other.transport_protocol
             && self.application_protocols == other.application_protocols
-            && self.asks_source == other.asks_source
+            && self.direct_source_prefix_ranges == other.direct_source_prefix_ranges
+            && self.source_type == other.source_type
+            && self.source_prefix_ranges == other.source_prefix_ranges
+            && self.source_ports == other.source_ports
     }
 }
 

@@ -58,6 +58,58 @@ impl Hash for Host {
     }
 }
 
+/// Where a listener listens: by TCP for connections, or by UDP for datagrams. The same address by both is two. Source: Envoy's
+/// `SocketAddress`.
+#[derive(Drop)]
+pub struct SocketAddress {
+    pub host: Host,
+    /// Whether by UDP.
+    pub udp: bool,
+}
+
+impl TryCopy for SocketAddress {
+    fn copy(&self, alloc: Global) -> Result<SocketAddress, AllocError> {
+        Ok(SocketAddress {
+            host: self.host.copy(alloc)?,
+            udp: self.udp,
+        })
+    }
+}
+
+impl PartialEq for SocketAddress {
+    ghost use Rattle.std.specs.Cmp.{decided, partial_equiv_from_equiv};
+    ghost use Rattle.ev_types.specs.SameHosts.{socket_same, socket_decides};
+
+    ghost eq = { socket_same };
+
+    ghost laws = { partial_equiv_from_equiv (decided socket_same socket_decides) };
+
+    fn eq(&self, other: &SocketAddress) -> bool {
+        self.host == other.host && self.udp == other.udp
+    }
+}
+
+impl Eq for SocketAddress {
+    ghost use Rattle.std.specs.Cmp.{decided};
+    ghost use Rattle.ev_types.specs.SameHosts.{socket_same, socket_decides};
+
+    ghost laws = { decided socket_same socket_decides };
+}
+
+impl Hash for SocketAddress {
+    ghost use Rattle.std.proofs.Common.{ap};
+    ghost use Rattle.ev_types.specs.SameHosts.{socket_hash_input, socket_decides};
+
+    ghost hash_input = { socket_hash_input };
+
+    ghost respects_eq = { λ a b same. ap socket_hash_input ((socket_decides a b).0 same) };
+
+    fn hash<H: Hasher>(&self, state: &mut H) {
+        self.host.hash(state);
+        self.udp.hash(state);
+    }
+}
+
 /// One host of an assignment. Its weight is at least 1; the lower a priority, the earlier it is chosen.
 #[derive(Drop)]
 pub struct HostRow {

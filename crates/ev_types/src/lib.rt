@@ -35,6 +35,7 @@ mod clusters;
 mod compared;
 mod contents;
 mod copies;
+mod decimals;
 mod events;
 mod filter_chains;
 mod host_index;
@@ -45,6 +46,7 @@ mod limits;
 mod listeners;
 mod lists;
 mod matchers;
+mod queries;
 mod routes;
 mod rows;
 mod shared;
@@ -55,18 +57,23 @@ pub use answers::is_same_answer;
 pub use clusters::{Cluster, Discovery};
 pub use contents::{Body, Content, Item, Kind, Request, Response};
 pub use copies::TryCopy;
-pub use events::{Actor, Answer, Ask, Entry, Event, Line, Op, Profile, Script, Verdict};
-pub use filter_chains::FilterChainMatch;
-pub use hosts::{Assignment, Host, HostRow};
+pub use decimals::{is_numeral, read_decimal};
+pub use events::{Actor, Answer, Ask, Entry, Event, Line, Op, Peer, Profile, Script, Verdict};
+pub use filter_chains::{FilterChainMatch, SourceType};
+pub use hosts::{Assignment, Host, HostRow, SocketAddress};
 pub use ips::{CidrRange, Ip};
 pub use journals::{Finding, Format, Row};
-pub use limits::{ITEM_LIMIT, LINE_LIMIT, MAX_NAME_LENGTH, MAX_WEIGHT_SUM, MAX_WORKERS, ROW_LIMIT};
+pub use limits::{
+    ITEM_LIMIT, LINE_LIMIT, MAX_DECIMAL_DIGITS, MAX_NAME_LENGTH, MAX_WEIGHT_SUM, MAX_WORKERS,
+    ROW_LIMIT,
+};
 pub use listeners::{FilterChain, Listener, Serve};
 pub use lists::Seq;
 pub use matchers::{
     HeaderMatcher, HeaderTest, PathSpecifier, RouteCondition, RouteMatch, StringMatcher,
     StringPattern,
 };
+pub use queries::{QueryParameterMatcher, QueryTest};
 pub use routes::{
     Action, PathMatch, Route, RouteTable, Target, VirtualHost, WeightedCluster, WeightedClusters,
 };

@@ -1,6 +1,9 @@
 /// The greatest length of a name, in bytes.
 pub const MAX_NAME_LENGTH: usize = 512;
 
+/// The most digits of a whole number in a text.
+pub const MAX_DECIMAL_DIGITS: usize = 19;
+
 /// An assignment has fewer rows than this.
 pub const ROW_LIMIT: usize = 4_294_967_295;
 

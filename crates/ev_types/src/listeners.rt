@@ -1,4 +1,4 @@
-use crate::{FilterChainMatch, Host, Name, RouteTable, Seq, Shared, Target, Text};
+use crate::{FilterChainMatch, Name, RouteTable, Seq, Shared, SocketAddress, Target, Text};
 
 /// What a filter chain serves.
 #[derive(Drop)]
@@ -82,9 +82,14 @@ impl Eq for FilterChain {
 #[derive(Drop)]
 pub struct Listener {
     pub name: Name,
-    pub address: Host,
-    /// Whether its address stands for every address of its port, where no listener has that address itself.
+    pub address: SocketAddress,
+    /// Whether its address represents every address of its port, where no listener has that address itself.
     pub takes_every_address: bool,
+    /// Whether a redirected connection is taken as one to the address that it was meant for. Source: Envoy's original
+    /// destination listener filter.
+    pub restores: bool,
+    /// Whether it hands such a connection over to the listener at that address. Source: Envoy's `use_original_dst`.
+    pub hands_over: bool,
     /// Its chains in order.
     pub filter_chains: Seq<FilterChain>,
     /// What connections are served that no chain takes, if they are.
@@ -103,12 +108,7 @@ impl PartialEq for Listener {
     ghost laws = { partial_equiv_from_equiv (decided listener_same listener_decides) };
 
     fn eq(&self, other: &Listener) -> bool {
-        self.name == other.name
-            && self.address == other.address
-            && self.takes_every_address == other.takes_every_address
-            && self.filter_chains == other.filter_chains
-            && self.default_filter_chain == other.default_filter_chain
-            && self.body_text == other.body_text
+        self.listens_as(other) && self.serves_as(other)
     }
 }
 
@@ -117,4 +117,29 @@ impl Eq for Listener {
     ghost use Rattle.ev_types.specs.SameListeners.{listener_same, listener_decides};
 
     ghost laws = { decided listener_same listener_decides };
+}
+
+impl Listener {
+    ghost use Rattle.std.specs.Prelude.{◌≡◌};
+    ghost use Rattle.ev_types.specs.SameListeners.{listens_same, serves_same};
+
+    // Whether both have the same address and the same marks.
+    fn listens_as(&self, other: &Listener) -> bool
+        ensures { result ≡ listens_same self.now other.now }
+    {
+        self.address == other.address
+            && self.takes_every_address == other.takes_every_address
+            && self.restores == other.restores
+            && self.hands_over == other.hands_over
+    }
+
+    // Whether both have the same name, chains and text.
+    fn serves_as(&self, other: &Listener) -> bool
+        ensures { result ≡ serves_same self.now other.now }
+    {
+        self.name == other.name
+            && self.filter_chains == other.filter_chains
+            && self.default_filter_chain == other.default_filter_chain
+            && self.body_text == other.body_text
+    }
 }

@@ -1,4 +1,4 @@
-use crate::{PathMatch, Seq, Text};
+use crate::{PathMatch, QueryParameterMatcher, Seq, Text};
 
 /// What a text is held against. Source: the patterns of Envoy's `StringMatcher`.
 #[derive(Drop)]
@@ -74,7 +74,9 @@ pub enum HeaderTest {
     Text(StringMatcher),
     /// It is there.
     Present,
-    /// Something that isn't decided here: a regular expression, a range of numbers, or an extension.
+    /// It is the decimal text of a whole number that is at least `start` and below `end`.
+    Range { start: i64, end: i64 },
+    /// Something that isn't decided here: a regular expression, or an extension.
     Open,
 }
 
@@ -90,6 +92,13 @@ impl PartialEq for HeaderTest {
         match (self, other) {
             (HeaderTest::Text(matcher), HeaderTest::Text(other)) => matcher == other,
             (HeaderTest::Present, HeaderTest::Present) => true,
+            (
+                HeaderTest::Range { start, end },
+                HeaderTest::Range {
+                    start: other_start,
+                    end: other_end,
+                },
+            ) => *start == *other_start && *end == *other_end,
             (HeaderTest::Open, HeaderTest::Open) => true,
             _ => false,
         }
@@ -143,9 +152,11 @@ impl Eq for HeaderMatcher {
 pub enum RouteCondition {
     /// Something of one header.
     Header(HeaderMatcher),
+    /// Something of one query parameter.
+    Query(QueryParameterMatcher),
     /// That it is a gRPC request.
     Grpc,
-    /// Something that isn't decided here: a fraction of requests, a certificate, query parameters, metadata, or filter state.
+    /// Something that isn't decided here: a fraction of requests, a certificate, metadata, or filter state.
     Open,
 }
 
@@ -160,6 +171,7 @@ impl PartialEq for RouteCondition {
     fn eq(&self, other: &RouteCondition) -> bool {
         match (self, other) {
             (RouteCondition::Header(matcher), RouteCondition::Header(other)) => matcher == other,
+            (RouteCondition::Query(matcher), RouteCondition::Query(other)) => matcher == other,
             (RouteCondition::Grpc, RouteCondition::Grpc) => true,
             (RouteCondition::Open, RouteCondition::Open) => true,
             _ => false,

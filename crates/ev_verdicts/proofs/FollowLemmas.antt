@@ -22,7 +22,7 @@ use Rattle.ev_types.specs.declared.contents.Body.TheVariants.{Good, Bad, Beat}
 use Rattle.ev_types.specs.declared.contents.Content.{Content}
 use Rattle.ev_types.specs.declared.events.Verdict.{Verdict}
 use Rattle.ev_types.specs.declared.events.Verdict.TheVariants.{New, Same, Kept, Unasked, Renewed, Refused}
-use Rattle.ev_types.specs.declared.hosts.Host.{Host}
+use Rattle.ev_types.specs.declared.hosts.SocketAddress.{SocketAddress}
 use Rattle.ev_types.specs.declared.rows.KeptVersion.{KeptVersion}
 use Rattle.ev_types.specs.declared.rows.Live.{Live}
 use Rattle.ev_model.specs.Live.{is_named, latest, newest_of}
@@ -36,7 +36,7 @@ use Rattle.ev_verdicts.proofs.ListLemmas.{any_filter, any_same, any_of_none, fil
 -- what is live now, by what was known before the response and what it made
 record Follows (answers : Answers) (kind : Kind) (response : ResponseParts) (made : MadeKept) (now : List Live) : Type 0 where
   pub newest : (name : List ℕ) → is_made made name ≡ false → is_removed response name ≡ false → newest_of now kind name ≡ answers.newest kind name
-  pub holders : (address : Host) (test : Kind → List ℕ → Bool → Bool)
+  pub holders : (address : SocketAddress) (test : Kind → List ℕ → Bool → Bool)
       → list_any (λ (live : Live). is_at address live && test live.kind live.name live.warming) now
       ≡ (list_any (λ (live : Live). stays kind response made live && test live.kind live.name live.warming) (answers.holders address)
       || list_any (λ name. test kind name true) (names_at address made))
@@ -161,7 +161,7 @@ swap_pointwise false false t = refl
 stays_pointwise : (k r w m n t : Bool) → (not (k && (r || (w && m))) && (t && not ((k && n) && w))) ≡ (not (k && (r || (w && (m || n)))) && t)
 stays_pointwise k r w m n t = grind (arith, common_steps)
 
-made_names_by : (kind : Kind) (name : List ℕ) (test : Kind → List ℕ → Bool → Bool) (address : Host) (m : List ℕ × Option Host) (made : MadeKept) (at : Bool)
+made_names_by : (kind : Kind) (name : List ℕ) (test : Kind → List ℕ → Bool → Bool) (address : SocketAddress) (m : List ℕ × Option SocketAddress) (made : MadeKept) (at : Bool)
     → shares_address m.1 (Some address) ≡ at → bytes_eq m.0 name ≡ false
     → list_any (λ n. left_test kind name test kind n true) (names_at address made) ≡ list_any (λ n. test kind n true) (names_at address made)
     → list_any (λ n. left_test kind name test kind n true) (names_at address (m ∷ made)) ≡ list_any (λ n. test kind n true) (names_at address (m ∷ made))
@@ -171,36 +171,36 @@ made_names_by kind name test address m made true is isnt more =
 made_names_by kind name test address m made false is isnt more = simp (is) more
 
 -- of those that the response made none has the name
-made_names : (kind : Kind) (name : List ℕ) (test : Kind → List ℕ → Bool → Bool) (address : Host) (made : MadeKept) → is_made made name ≡ false
+made_names : (kind : Kind) (name : List ℕ) (test : Kind → List ℕ → Bool → Bool) (address : SocketAddress) (made : MadeKept) → is_made made name ≡ false
     → list_any (λ n. left_test kind name test kind n true) (names_at address made) ≡ list_any (λ n. test kind n true) (names_at address made)
 made_names kind name test address [] none = refl
 made_names kind name test address (m ∷ made) none =
     made_names_by kind name test address m made (shares_address m.1 (Some address)) refl (or_left (bytes_eq m.0 name) (is_made made name) none)
     (made_names kind name test address made (or_right (bytes_eq m.0 name) (is_made made name) none))
 
-names_one : (test : List ℕ → Bool) (address : Host) (name : List ℕ) (place : Option Host) (at : Bool) → shares_address place (Some address) ≡ at
+names_one : (test : List ℕ → Bool) (address : SocketAddress) (name : List ℕ) (place : Option SocketAddress) (at : Bool) → shares_address place (Some address) ≡ at
     → list_any test (names_at address ((name, place) ∷ [])) ≡ (at && test name)
 names_one test address name place true is = simp (is) (or_none (test name))
 names_one test address name place false is = simp (is) refl
 
 -- the names at an address, with one more
-names_with : (test : List ℕ → Bool) (address : Host) (made : MadeKept) (name : List ℕ) (place : Option Host)
+names_with : (test : List ℕ → Bool) (address : SocketAddress) (made : MadeKept) (name : List ℕ) (place : Option SocketAddress)
     → list_any test (names_at address (made ++ (name, place) ∷ [])) ≡ (list_any test (names_at address made) || (shares_address place (Some address) && test name))
 names_with test address made name place =
-    let at = λ (m : List ℕ × Option Host). shares_address m.1 (Some address) in
-    let first = λ (m : List ℕ × Option Host). m.0 in
+    let at = λ (m : List ℕ × Option SocketAddress). shares_address m.1 (Some address) in
+    let first = λ (m : List ℕ × Option SocketAddress). m.0 in
     ap (λ ms. list_any test (map first ms)) (filter-append at made ((name, place) ∷ []))
     ∙ ap (list_any test) (map-append first (filter at made) (filter at ((name, place) ∷ [])))
     ∙ list_any-append test (names_at address made) (names_at address ((name, place) ∷ []))
     ∙ ap (λ b. list_any test (names_at address made) || b) (names_one test address name place (shares_address place (Some address)) refl)
 
 -- the response made these, and one of the name
-made_more : (made : MadeKept) (name : List ℕ) (place : Option Host) (q : List ℕ) → is_made (made ++ (name, place) ∷ []) q ≡ (is_made made q || bytes_eq name q)
+made_more : (made : MadeKept) (name : List ℕ) (place : Option SocketAddress) (q : List ℕ) → is_made (made ++ (name, place) ∷ []) q ≡ (is_made made q || bytes_eq name q)
 made_more made name place q =
-    list_any-append (λ (m : List ℕ × Option Host). bytes_eq m.0 q) made ((name, place) ∷ [])
+    list_any-append (λ (m : List ℕ × Option SocketAddress). bytes_eq m.0 q) made ((name, place) ∷ [])
     ∙ ap (λ b. is_made made q || b) (or_none (bytes_eq name q))
 
-stays_more : (kind : Kind) (response : ResponseParts) (made : MadeKept) (name : List ℕ) (place : Option Host) (test : Kind → List ℕ → Bool → Bool) (live : Live)
+stays_more : (kind : Kind) (response : ResponseParts) (made : MadeKept) (name : List ℕ) (place : Option SocketAddress) (test : Kind → List ℕ → Bool → Bool) (live : Live)
     → (stays kind response made live && left_test kind name test live.kind live.name live.warming)
     ≡ (stays kind response (made ++ (name, place) ∷ []) live && test live.kind live.name live.warming)
 stays_more kind response made name place test live =
@@ -216,7 +216,7 @@ or_assoc false false false = refl
 
 -- who holds an address, with a new generation
 holders_with : (answers : Answers) (kind : Kind) (response : ResponseParts) (made : MadeKept) (name : List ℕ) (content : Content) (now : List Live)
-    → is_made made name ≡ false → Follows answers kind response made now → (address : Host) (test : Kind → List ℕ → Bool → Bool)
+    → is_made made name ≡ false → Follows answers kind response made now → (address : SocketAddress) (test : Kind → List ℕ → Bool → Bool)
     → list_any (λ (live : Live). is_at address live && test live.kind live.name live.warming) (with_new kind name content now)
     ≡ (list_any (λ (live : Live). stays kind response (made ++ (name, listening_address content) ∷ []) live && test live.kind live.name live.warming) (answers.holders address)
     || list_any (λ n. test kind n true) (names_at address (made ++ (name, listening_address content) ∷ [])))
@@ -331,11 +331,11 @@ stale_same answers kind response lives versions made now item (Bad rule) tells w
 stale_same answers kind response lives versions made now item Beat tells was =
     λ i. cond (not (tells.kept kind item.name item.version i) && heard_same answers kind response made now item.name was i) (Some 1) None
 
-nobody_at : (place : Option Host) (other : Bool) → shares_address place None && other ≡ false
+nobody_at : (place : Option SocketAddress) (other : Bool) → shares_address place None && other ≡ false
 nobody_at None other = refl
 nobody_at (Some address) other = refl
 
-taken_same_by : (answers : Answers) (response : ResponseParts) (made : MadeKept) (now : List Live) (name : List ℕ) (place : Option Host) → Follows answers Lds response made now
+taken_same_by : (answers : Answers) (response : ResponseParts) (made : MadeKept) (now : List Live) (name : List ℕ) (place : Option SocketAddress) → Follows answers Lds response made now
     → is_taken_by Lds response answers made name place ≡ list_any (λ (live : Live). shares_address (listening_address live.content) place && not (bytes_eq live.name name)) now
 taken_same_by answers response made now name None was =
     sym (any_of_none (λ (live : Live). shares_address (listening_address live.content) None && not (bytes_eq live.name name))

@@ -9,7 +9,7 @@ use Rattle.std.specs.Option.{is_some}
 use Rattle.std.specs.Str.{bytes_eq}
 use Rattle.std.proofs.lemmas.Bool.{true≢false, false≢true}
 use Rattle.std.proofs.lemmas.Cmp.{nat_list_eq_equiv}
-use Rattle.ev_types.specs.declared.hosts.Host.{Host}
+use Rattle.ev_types.specs.declared.hosts.SocketAddress.{SocketAddress}
 use Rattle.ev_verdicts.specs.Judged.{MadeKept, is_made, names_at}
 
 -- a name is found exactly where one of it was made
@@ -25,7 +25,7 @@ found_made name (m ∷ made) = by (bytes_eq name m.0) (bytes_eq m.0 name) (nat_l
     by false false h rest = rest
 
 -- a name that isn't there goes last
-pub put_last : (name : List ℕ) (place : Option Host) (made : MadeKept) → is_made made name ≡ false → insert_entry bytes_eq made name place ≡ made ++ (name, place) ∷ []
+pub put_last : (name : List ℕ) (place : Option SocketAddress) (made : MadeKept) → is_made made name ≡ false → insert_entry bytes_eq made name place ≡ made ++ (name, place) ∷ []
 put_last name place [] none = refl
 put_last name place (m ∷ made) none = by (bytes_eq name m.0) (bytes_eq m.0 name) (nat_list_eq_equiv.symm name m.0) none (put_last name place made)
   where
@@ -37,11 +37,11 @@ put_last name place (m ∷ made) none = by (bytes_eq name m.0) (bytes_eq m.0 nam
     by false false h isnt rest = ap (λ ms. m ∷ ms) (rest isnt)
 
 -- the names at an address, with one more
-pub at_more : (made : MadeKept) (name : List ℕ) (place : Option Host) (address : Host)
+pub at_more : (made : MadeKept) (name : List ℕ) (place : Option SocketAddress) (address : SocketAddress)
     → names_at address (made ++ (name, place) ∷ []) ≡ names_at address made ++ (cond (shares_address place (Some address)) (name ∷ []) [])
 at_more made name place address =
-    let at = λ (m : List ℕ × Option Host). shares_address m.1 (Some address) in
-    let first = λ (m : List ℕ × Option Host). m.0 in
+    let at = λ (m : List ℕ × Option SocketAddress). shares_address m.1 (Some address) in
+    let first = λ (m : List ℕ × Option SocketAddress). m.0 in
     ap (map first) (filter-append at made ((name, place) ∷ []))
     ∙ map-append first (filter at made) (filter at ((name, place) ∷ []))
     ∙ ap (λ ns. names_at address made ++ ns) (by (shares_address place (Some address)) refl)

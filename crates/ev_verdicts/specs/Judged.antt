@@ -12,7 +12,7 @@ use Rattle.ev_types.specs.declared.contents.Body.TheVariants.{Good, Bad, Beat}
 use Rattle.ev_types.specs.declared.contents.Content.{Content}
 use Rattle.ev_types.specs.declared.events.Verdict.{Verdict}
 use Rattle.ev_types.specs.declared.events.Verdict.TheVariants.{New, Same, Kept, Unasked, Renewed, Refused}
-use Rattle.ev_types.specs.declared.hosts.Host.{Host}
+use Rattle.ev_types.specs.declared.hosts.SocketAddress.{SocketAddress}
 use Rattle.ev_types.specs.declared.rows.KeptVersion.{KeptVersion}
 use Rattle.ev_types.specs.declared.rows.Live.{Live}
 use Rattle.ev_model.specs.Verdicts.{is_removed, twice_rule, removed_rule, form_rule, lesser, listening_address, shares_address, against, verdicts_of}
@@ -21,15 +21,15 @@ use Rattle.ev_verdicts.specs.Known.{Answers, Tells}
 
 -- what a response made so far: names, each with the address of a listener
 abbrev pub MadeKept : Type 0
-MadeKept = List (List ℕ × Option Host)
+MadeKept = List (List ℕ × Option SocketAddress)
 
 -- the response made a row of this name
 abbrev pub is_made : MadeKept → List ℕ → Bool
-is_made made name = list_any (λ (m : List ℕ × Option Host). bytes_eq m.0 name) made
+is_made made name = list_any (λ (m : List ℕ × Option SocketAddress). bytes_eq m.0 name) made
 
 -- the names of those that listen at the address
-abbrev pub names_at : Host → MadeKept → List (List ℕ)
-names_at address made = map (λ (m : List ℕ × Option Host). m.0) (filter (λ (m : List ℕ × Option Host). shares_address m.1 (Some address)) made)
+abbrev pub names_at : SocketAddress → MadeKept → List (List ℕ)
+names_at address made = map (λ (m : List ℕ × Option SocketAddress). m.0) (filter (λ (m : List ℕ × Option SocketAddress). shares_address m.1 (Some address)) made)
 
 -- with a row of this name, where none was made
 abbrev pub with_made : List ℕ → Content → MadeKept → MadeKept
@@ -48,12 +48,12 @@ abbrev pub has_another : Kind → ResponseParts → MadeKept → List ℕ → Li
 has_another kind response made name lives = list_any (λ (live : Live). stays kind response made live && not (bytes_eq live.name name)) lives
 
 -- of those that hold the address one has another name
-abbrev pub is_held : Kind → ResponseParts → Answers → MadeKept → List ℕ → Host → Bool
+abbrev pub is_held : Kind → ResponseParts → Answers → MadeKept → List ℕ → SocketAddress → Bool
 is_held kind response answers made name address =
     has_another kind response made name (answers.holders address) || has_other name (names_at address made)
 
 -- a listener of another name has the address
-abbrev pub is_taken_by : Kind → ResponseParts → Answers → MadeKept → List ℕ → Option Host → Bool
+abbrev pub is_taken_by : Kind → ResponseParts → Answers → MadeKept → List ℕ → Option SocketAddress → Bool
 is_taken_by kind response answers made name None = false
 is_taken_by kind response answers made name (Some address) = is_held kind response answers made name address
 

@@ -3,7 +3,7 @@ use Rattle.std.specs.Prelude.{◌≡◌, ℕ, Bool, true, false, ◌||◌, if◌
 use Rattle.std.specs.List.{AllByRecursion, list_any}
 use Rattle.ev_types.specs.Kinds.{kind_same}
 use Rattle.ev_types.specs.declared.contents.Kind.{Kind}
-use Rattle.ev_types.specs.declared.hosts.Host.{Host}
+use Rattle.ev_types.specs.declared.hosts.SocketAddress.{SocketAddress}
 use Rattle.ev_types.specs.declared.listeners.FilterChain.{FilterChain}
 use Rattle.ev_types.specs.declared.listeners.Listener.{Listener}
 use Rattle.ev_types.specs.declared.listeners.Serve.{Serve}
@@ -18,14 +18,14 @@ use Rattle.ev_mentions.specs.Lives.{is_at}
 -- on a kind and name, and whether this version is kept for a kind and name
 pub record Answers : Type 0 where
   pub newest : Kind → List ℕ → Option Live
-  pub holders : Host → List Live
+  pub holders : SocketAddress → List Live
   pub watched : Kind → List ℕ → Bool
   pub kept : Kind → List ℕ → List ℕ → Bool
 
 -- the answers are those of these live rows and versions, and what is asked for by name has no rows
 pub record Tells (answers : Answers) (kind : Kind) (lives : List Live) (versions : List KeptVersion) : Type 0 where
   pub newest : (k : Kind) (name : List ℕ) → answers.newest k name ≡ newest_of lives k name
-  pub holders : (address : Host) → answers.holders address ≡ filter (is_at address) lives
+  pub holders : (address : SocketAddress) → answers.holders address ≡ filter (is_at address) lives
   pub watched : (k : Kind) (name : List ℕ) → answers.watched k name ≡ is_watched lives k name
   pub kept : (k : Kind) (name version : List ℕ) → answers.kept k name version ≡ is_kept versions k name version
   pub apart : is_by_name kind ≡ true → AllByRecursion (λ (live : Live). kind_same live.kind kind ≡ false) lives

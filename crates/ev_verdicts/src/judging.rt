@@ -11,7 +11,7 @@ use crate::made::Made;
 use crate::rules::rule_of;
 use ev_keys::Keys;
 use ev_mentions::{LiveRow, Mentions};
-use ev_types::{Body, Content, Host, Item, Kind, Seq, Verdict};
+use ev_types::{Body, Content, Item, Kind, Seq, SocketAddress, Verdict};
 use std::alloc::{AllocError, Global};
 use std::hash::{DefaultHasher, Hash};
 
@@ -219,7 +219,7 @@ fn is_held<K: Known>(
     mentions: &Mentions<'_>,
     made: &Made<'_>,
     name: &str,
-    address: &Host,
+    address: &SocketAddress,
 ) -> Result<bool, AllocError>
     ensures { IfOk result (λ it. it ≡ is_held Lds mentions.now (K.answers known.now) made.now name.now address.now) }
 {

@@ -1,33 +1,33 @@
 ghost use Rattle.std.specs.Prelude.{◌≡◌};
 
-use ev_types::Host;
+use ev_types::SocketAddress;
 use std::hash::{Hash, Hasher};
 use std::marker::Model;
 
-/// An address and port as a key.
+/// Where a listener listens, as a key.
 #[derive(Drop)]
 pub(crate) struct AddressKey<'a> {
-    address: &'a Host,
+    address: &'a SocketAddress,
 }
 
 impl<'a> Model for AddressKey<'a> {
-    ghost use Rattle.ev_types.specs.declared.hosts.Host.{Host};
+    ghost use Rattle.ev_types.specs.declared.hosts.SocketAddress.{SocketAddress};
 
-    ghost Value = { Host };
+    ghost Value = { SocketAddress };
 
     ghost view = { λ k. k.address.now };
 }
 
 impl<'a> AddressKey<'a> {
     /// The key of this address.
-    pub(crate) fn new(address: &'a Host) -> AddressKey<'a>
+    pub(crate) fn new(address: &'a SocketAddress) -> AddressKey<'a>
         ensures { result ≡ address.now }
     {
         AddressKey { address }
     }
 
-    /// The address and port.
-    pub(crate) fn host(&self) -> &'a Host
+    /// Where it listens.
+    pub(crate) fn socket(&self) -> &'a SocketAddress
         ensures { result.now ≡ self.now }
     {
         self.address
@@ -36,33 +36,33 @@ impl<'a> AddressKey<'a> {
 
 impl<'a> PartialEq for AddressKey<'a> {
     ghost use Rattle.std.specs.Cmp.{decided, partial_equiv_from_equiv};
-    ghost use Rattle.ev_types.specs.SameHosts.{host_same, host_decides};
+    ghost use Rattle.ev_types.specs.SameHosts.{socket_same, socket_decides};
 
-    ghost eq = { host_same };
+    ghost eq = { socket_same };
 
-    ghost laws = { partial_equiv_from_equiv (decided host_same host_decides) };
+    ghost laws = { partial_equiv_from_equiv (decided socket_same socket_decides) };
 
     fn eq(&self, other: &AddressKey<'a>) -> bool {
-        self.host() == other.host()
+        self.socket() == other.socket()
     }
 }
 
 impl<'a> Eq for AddressKey<'a> {
     ghost use Rattle.std.specs.Cmp.{decided};
-    ghost use Rattle.ev_types.specs.SameHosts.{host_same, host_decides};
+    ghost use Rattle.ev_types.specs.SameHosts.{socket_same, socket_decides};
 
-    ghost laws = { decided host_same host_decides };
+    ghost laws = { decided socket_same socket_decides };
 }
 
 impl<'a> Hash for AddressKey<'a> {
     ghost use Rattle.std.proofs.Common.{ap};
-    ghost use Rattle.ev_types.specs.SameHosts.{host_hash_input, host_decides};
+    ghost use Rattle.ev_types.specs.SameHosts.{socket_hash_input, socket_decides};
 
-    ghost hash_input = { host_hash_input };
+    ghost hash_input = { socket_hash_input };
 
-    ghost respects_eq = { λ a b same. ap host_hash_input ((host_decides a b).0 same) };
+    ghost respects_eq = { λ a b same. ap socket_hash_input ((socket_decides a b).0 same) };
 
     fn hash<H: Hasher>(&self, state: &mut H) {
-        self.host().hash(state);
+        self.socket().hash(state);
     }
 }

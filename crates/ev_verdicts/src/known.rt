@@ -2,7 +2,7 @@ ghost use Rattle.std.specs.Prelude.{◌≡◌, IfOk};
 ghost use Rattle.ev_verdicts.specs.Known.{Answers};
 
 use ev_mentions::LiveRow;
-use ev_types::{Host, Kind};
+use ev_types::{Kind, SocketAddress};
 use std::alloc::{AllocError, Global};
 
 /// What is known before a response, asked by look-ups: which generations are live, which names they depend on, and which versions
@@ -17,7 +17,11 @@ pub trait Known {
 
     /// The live generations that listen at an address, in the order of their numbers. It is out of memory where the list has no
     /// room.
-    fn holders(&self, alloc: Global, address: &Host) -> Result<Vec<LiveRow<'_>>, AllocError>
+    fn holders(
+        &self,
+        alloc: Global,
+        address: &SocketAddress,
+    ) -> Result<Vec<LiveRow<'_>>, AllocError>
         ensures { IfOk result (λ rows. rows.items ≡ (answers self.now).holders address.now) };
 
     /// Whether a live generation depends on this kind and name.

@@ -1,5 +1,5 @@
 ghost use Rattle.std.specs.Prelude.{◌≡◌, [], Some, false, option_map, IfOk};
-ghost use Rattle.ev_types.specs.declared.hosts.Host.{Host};
+ghost use Rattle.ev_types.specs.declared.hosts.SocketAddress.{SocketAddress};
 ghost use Rattle.ev_verdicts.specs.Judged.{has_other, is_made, names_at, with_made};
 ghost use Rattle.ev_verdicts.specs.Made.{AddsName, AddsAt};
 
@@ -7,7 +7,7 @@ use crate::addresses::address_of;
 use crate::keys::AddressKey;
 use ev_keys::Keys;
 use ev_mentions::NameKey;
-use ev_types::{Content, Host, Seq};
+use ev_types::{Content, Seq, SocketAddress};
 use indexmap::IndexMap;
 use std::alloc::{AllocError, Global};
 use std::marker::Model;
@@ -54,7 +54,7 @@ impl<'a> Made<'a> {
     }
 
     /// Whether one of another name that was made listens at the address.
-    pub(crate) fn has_another_at(&self, address: &Host, name: &str) -> bool
+    pub(crate) fn has_another_at(&self, address: &SocketAddress, name: &str) -> bool
         ensures { result ≡ has_other name.now (names_at address.now self.now) }
     {
         let _ = &self.names;
@@ -94,7 +94,7 @@ fn has_other(names: &[NameKey<'_>], name: &str) -> bool
 fn with_name<'a>(
     table: Names<'a>,
     name: &'a str,
-    address: Option<&'a Host>,
+    address: Option<&'a SocketAddress>,
 ) -> Result<Names<'a>, AllocError>
     requires absent { is_made table.entries name.now ≡ false }
     ensures { IfOk result (λ new. AddsName table.entry new name.now (option_map (λ a. a.now) address.entry)) }
@@ -107,7 +107,7 @@ fn with_name<'a>(
 }
 
 // The key of an address, where there is one.
-fn key_of(address: Option<&Host>) -> Option<AddressKey<'_>>
+fn key_of(address: Option<&SocketAddress>) -> Option<AddressKey<'_>>
     ensures { result ≡ option_map (λ a. a.now) address.entry }
 {
     match address {
@@ -121,7 +121,7 @@ fn with_address<'a>(
     alloc: Global,
     table: Addresses<'a>,
     name: &'a str,
-    address: Option<&'a Host>,
+    address: Option<&'a SocketAddress>,
 ) -> Result<Addresses<'a>, AllocError>
     ensures { IfOk result (λ new. AddsAt table.entry new name.now (option_map (λ a. a.now) address.entry)) }
 {
@@ -136,7 +136,7 @@ fn with_name_at<'a>(
     alloc: Global,
     table: Addresses<'a>,
     name: &'a str,
-    address: &'a Host,
+    address: &'a SocketAddress,
 ) -> Result<Addresses<'a>, AllocError>
     ensures { IfOk result (λ new. AddsAt table.entry new name.now (Some address.now)) }
 {

@@ -10,7 +10,7 @@ use Rattle.ev_types.specs.declared.rows.Arrival.{Arrival}
 use Rattle.ev_types.specs.declared.rows.Arrival.TheVariants.{Value, Absent, Bad, TimedOut, Ended}
 use Rattle.ev_types.specs.declared.rows.RowStatus.{RowStatus}
 use Rattle.ev_types.specs.declared.rows.RowStatus.TheVariants.{Warming, Active, Draining, Dropped}
-use Rattle.ev_types.specs.declared.hosts.Host.{Host}
+use Rattle.ev_types.specs.declared.hosts.SocketAddress.{SocketAddress}
 use Rattle.ev_types.specs.declared.rows.GenRow.{GenRow}
 use Rattle.ev_model.specs.Rows.{removed_status}
 use Rattle.ev_model.specs.Watching.{dependencies_of}
@@ -231,7 +231,7 @@ module _ (s : State) (number : ℕ) (row : GenRow) (status : RowStatus) (x : IsI
         by f stays false = refl
 
     -- the list of those that hold an address
-    holders_less : (a : Host) → numbers_at addresses a ≡ numbers_where (holds a) table.rows
+    holders_less : (a : SocketAddress) → numbers_at addresses a ≡ numbers_where (holds a) table.rows
     holders_less a =
         released a ∙ by (listens_at a row.content) refl
         ∙ sym (ap (numbers_where (holds a)) rows ∙ where-left (holds a) number status (λ r. ap (λ b. b && listens_at a r.content) ended) s.table.rows)

@@ -1,6 +1,6 @@
 -- Filter chains of a listener, as Envoy reads them.
 use Rattle.std.proofs.Common.{◌≡◌, ◌∙◌, ap, refl}
-use Rattle.std.specs.Prelude.{◌||◌, ◌&&◌, ◌==◌, [], ◌∷◌, length, map, not, if◌then◌else◌, None, Some, codes}
+use Rattle.std.specs.Prelude.{◌||◌, ◌&&◌, ◌==◌, Bool, [], ◌∷◌, length, map, not, if◌then◌else◌, None, Some, codes}
 use Rattle.serde_json.specs.Data.{Data}
 use Rattle.ev_types.specs.FilterChains.{has_collision}
 use Rattle.ev_types.specs.declared.events.Profile.TheVariants.{Envoy}
@@ -127,19 +127,19 @@ has_default-whole tree = object-is_given (codes "default_filter_chain") tree
 given_chains_of : (tree : Data) → map envoy_chain_of (chains_of (whole tree)) ≡ map envoy_chain_of (chains_of tree)
 given_chains_of tree = ap (map envoy_chain_of) (chains_of-whole tree) ∙ map-whole envoy_chain_of envoy_chain_of-whole (chains_of tree)
 
-given_chains_broken-whole : (tree : Data) → given_chains_broken (whole tree) ≡ given_chains_broken tree
+given_chains_broken-whole : (udp : Bool) (tree : Data) → given_chains_broken udp (whole tree) ≡ given_chains_broken udp tree
 unfolding given_chains_broken
-given_chains_broken-whole tree = λ i.
+given_chains_broken-whole udp tree = λ i.
     either_broken ((ap (any_broken envoy_chain_broken) (chains_of-whole tree) ∙ any_broken-whole envoy_chain_broken envoy_chain_broken-whole (chains_of tree)) i)
     (either_broken (default_broken-whole tree i) (record none_broken {
       v6 = objects-is_wrong (codes "filter_chains") tree i || object-is_wrong (codes "default_filter_chain") tree i;
-      v16 = ((ap length (chains_of-whole tree) ∙ length-whole (chains_of tree)) i == 0) && not (has_default-whole tree i);
+      v16 = ((ap length (chains_of-whole tree) ∙ length-whole (chains_of tree)) i == 0) && not (has_default-whole tree i) && not udp;
       v26 = has_collision (map (λ (c : FilterChain). c.criteria) (given_chains_of tree i));
     }))
 
-pub envoy_chains_broken-whole : (tree : Data) → envoy_chains_broken (whole tree) ≡ envoy_chains_broken tree
+pub envoy_chains_broken-whole : (udp : Bool) (tree : Data) → envoy_chains_broken udp (whole tree) ≡ envoy_chains_broken udp tree
 unfolding envoy_chains_broken
-envoy_chains_broken-whole tree = λ i. if has_api-whole tree i then api_broken-whole tree i else given_chains_broken-whole tree i
+envoy_chains_broken-whole udp tree = λ i. if has_api-whole tree i then api_broken-whole tree i else given_chains_broken-whole udp tree i
 
 pub envoy_chains_of-whole : (tree : Data) → envoy_chains_of (whole tree) ≡ envoy_chains_of tree
 unfolding envoy_chains_of

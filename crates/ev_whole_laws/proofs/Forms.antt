@@ -10,8 +10,8 @@ use Rattle.ev_tree.specs.declared.outcome.Found.TheVariants.{Absent, Wrong, Give
 use Rattle.ev_tree.specs.declared.span.Span.{Span}
 use Rattle.ev_tree.specs.declared.tables.EnumTable.{EnumTable}
 use Rattle.ev_tree.specs.Spelling.{camel_of}
-use Rattle.ev_tree.specs.Scalars.{u32_in, list_in, elements_of, span_of, enum_in}
-use Rattle.ev_tree.specs.Forms.{found_map, is_wrong, is_given, is_absent, inside, listed, present_member, value_or_absent, either_spelling, field_of, value_or_wrong, in_form, object_in, is_object, is_text, objects_in, texts_in, text_of, number_of, boolean_of, duration_of, object_of, list_of, objects_of, texts_of, enumeration_of, text_in}
+use Rattle.ev_tree.specs.Scalars.{u32_in, i64_in, list_in, elements_of, span_of, enum_in}
+use Rattle.ev_tree.specs.Forms.{found_map, is_wrong, is_given, is_absent, inside, listed, present_member, value_or_absent, either_spelling, field_of, value_or_wrong, in_form, object_in, is_object, is_text, objects_in, texts_in, text_of, number_of, integer_of, boolean_of, duration_of, object_of, list_of, objects_of, texts_of, enumeration_of, text_in}
 use Rattle.ev_tree.specs.Floats.{whole, whole_items}
 use Rattle.ev_whole_laws.proofs.Parts.{is_wrong-map, is_given-map, is_absent-map, inside-map, listed-map, get-whole, as_bool-whole, as_str-whole, as_array-whole, elements_of-whole, list_all-whole}
 
@@ -31,6 +31,21 @@ u32_in-whole (number n) = number_in n
 u32_in-whole (string s) = refl
 u32_in-whole (array ds) = refl
 u32_in-whole (object ms) = refl
+
+integer_in : (n : Num) → i64_in (whole (number n)) ≡ i64_in (number n)
+unfolding i64_in
+integer_in (unsigned n) = refl
+integer_in (negative z) = refl
+integer_in (float x) = refl
+
+i64_in-whole : (tree : Data) → i64_in (whole tree) ≡ i64_in tree
+unfolding i64_in
+i64_in-whole null = refl
+i64_in-whole (boolean b) = refl
+i64_in-whole (number n) = integer_in n
+i64_in-whole (string s) = refl
+i64_in-whole (array ds) = refl
+i64_in-whole (object ms) = refl
 
 listed_number : (table : EnumTable) (n : Num) → enum_in table (whole (number n)) ≡ enum_in table (number n)
 unfolding enum_in
@@ -151,6 +166,10 @@ text_of-whole name tree = ap (in_form as_str) (field_of-whole name tree) ∙ sam
 pub number_of-whole : (name : List ℕ) (tree : Data) → number_of name (whole tree) ≡ number_of name tree
 unfolding number_of
 number_of-whole name tree = ap (in_form u32_in) (field_of-whole name tree) ∙ same_given u32_in u32_in-whole (field_of name tree)
+
+pub integer_of-whole : (name : List ℕ) (tree : Data) → integer_of name (whole tree) ≡ integer_of name tree
+unfolding integer_of
+integer_of-whole name tree = ap (in_form i64_in) (field_of-whole name tree) ∙ same_given i64_in i64_in-whole (field_of name tree)
 
 pub boolean_of-whole : (name : List ℕ) (tree : Data) → boolean_of name (whole tree) ≡ boolean_of name tree
 unfolding boolean_of

@@ -14,6 +14,7 @@ pub mod Tables
 pub mod Members
 pub mod Managers
 pub mod Filters
+pub mod ListenerFilters
 pub mod ChainMatches
 pub mod Chains
 pub mod Listeners

@@ -13,6 +13,7 @@ use Rattle.ev_types.specs.declared.events.Ask.{Ask}
 use Rattle.ev_types.specs.declared.events.Event.{Event}
 use Rattle.ev_types.specs.declared.events.Event.TheVariants.{Response, Health, FetchTimeout, DrainTimeout, TtlExpired, Accept, Close, Settle}
 use Rattle.ev_types.specs.declared.events.Line.{Line}
+use Rattle.ev_types.specs.declared.events.Peer.{Peer}
 use Rattle.ev_types.specs.declared.events.Profile.{Profile}
 use Rattle.ev_types.specs.declared.events.Profile.TheVariants.{Own}
 use Rattle.ev_wire.specs.Responses.{response_of}
@@ -26,6 +27,7 @@ use Rattle.ev_script.specs.HealthLines.{health_in, health_line}
 use Rattle.ev_script.specs.TimerLines.{timeout_of, timeout_line, drain_line, expired_in, expired_line}
 use Rattle.ev_script.specs.MainLines.{publish_line, reap_line}
 use Rattle.ev_script.specs.Headers.{headers_of}
+use Rattle.ev_script.specs.Peers.{peer_of, peer_in, maybe_peer_in, peer_at, ends_in}
 use Rattle.ev_script.specs.Asks.{conn_in, pick_in, server_name_in, tls_in, alpn_in, handshake_in, named_host_in, path_in, headers_in, request_in, ask_in}
 use Rattle.ev_script.specs.WorkerLines.{worker_in, worker_line, accept_members, accept_in, accept_line, close_line, settle_line}
 use Rattle.ev_script.specs.Lines.{main_side_line, line_by, line_of}
@@ -176,8 +178,21 @@ headers_in-whole tree = member_or-whole [] headers_of headers_of-whole (codes "h
 request_in-whole : (tree : Data) → request_in (whole tree) ≡ request_in tree
 request_in-whole tree = of_three _ (named_host_in-whole tree) (path_in-whole tree) (headers_in-whole tree)
 
+peer_in-whole : (tree : Data) → peer_in (whole tree) ≡ peer_in tree
+peer_in-whole tree = λ i.
+    cond (has_only-whole (codes "address" ∷ codes "port" ∷ []) tree i) (option_map peer_of (host_in-whole tree i)) None
+
+maybe_peer_in-whole : (tree : Data) → maybe_peer_in (whole tree) ≡ maybe_peer_in tree
+maybe_peer_in-whole tree = λ i. option_map (λ (peer : Peer). Some peer) (peer_in-whole tree i)
+
+peer_at-whole : (name : List ℕ) (tree : Data) → peer_at name (whole tree) ≡ peer_at name tree
+peer_at-whole name tree = member_or-whole None maybe_peer_in maybe_peer_in-whole name tree
+
+ends_in-whole : (tree : Data) → ends_in (whole tree) ≡ ends_in tree
+ends_in-whole tree = of_three _ (host_in-whole tree) (peer_at-whole (codes "source") tree) (peer_at-whole (codes "redirectedTo") tree)
+
 ask_in-whole : (tree : Data) → ask_in (whole tree) ≡ ask_in tree
-ask_in-whole tree = of_five _ (conn_in-whole tree) (host_in-whole tree) (handshake_in-whole tree) (request_in-whole tree) (pick_in-whole tree)
+ask_in-whole tree = of_five _ (conn_in-whole tree) (ends_in-whole tree) (handshake_in-whole tree) (request_in-whole tree) (pick_in-whole tree)
 
 pub worker_line-whole : (at : ℕ) (there here : Option Event) (tree : Data) → there ≡ here → worker_line at there (whole tree) ≡ worker_line at here tree
 worker_line-whole at there here tree same = λ i. option_and_then (λ (worker : ℕ). line_at at (Worker worker) (same i)) (worker_in-whole tree i)

@@ -12,13 +12,14 @@ use Rattle.ev_tree.specs.Rules.{judged, is_name}
 use Rattle.ev_tree.specs.Broken.{none_broken, either_broken, any_broken, least_of}
 use Rattle.ev_listener_json.specs.Parts.{first_of}
 use Rattle.ev_listener_json.specs.Filters.{chain_serve, chain_broken}
-use Rattle.ev_listener_json.specs.Chains.{chains_of, no_criteria}
-use Rattle.ev_listener_json.specs.Listeners.{listener_name, is_udp, serve_of, own_listener_broken, own_listener_of, lacks_address, named_with, named_address, listening_text, listening_port, is_unusable, has_bad_address, is_every_address, envoy_parts_broken, envoy_listener_of, listener_broken, listener_of, listener_reading}
+use Rattle.ev_listener_json.specs.Chains.{chains_of, no_criteria, envoy_chains_broken}
+use Rattle.ev_listener_json.specs.Listeners.{listener_name, is_udp, serve_of, own_listener_broken, own_listener_of, lacks_address, named_with, named_address, listening_text, listening_port, is_unusable, listens_by_udp, has_bad_address, is_every_address, envoy_self_broken, envoy_listener_of, listener_broken, listener_of, listener_reading}
 use Rattle.ev_tree.specs.Floats.{whole}
 use Rattle.ev_whole_laws.proofs.Addresses.{address_broken-whole, address_text_of-whole, any_address_broken-whole, any_port_of-whole, any_text_of-whole, port_of-whole, socket_of-whole}
 use Rattle.ev_whole_laws.proofs.Texts.{body_text_of-whole}
 use Rattle.ev_whole_laws.proofs.Chains.{chains_of-whole, envoy_chains_broken-whole, envoy_chains_of-whole, envoy_default_of-whole, has_api-whole}
 use Rattle.ev_whole_laws.proofs.Filters.{chain_broken-whole, chain_serve-whole}
+use Rattle.ev_whole_laws.proofs.ListenerFilters.{hands_over-whole, redirection_broken-whole, restores-whole}
 use Rattle.ev_whole_laws.proofs.Forms.{enumeration_of-whole, object-is_absent, object-is_given, object-is_wrong, objects-is_wrong, text_of-whole}
 use Rattle.ev_whole_laws.proofs.Parts.{any_broken-whole, length-whole, map-whole}
 
@@ -60,8 +61,10 @@ own_listener_broken-whole tree = λ i. either_broken ((ap (any_broken chain_brok
 own_listener_of-whole : (tree : Data) → own_listener_of (whole tree) ≡ own_listener_of tree
 own_listener_of-whole tree = λ i. record {
   name = name_of-whole tree i;
-  address = record { address = address_text_of-whole tree i; port = port_of-whole tree i };
+  address = record { host = record { address = address_text_of-whole tree i; port = port_of-whole tree i }; udp = false };
   takes_every_address = false;
+  restores = false;
+  hands_over = false;
   filter_chains = record { criteria = no_criteria; serve = serve_of-whole tree i } ∷ [];
   default_filter_chain = None;
   body_text = body_text_of-whole Own tree i;
@@ -87,23 +90,34 @@ listening_port-whole tree = λ i. port_unless (lacks_address-whole tree i) (any_
 has_bad_address-whole : (tree : Data) → has_bad_address (whole tree) ≡ has_bad_address tree
 has_bad_address-whole tree = λ i. is_unusable (lacks_address-whole tree i) (listening_text-whole tree i) (any_address_broken-whole tree i).v12
 
-envoy_parts_broken-whole : (tree : Data) → envoy_parts_broken (whole tree) ≡ envoy_parts_broken tree
-unfolding envoy_parts_broken
-envoy_parts_broken-whole tree = λ i. record none_broken {
+envoy_self_broken-whole : (tree : Data) → envoy_self_broken (whole tree) ≡ envoy_self_broken tree
+unfolding envoy_self_broken
+envoy_self_broken-whole tree = λ i. record none_broken {
   v3 = not (is_wrong (text_of-whole (codes "name") tree i)) && not (is_name (name_of-whole tree i));
   v6 =
       is_wrong (text_of-whole (codes "name") tree i)
       || (any_address_broken-whole tree i).v6
       || protocol_wrong tree i
       || object-is_wrong (codes "internal_listener") tree i;
-  v14 = has_bad_address-whole tree i || is_udp (protocol_found tree i);
+  v14 = has_bad_address-whole tree i;
 }
+
+listens_by_udp-whole : (tree : Data) → listens_by_udp (whole tree) ≡ listens_by_udp tree
+unfolding listens_by_udp
+listens_by_udp-whole tree = ap is_udp (protocol_found tree)
+
+-- what its chains break
+chains_broken-whole : (tree : Data) → envoy_chains_broken (listens_by_udp (whole tree)) (whole tree) ≡ envoy_chains_broken (listens_by_udp tree) tree
+chains_broken-whole tree =
+    ap (λ udp. envoy_chains_broken udp (whole tree)) (listens_by_udp-whole tree) ∙ envoy_chains_broken-whole (listens_by_udp tree) tree
 
 envoy_listener_of-whole : (tree : Data) → envoy_listener_of (whole tree) ≡ envoy_listener_of tree
 envoy_listener_of-whole tree = λ i. record {
   name = name_of-whole tree i;
-  address = record { address = listening_text-whole tree i; port = listening_port-whole tree i };
+  address = record { host = record { address = listening_text-whole tree i; port = listening_port-whole tree i }; udp = listens_by_udp-whole tree i };
   takes_every_address = is_every_address (listening_text-whole tree i);
+  restores = restores-whole tree i;
+  hands_over = hands_over-whole tree i;
   filter_chains = envoy_chains_of-whole tree i;
   default_filter_chain = envoy_default_of-whole tree i;
   body_text = body_text_of-whole Envoy tree i;
@@ -113,7 +127,7 @@ envoy_listener_of-whole tree = λ i. record {
 
 pub listener_broken-whole : (profile : Profile) (tree : Data) → listener_broken profile (whole tree) ≡ listener_broken profile tree
 listener_broken-whole Own tree = own_listener_broken-whole tree
-listener_broken-whole Envoy tree = λ i. either_broken (envoy_chains_broken-whole tree i) (envoy_parts_broken-whole tree i)
+listener_broken-whole Envoy tree = λ i. either_broken (chains_broken-whole tree i) (either_broken (redirection_broken-whole tree i) (envoy_self_broken-whole tree i))
 
 pub listener_of-whole : (profile : Profile) (tree : Data) → listener_of profile (whole tree) ≡ listener_of profile tree
 listener_of-whole Own tree = own_listener_of-whole tree

@@ -29,7 +29,7 @@ use Rattle.ev_tree.proofs.Unions.{least_none}
 use Rattle.ev_cluster_json.specs.Clusters.{cluster_reading, cluster_of, cluster_broken, cluster_own_broken, name_of}
 use Rattle.ev_cluster_json.specs.Assignments.{assignment_reading}
 use Rattle.ev_route_json.specs.Tables.{table_reading}
-use Rattle.ev_listener_json.specs.Listeners.{listener_reading, listener_of, listener_broken, own_listener_broken, envoy_parts_broken, envoy_listener_broken, listener_name}
+use Rattle.ev_listener_json.specs.Listeners.{listener_reading, listener_of, listener_broken, own_listener_broken, envoy_self_broken, envoy_listener_broken, listener_name}
 use Rattle.ev_wire.specs.Bodies.{is_positive, is_heartbeat, is_of_type, breaks_v3, own_broken, differs, name_field, resource_of, body_of, body_with, content_of, content_with}
 
 -- no body is of no type
@@ -134,11 +134,11 @@ cluster_own profile name body same cluster h =
 
 -- the same of a listener
 listener_named : (profile : Profile) (body : Data) → least_of (listener_broken profile body) ≡ None → is_wrong (text_of (codes "name") body) ≡ false
-unfolding own_listener_broken envoy_parts_broken
+unfolding own_listener_broken envoy_self_broken
 listener_named Own body h =
     or_first _ _ (or_first _ _ (or_first _ _ (or_first _ _ (or_second _ _ (ap (λ (b : BrokenRules). b.v6) (least_none (own_listener_broken body) h))))))
 listener_named Envoy body h =
-    or_first _ _ (or_first _ _ (or_first _ _ (or_second _ _ (ap (λ (b : BrokenRules). b.v6) (least_none (envoy_listener_broken body) h)))))
+    or_first _ _ (or_first _ _ (or_first _ _ (or_second _ _ (or_second _ _ (ap (λ (b : BrokenRules). b.v6) (least_none (envoy_listener_broken body) h))))))
 
 -- its name is the one that is read
 named_as_read : (profile : Profile) (body : Data) → (listener_of profile body).name ≡ listener_name body

@@ -21,6 +21,8 @@ fn accept(alloc: Global, worker: &mut Worker) -> Result<(), Fail> {
         conn: 1,
         address: Host { address, port: 80 },
         ip: None,
+        source: None,
+        redirected_to: None,
         server_name,
         tls: false,
         alpn: Seq::new(alloc),

@@ -1,7 +1,7 @@
 use ev_route_json::{read_routes, read_target};
 use ev_types::{
-    Action, HeaderMatcher, HeaderTest, PathMatch, PathSpecifier, Profile, RouteCondition,
-    RouteMatch, RouteTable, StringMatcher, StringPattern, Target,
+    Action, HeaderMatcher, HeaderTest, PathMatch, PathSpecifier, Profile, QueryParameterMatcher,
+    QueryTest, RouteCondition, RouteMatch, RouteTable, StringMatcher, StringPattern, Target,
 };
 use serde_json::Value;
 use std::alloc::{AllocError, Global};
@@ -61,17 +61,18 @@ fn describe_pattern(text: &mut String, pattern: &StringPattern) -> Result<(), Al
     text.push_str(pattern.as_str())
 }
 
+// A string matcher as text.
+fn describe_matcher(text: &mut String, matcher: &StringMatcher) -> Result<(), AllocError> {
+    describe_pattern(text, &matcher.pattern)?;
+    text.push_str(if matcher.ignore_case { " folded" } else { "" })
+}
+
 // What is asked of a header's value, as text.
-fn describe_test(text: &mut String, test: &HeaderTest) -> Result<(), AllocError> {
+fn describe_test(alloc: Global, text: &mut String, test: &HeaderTest) -> Result<(), AllocError> {
     match test {
-        HeaderTest::Text(
-            StringMatcher {
-                pattern,
-                ignore_case,
-            },
-        ) => {
-            describe_pattern(text, pattern)?;
-            text.push_str(if *ignore_case { " folded" } else { "" })
+        HeaderTest::Text(matcher) => describe_matcher(text, matcher),
+        HeaderTest::Range { start, end } => {
+            text.push_str(format!(in alloc; " from {start} below {end}")?.as_str())
         }
         HeaderTest::Present => text.push_str(" present"),
         HeaderTest::Open => text.push_str(" open"),
@@ -79,9 +80,13 @@ fn describe_test(text: &mut String, test: &HeaderTest) -> Result<(), AllocError>
 }
 
 // What is asked of a header, as text.
-fn describe_header(text: &mut String, header: &HeaderMatcher) -> Result<(), AllocError> {
+fn describe_header(
+    alloc: Global,
+    text: &mut String,
+    header: &HeaderMatcher,
+) -> Result<(), AllocError> {
     text.push_str(header.name.as_str())?;
-    describe_test(text, &header.test)?;
+    describe_test(alloc, text, &header.test)?;
     text.push_str(if header.invert_match { " inverted" } else { "" })?;
     text.push_str(if header.treat_missing_header_as_empty {
         " or empty"
@@ -90,21 +95,41 @@ fn describe_header(text: &mut String, header: &HeaderMatcher) -> Result<(), Allo
     })
 }
 
+// What is asked of a query parameter, as text.
+fn describe_query(text: &mut String, parameter: &QueryParameterMatcher) -> Result<(), AllocError> {
+    text.push_str("query ")?;
+    text.push_str(parameter.name.as_str())?;
+    match &parameter.test {
+        QueryTest::Text(matcher) => describe_matcher(text, matcher),
+        QueryTest::Present(there) => text.push_str(if *there { " present" } else { " absent" }),
+        QueryTest::Open => text.push_str(" open"),
+    }
+}
+
 // A condition as text.
-fn describe_condition(text: &mut String, condition: &RouteCondition) -> Result<(), AllocError> {
+fn describe_condition(
+    alloc: Global,
+    text: &mut String,
+    condition: &RouteCondition,
+) -> Result<(), AllocError> {
     match condition {
-        RouteCondition::Header(header) => describe_header(text, header),
+        RouteCondition::Header(header) => describe_header(alloc, text, header),
+        RouteCondition::Query(parameter) => describe_query(text, parameter),
         RouteCondition::Grpc => text.push_str("grpc"),
         RouteCondition::Open => text.push_str("open"),
     }
 }
 
 // A match as text: its path, and each condition after `if`.
-fn describe_match(text: &mut String, matched: &RouteMatch) -> Result<(), AllocError> {
+fn describe_match(
+    alloc: Global,
+    text: &mut String,
+    matched: &RouteMatch,
+) -> Result<(), AllocError> {
     describe_specifier(text, &matched.path)?;
     for condition in matched.conditions.as_slice() {
         text.push_str(" if ")?;
-        describe_condition(text, condition)?;
+        describe_condition(alloc, text, condition)?;
     }
     Ok(())
 }
@@ -130,7 +155,7 @@ fn describe(alloc: Global, table: &RouteTable) -> Result<String, AllocError> {
         }
         for route in host.routes.as_slice() {
             text.push_str("; ")?;
-            describe_match(&mut text, &route.route_match)?;
+            describe_match(alloc, &mut text, &route.route_match)?;
             text.push_str(" -> ")?;
             describe_action(alloc, &mut text, &route.action)?;
         }
@@ -281,13 +306,34 @@ pub(crate) const ENVOY_ROUTES: &str = r#"[
   ["h *; prefix / if a exact  inverted -> redirect\n", {"match":{"prefix":"/","headers":[{"name":"a","exact_match":"","invert_match":true}]},"redirect":{}}],
   ["h *; prefix / if a present inverted if b present -> redirect\n", {"match":{"prefix":"/","headers":[{"name":"a","present_match":false},{"name":"b","presentMatch":false,"invertMatch":true}]},"redirect":{}}],
   ["h *; prefix / if a prefix B folded or empty -> redirect\n", {"match":{"prefix":"/","headers":[{"name":"a","stringMatch":{"prefix":"B","ignoreCase":true},"treat_missing_header_as_empty":true}]},"redirect":{}}],
-  ["h *; prefix / if a open if b open -> redirect\n", {"match":{"prefix":"/","headers":[{"name":"a","range_match":{}},{"name":"b","string_match":{"custom":{}}}]},"redirect":{}}],
-  ["h *; prefix / if a present if grpc if open -> redirect\n", {"match":{"prefix":"/","grpc":{},"query_parameters":[{}],"tls_context":{},"headers":[{"name":"a"}]},"redirect":{}}],
+  ["h *; prefix / if a open if b open -> redirect\n", {"match":{"prefix":"/","headers":[{"name":"a","safe_regex_match":{}},{"name":"b","string_match":{"custom":{}}}]},"redirect":{}}],
+  ["h *; prefix / if a from 0 below 0 if b from -3 below 7 inverted -> redirect\n", {"match":{"prefix":"/","headers":[{"name":"a","range_match":{}},{"name":"b","rangeMatch":{"start":"-3","end":7},"invert_match":true}]},"redirect":{}}],
+  ["h *; prefix / if a from -9223372036854775808 below 9223372036854775807 -> redirect\n", {"match":{"prefix":"/","headers":[{"name":"a","range_match":{"start":"-9223372036854775808","end":9223372036854775807}}]},"redirect":{}}],
+  ["h *; prefix / if a from 7 below -7 -> redirect\n", {"match":{"prefix":"/","headers":[{"name":"a","range_match":{"start":"0000000000000000007","end":"-07"}}]},"redirect":{}}],
+  ["h *; prefix / if query Q exact  folded if query b present if query c absent if query d open -> redirect\n", {"match":{"prefix":"/","queryParameters":[{"name":"Q","stringMatch":{"exact":"","ignoreCase":true}},{"name":"b"},{"name":"c","present_match":false},{"name":"d","string_match":{"safe_regex":{}}}]},"redirect":{}}],
+  ["h *; prefix / if a present if query b present if grpc if open -> redirect\n", {"match":{"prefix":"/","grpc":{},"query_parameters":[{"name":"b","presentMatch":true}],"tls_context":{},"headers":[{"name":"a"}]},"redirect":{}}],
   ["h *; prefix / -> redirect\n", {"match":{"prefix":"/","headers":[],"query_parameters":[],"filter_state":null},"redirect":{}}],
   ["V6", {"match":{"safe_regex":1},"redirect":{}}],
   ["V6", {"match":{"prefix":"/","headers":{}},"redirect":{}}],
   ["V6", {"match":{"prefix":"/","headers":[{"name":"a","string_match":{"contains":1}}]},"redirect":{}}],
+  ["V6", {"match":{"prefix":"/","headers":[{"name":"a","range_match":{"start":-1}}]},"redirect":{}}],
+  ["V6", {"match":{"prefix":"/","headers":[{"name":"a","range_match":{"start":-0}}]},"redirect":{}}],
+  ["V6", {"match":{"prefix":"/","headers":[{"name":"a","range_match":{"end":9223372036854775808}}]},"redirect":{}}],
+  ["V6", {"match":{"prefix":"/","headers":[{"name":"a","range_match":{"end":"9223372036854775808"}}]},"redirect":{}}],
+  ["V6", {"match":{"prefix":"/","headers":[{"name":"a","range_match":{"start":"-9223372036854775809"}}]},"redirect":{}}],
+  ["V6", {"match":{"prefix":"/","headers":[{"name":"a","range_match":{"start":"+1"}}]},"redirect":{}}],
+  ["V6", {"match":{"prefix":"/","headers":[{"name":"a","range_match":{"start":"-"}}]},"redirect":{}}],
+  ["V6", {"match":{"prefix":"/","headers":[{"name":"","range_match":{"end":"00000000000000000001"}}]},"redirect":{}}],
+  ["V6", {"match":{"prefix":"/","query_parameters":{}},"redirect":{}}],
+  ["V6", {"match":{"prefix":"/","query_parameters":[{"name":1}]},"redirect":{}}],
+  ["V6", {"match":{"prefix":"/","query_parameters":[{"name":"","string_match":""}]},"redirect":{}}],
+  ["V6", {"match":{"prefix":"/","query_parameters":[{"name":"a","present_match":"true"}]},"redirect":{}}],
+  ["V6", {"match":{"prefix":"/","query_parameters":[{"name":"a","presentMatch":true,"present_match":true}]},"redirect":{}}],
   ["V6", {"match":{"prefix":"/","runtime_fraction":false},"redirect":{}}],
+  ["V21", {"match":{"prefix":"/","query_parameters":[{}]},"redirect":{}}],
+  ["V21", {"match":{"prefix":"/","query_parameters":[{"name":"a"},{"name":""}]},"redirect":{}}],
+  ["V21", {"match":{"prefix":"/","query_parameters":[{"name":"a","string_match":{"exact":"b"},"present_match":false}]},"redirect":{}}],
+  ["V21", {"match":{"prefix":"/","query_parameters":[{"name":"a","string_match":{"prefix":""}}]},"redirect":{}}],
   ["V21", {"match":{"prefix":"/","connect_matcher":{}},"redirect":{}}],
   ["V21", {"match":{"prefix":"/","headers":[{"name":""}]},"redirect":{}}],
   ["V21", {"match":{"prefix":"/","headers":[{"name":"a","suffix_match":""}]},"redirect":{}}],

@@ -69,7 +69,7 @@ const ENVOY_TABLES: [(Reader, usize, &str); 10] = [
     (Reader::Body, 2, BODIES),
     (Reader::Cluster, 11, ENVOY_CLUSTERS),
     (Reader::Assignment, 3, ENVOY_ASSIGNMENTS),
-    (Reader::Route, 25, ENVOY_ROUTES),
+    (Reader::Route, 46, ENVOY_ROUTES),
     (Reader::Target, 9, ENVOY_TARGETS),
     (Reader::ListenerMembers, 24, ENVOY_LISTENERS),
     (Reader::Manager, 6, ENVOY_MANAGERS),

@@ -20,7 +20,10 @@ returns-clause-value c =
       server_names = (c.from_vec-2.ensures.elements ∙ names) i;
       transport_protocol = (c.in_ok-filled_text.ensures ∙ ap filled_text transport) i;
       application_protocols = (c.from_vec-3.ensures.elements ∙ protocols) i;
-      asks_source = c.in_ok-source.ensures.value i;
+      direct_source_prefix_ranges = (c.in_ok-sources.ensures.value i).direct_ranges;
+      source_type = (c.in_ok-sources.ensures.value i).source_type;
+      source_prefix_ranges = (c.in_ok-sources.ensures.value i).ranges;
+      source_ports = (c.in_ok-sources.ensures.value i).ports;
     }
 
 pub returns-clause-broken : goal.returns-clause-broken
@@ -29,7 +32,7 @@ returns-clause-broken c =
     let ranges = c.elements.ensures ∙ ap listed c.in_ok-ranges.ensures.value in
     let below = c.in_ok-below.ensures.broken ∙ ap (any_broken cidr_range_broken) ranges in
     let names = c.in_ok-server_names.ensures ∙ ap (map lower_text_in) (c.elements-2.ensures ∙ ap listed c.in_ok-names.ensures.value) in
-    c.or-2.ensures ∙ (λ i. either_broken (below i) ((c.or.ensures ∙ (λ j. either_broken (c.in_ok-source.ensures.broken j) (record (c.none.ensures j) {
+    c.or-2.ensures ∙ (λ i. either_broken (below i) ((c.or.ensures ∙ (λ j. either_broken (c.in_ok-sources.ensures.broken j) (record (c.none.ensures j) {
       v6 = or_same (or_same (or_same (or_same (or_same
           (c.is_wrong.ensures ∙ ap is_wrong c.in_ok-port.ensures)
           (c.is_no_destination.ensures ∙ ap is_no_destination c.in_ok-port.ensures))

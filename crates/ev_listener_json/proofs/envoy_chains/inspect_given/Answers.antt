@@ -1,4 +1,4 @@
-use Rattle.std.proofs.Common.{◌∙◌, ap, List, map, length, nat_eq, sym}
+use Rattle.std.proofs.Common.{◌∙◌, ◌&&◌, ap, List, map, length, nat_eq, not, sym}
 use Rattle.std.proofs.lemmas.List.{length-map}
 use Rattle.serde_json.specs.View.{view}
 use Rattle.ev_types.specs.FilterChains.{has_collision}
@@ -28,6 +28,6 @@ returns-clause-broken c =
       v6 = or_same (c.is_wrong.ensures ∙ c.in_ok-chains.ensures.wrong) (c.is_wrong-2.ensures ∙ c.in_ok-default.ensures.wrong) j;
       v16 = and_same
           (c.is_empty.ensures ∙ ap (λ n. nat_eq n 0) (sym (length-map c.elements-elements.result.now view) ∙ ap length chains))
-          (not_same (c.is_given.ensures ∙ c.in_ok-default.ensures.given)) j;
+          (not_same (c.is_given.ensures ∙ c.in_ok-default.ensures.given)) j && not c.args.udp;
       v26 = (c.in_ok-has_collision.ensures ∙ ap (λ (cs : List FilterChain). has_collision (map (λ (chain : FilterChain). chain.criteria) cs)) values) j;
     }))) i))

@@ -1,4 +1,4 @@
-use Rattle.std.proofs.Common.{◌≡◌, ◌∙◌, ◌++◌, ◌∷◌, [], None, Ok, ap, sym}
+use Rattle.std.proofs.Common.{◌≡◌, ◌∙◌, ◌++◌, ◌∷◌, [], None, Ok, false, ap, sym}
 use Rattle.serde_json.specs.View.{view}
 use Rattle.ev_tree.specs.Rules.{judged, is_name}
 use Rattle.ev_tree.specs.Broken.{least_of}
@@ -25,7 +25,7 @@ returns c =
     ap (λ rule. judged rule (own_listener_of tree)) none
     ∙ ap Ok (sym (λ i. record (own_listener_of tree) {
       name = (c.in_ok-make_name.ensures ∙ found.name) i;
-      address = host i;
+      address = record { host = host i; udp = false };
       filter_chains = chains i;
       body_text = c.in_ok-body_text.ensures i;
     }))

@@ -15,3 +15,9 @@ returns-clause-transports c = (refl, refl)
 
 pub returns-clause-protocols : goal.returns-clause-protocols
 returns-clause-protocols c = refl
+
+pub returns-clause-sources : goal.returns-clause-sources
+returns-clause-sources c = (refl, refl, refl, refl, refl)
+
+pub returns-clause-source_types : goal.returns-clause-source_types
+returns-clause-source_types c = (refl, refl, refl, refl, refl, refl)

@@ -4,11 +4,11 @@ use Rattle.ev_tree.specs.Forms.{is_wrong, given_or}
 use Rattle.ev_tree.specs.Broken.{either_broken}
 use Rattle.ev_tree.proofs.Outcomes.{or_same}
 use Rattle.ev_route_json.specs.Matches.{is_false}
-use Rattle.ev_route_json.specs.Conditions.{header_name_of, turned_over, header_matcher_of, header_matcher_broken}
+use Rattle.ev_route_json.specs.Conditions.{matched_name_of, turned_over, header_matcher_of, header_matcher_broken}
 use Rattle.ev_route_json.proofs.header_matchers.inspect_header_matcher.Goals as goal
 
 pub returns-clause-value : goal.returns-clause-value
-unfolding header_matcher_of header_name_of
+unfolding header_matcher_of matched_name_of
 returns-clause-value c =
     let text = c.text_or_empty-text.ensures ∙ ap (given_or []) c.in_ok-name.ensures.value in
     let absent = c.is_false.ensures ∙ ap is_false c.in_ok-present.ensures in
@@ -21,7 +21,7 @@ returns-clause-value c =
     }
 
 pub returns-clause-broken : goal.returns-clause-broken
-unfolding header_matcher_broken header_name_of
+unfolding header_matcher_broken matched_name_of
 returns-clause-broken c =
     let text = c.text_or_empty-text.ensures ∙ ap (given_or []) c.in_ok-name.ensures.value in
     c.or.ensures ∙ (λ i. either_broken (c.in_ok-test.ensures.broken i) (record (c.none.ensures i) {

@@ -7,4 +7,4 @@ use Rattle.ev_snapshot.proofs.criteria.Criteria.ask_range.Goals as goal
 pub returns : goal.returns
 returns c =
     c.any_asks_range.ensures
-    ∙ sym (any_left (λ (x : ServedChain). is_left c.args.self.now x.criteria) (λ (x : ServedChain). asks_range x.criteria) c.args.chains.now)
+    ∙ sym (any_left (λ (x : ServedChain). is_left c.args.self.now x.criteria) (λ (x : ServedChain). asks_range c.args.by x.criteria) c.args.chains.now)

@@ -1,4 +1,5 @@
 use Rattle.std.proofs.Common.{◌∙◌, sym}
+use Rattle.ev_types.specs.FilterChains.{asks_source}
 use Rattle.ev_model.specs.declared.pictures.ServedChain.{ServedChain}
 use Rattle.ev_snapshot.specs.Wanted.{is_left}
 use Rattle.ev_snapshot.proofs.Left.{any_left}
@@ -7,4 +8,4 @@ use Rattle.ev_snapshot.proofs.criteria.Criteria.leave_source.Goals as goal
 pub returns : goal.returns
 returns c =
     c.any_leaves_source.ensures
-    ∙ sym (any_left (λ (x : ServedChain). is_left c.args.self.now x.criteria) (λ (x : ServedChain). x.criteria.asks_source) c.args.chains.now)
+    ∙ sym (any_left (λ (x : ServedChain). is_left c.args.self.now x.criteria) (λ (x : ServedChain). asks_source x.criteria) c.args.chains.now)

@@ -5,4 +5,4 @@ use Rattle.ev_snapshot.proofs.Brought.{ranges_below}
 use Rattle.ev_snapshot.proofs.criteria.Criteria.range_about.Given as goal
 
 abbrev pub invariant-loop-length : goal.invariant-loop-length
-invariant-loop-length l = first_range l.self l.chains (ranges_below l.ip l.length) ≡ first_range l.self l.chains (ranges_about (Some l.ip))
+invariant-loop-length l = first_range l.by l.self l.chains (ranges_below l.ip l.length) ≡ first_range l.by l.self l.chains (ranges_about (Some l.ip))

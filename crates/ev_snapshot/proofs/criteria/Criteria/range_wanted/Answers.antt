@@ -7,4 +7,4 @@ use Rattle.ev_snapshot.proofs.criteria.Criteria.range_wanted.Goals as goal
 pub returns-in_default : goal.returns-in_default
 returns-in_default c =
     ap wanted_of
-    (sym (no_range_found (left_by c.args.self.now c.args.chains.now) (ranges_about c.args.ip) (sym c.ask_range.ensures ∙ c.if-ask_range.false)))
+    (sym (no_range_found c.args.by (left_by c.args.self.now c.args.chains.now) (ranges_about c.args.ip) (sym c.ask_range.ensures ∙ c.if-ask_range.false)))

@@ -1,5 +1,7 @@
-use Rattle.std.proofs.Common.{◌≡◌, ◌∙◌, cond, List, Bool, sym, ap, subst}
+use Rattle.std.proofs.Common.{◌≡◌, ◌∙◌, ◌&&◌, cond, List, Bool, not, sym, ap, subst}
+use Rattle.std.specs.Prelude.{is_some}
 use Rattle.std.specs.List.{list_any}
+use Rattle.ev_types.specs.FilterChains.{asks_source}
 use Rattle.ev_model.specs.Choice.{by_chain, incoming_of, routing_left}
 use Rattle.ev_model.specs.Narrowing.{chains_left}
 use Rattle.ev_model.specs.declared.pictures.Choice.TheVariants.{Undecided}
@@ -8,28 +10,33 @@ use Rattle.ev_snapshot.specs.Wanted.{left_by}
 use Rattle.ev_snapshot.proofs.Decided.{chains_decide}
 use Rattle.ev_snapshot.proofs.snapshot.Snapshot.choose_by_chains.Goals as goal
 
-pub returns-then-leave_source : goal.returns-then-leave_source
-returns-then-leave_source c =
+pub returns-then-lack_source : goal.returns-then-lack_source
+returns-then-lack_source c =
     let listener = c.args.listener.now in
+    let ask = c.args.ask.now in
+    let end = c.args.local_end.now in
     let criteria = c.of-criteria.result in
     let chains = c.filter_chains-chains.ensures in
-    let rest = by_chain c.args.self.now c.args.ask.now listener.number (routing_left (left_by criteria listener.filter_chains) listener.default_filter_chain) in
+    let rest = by_chain c.args.self.now ask listener.number (routing_left (left_by criteria listener.filter_chains) listener.default_filter_chain) in
     ap Undecided c.number.ensures
-    ∙ ap (λ (b : Bool). cond b (Undecided listener.number) rest) (sym c.if-leave_source.true)
-    ∙ chains_decide c.args.self.now c.args.ask.now listener criteria c.leave_source.result
-    (subst (λ (xs : List ServedChain). left_by criteria xs ≡ chains_left (incoming_of c.args.ask.now) xs) chains c.of-criteria.ensures)
-    (c.leave_source.ensures ∙ ap (λ (xs : List ServedChain). list_any (λ (x : ServedChain). x.criteria.asks_source) (left_by criteria xs)) chains)
+    ∙ ap (λ (b : Bool). cond b (Undecided listener.number) rest)
+    (sym c.if-lack_source.true ∙ c.lack_source.ensures
+    ∙ ap (λ (xs : List ServedChain). not (is_some ask.source) && list_any (λ (x : ServedChain). asks_source x.criteria) (left_by criteria xs)) chains)
+    ∙ chains_decide c.args.self.now ask listener end criteria
+    (subst (λ (xs : List ServedChain). left_by criteria xs ≡ chains_left (incoming_of ask end) xs) chains c.of-criteria.ensures)
 
 pub returns : goal.returns
 returns c =
     let listener = c.args.listener.now in
+    let ask = c.args.ask.now in
+    let end = c.args.local_end.now in
     let criteria = c.of-criteria.result in
     let chains = c.filter_chains-chains.ensures in
     c.choose_by_chain.ensures
-    ∙ (λ i. by_chain c.args.self.now c.args.ask.now (c.number-2.ensures i) (c.routing_left.ensures i))
+    ∙ (λ i. by_chain c.args.self.now ask (c.number-2.ensures i) (c.routing_left.ensures i))
     ∙ ap (λ (b : Bool). cond b (Undecided listener.number)
-    (by_chain c.args.self.now c.args.ask.now listener.number (routing_left (left_by criteria listener.filter_chains) listener.default_filter_chain)))
-    (sym c.if-leave_source.false)
-    ∙ chains_decide c.args.self.now c.args.ask.now listener criteria c.leave_source.result
-    (subst (λ (xs : List ServedChain). left_by criteria xs ≡ chains_left (incoming_of c.args.ask.now) xs) chains c.of-criteria.ensures)
-    (c.leave_source.ensures ∙ ap (λ (xs : List ServedChain). list_any (λ (x : ServedChain). x.criteria.asks_source) (left_by criteria xs)) chains)
+    (by_chain c.args.self.now ask listener.number (routing_left (left_by criteria listener.filter_chains) listener.default_filter_chain)))
+    (sym c.if-lack_source.false ∙ c.lack_source.ensures
+    ∙ ap (λ (xs : List ServedChain). not (is_some ask.source) && list_any (λ (x : ServedChain). asks_source x.criteria) (left_by criteria xs)) chains)
+    ∙ chains_decide c.args.self.now ask listener end criteria
+    (subst (λ (xs : List ServedChain). left_by criteria xs ≡ chains_left (incoming_of ask end) xs) chains c.of-criteria.ensures)

@@ -3,15 +3,15 @@ use Rattle.ev_tree.specs.Forms.{is_wrong, given_or}
 use Rattle.ev_tree.proofs.Outcomes.{or_same, not_same}
 use Rattle.ev_tree.specs.Counts.{exactly_one}
 use Rattle.ev_route_json.specs.Targets.{is_empty_text}
-use Rattle.ev_route_json.specs.Conditions.{pattern_with, string_test, string_matcher_of, string_matcher_broken}
-use Rattle.ev_route_json.proofs.header_matchers.inspect_string_matcher.Goals as goal
+use Rattle.ev_route_json.specs.Conditions.{pattern_with, matcher_with, string_matcher_of, string_matcher_broken}
+use Rattle.ev_route_json.proofs.string_matchers.inspect_string_matcher.Goals as goal
 
 pub returns-clause-value : goal.returns-clause-value
 unfolding string_matcher_of
 returns-clause-value c =
     let pattern = c.in_ok-pattern.ensures ∙ (λ j. pattern_with (c.in_ok-exact.ensures.value j) (c.in_ok-prefix.ensures.value j) (c.in_ok-suffix.ensures.value j) (c.in_ok-contains.ensures.value j)) in
     let ignore = c.given_or.ensures ∙ ap (given_or false) c.in_ok-ignore_case.ensures in
-    c.string_test.ensures ∙ (λ i. string_test (pattern i) (ignore i))
+    c.matcher_with.ensures ∙ (λ i. matcher_with (pattern i) (ignore i))
 
 pub returns-clause-broken : goal.returns-clause-broken
 unfolding string_matcher_broken
