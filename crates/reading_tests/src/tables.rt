@@ -71,7 +71,7 @@ const ENVOY_TABLES: [(Reader, usize, &str); 10] = [
     (Reader::Assignment, 3, ENVOY_ASSIGNMENTS),
     (Reader::Route, 46, ENVOY_ROUTES),
     (Reader::Target, 9, ENVOY_TARGETS),
-    (Reader::ListenerMembers, 24, ENVOY_LISTENERS),
+    (Reader::ListenerMembers, 43, ENVOY_LISTENERS),
     (Reader::Manager, 6, ENVOY_MANAGERS),
     (Reader::Message, 4, ENVOY_MESSAGES),
 ];
