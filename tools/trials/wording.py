@@ -6,8 +6,8 @@ from trials.links import outside_fences, read
 
 # A word, and what is said in its place.
 WORDS = [(r'\bstands? on\b', 'depends on'), (r'\bstands? for\b', 'represents'), (r'\bthe least rule\b', 'the lowest-numbered rule'),
-         (r'\bnothing is promised\b', 'unspecified after an error'), (r'\bnumbers? (?:is|are|was|were) drawn\b', 'allocated'),
-         (r'\b(?:was|were|is|are) told of\b', 'received'), (r'\btimeouts? (?:came|comes|come)\b', 'fired, fires')]
+         (r'\bnothing is promised\b', 'unspecified after an error'), (r'\bdrawn\b', 'allocated, taken'), (r'\bfronts?\b', 'prefix'),
+         (r'\b(?:was|were|is|are) told\b', 'received'), (r'\bcame\b', 'was received'), (r'\btimeouts? (?:comes|come)\b', 'fires')]
 PAGES = ['CONTRIBUTING.md', 'docs/CLAIMS.md', 'docs/COST.md', 'docs/DECISIONS.md', 'docs/DEFINITIONS.md', 'docs/ENVOY.md', 'docs/FORMATS.md',
          'docs/MACHINE.md', 'docs/MAP.md', 'docs/RECORDING.md', 'docs/RULES.md', 'examples/README.md']
 MOST_WORDS = 36
