@@ -44,7 +44,7 @@ def run(check):
         if shutil.which('parallel'):
             folder_by_parallel(check, folder, program)
         else:
-            print('docs/FLEET.md is not tried: GNU parallel is not installed')
+            print('docs/RECORDING.md is not tried: GNU parallel is not installed')
 
 
 def lines(check, main, folder, program):
@@ -135,7 +135,7 @@ def table(check, main, folder):
 
 
 def folder_by_parallel(check, folder, program):
-    """The lines of docs/FLEET.md over three recordings, with a restart between them."""
+    """The lines of docs/RECORDING.md over three recordings, with a restart between them."""
     os.makedirs(f'{folder}/recordings')
     for path in (f'{WAITS}.jsonl', f'{TOP}/examples/realistic.jsonl', f'{TOP}/examples/refused_here.jsonl'):
         shutil.copy(path, f'{folder}/recordings')
