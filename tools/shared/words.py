@@ -65,7 +65,7 @@ def listener_words(content):
 
 def chains_of(content):
     """The filter chains of a listener, the default chain last."""
-    return [*content['chains'], *([content['default']] if content['default'] else [])]
+    return [*content.get('chains', ()), *([content['default']] if content.get('default') else [])]
 
 
 def serves_words(serves):
@@ -95,6 +95,12 @@ def match_words(match):
               (('peers', match.direct_ranges), ('sources', match.source_ranges)) if ranges]
     parts += ['sources of this machine' if kind == SAME_MACHINE else 'external sources' for kind in match.types]
     return ', '.join(parts + ([f'source ports {few(map(str, match.source_ports))}'] if match.source_ports else []))
+
+
+def chain_words(chain):
+    """A filter chain by its place, its name, and what it asks for."""
+    asked = match_words(chain['match'])
+    return str(chain['label']) + (f' ({asked})' if asked else '')
 
 
 def range_words(one):
@@ -129,8 +135,18 @@ def cluster_words(content):
     return asked + (', health checked' if content.get('checked') else '')
 
 
+def in_place_words(row):
+    """What stays of a listener that is in place of another generation, what is new and what is gone, in words."""
+    kept, own = row.chains_by_origin()
+    parts = [f'{counted(len(kept), "filter chain")} {"stays" if len(kept) == 1 else "stay"}'] if kept else ['no filter chain stays']
+    parts += [f'new: {few(own, 3)}'] if own else []
+    return f'in place of generation {row.base}: ' + '; '.join(parts + ([f'gone: {few(row.left, 3)}'] if row.left else []))
+
+
 def content_words(kind, content):
     """What a resource brings."""
+    if kind in ('sds', 'ecds'):
+        return {'sds': 'a secret', 'ecds': 'an extension'}[kind]
     if kind == 'eds':
         return hosts_words(content or ())
     if kind == 'rds':

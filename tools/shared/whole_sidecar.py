@@ -1,0 +1,27 @@
+"""What the tools read ahead of the program: secrets, extensions, and listeners that change in place. Not proved.
+
+`READS_SECRETS` is False as long as the program passes over the types of secrets and extensions (SDS and ECDS), writes the verdict `new` where a
+listener changes in place, and no `chain` in the answers of accepts. It waits for the program to do so in scripts of the profile envoy. Then it
+becomes True, here alone. The trials of tools/trials/sidecar.py set it so while they last.
+
+What the documents have to say from then on:
+
+- docs/MAP: the machine in tools/shared follows secrets, extensions, filter chains that stay and connections that move.
+- docs/RECORDING: `adapt` sends the secrets and extensions of a dump, the insides of secrets left out. Where an input can't bring a secret, as where
+  an agent on the node has it, a stand-in is sent, and reported; `--secrets none` sends none, and what needs them waits. `record` asks for secrets and
+  extensions; their insides stay in its files, which only their owner may read, and `--no-secrets` leaves them out.
+- docs/TIMELINE: `inPlace` and `back` beside `new`; generations name what they are in place of; connections have `moved`, and answers `chain`.
+- docs/PLAN: the class `inPlace` (chains that stay, the connections that move, those that are closed); what hangs may hang for a secret or
+  extension; `noSecret` is an answer; the order is cds, eds, sds, lds, rds, ecds.
+- docs/RULES: V28 and V29.
+"""
+from .profiles import ENVOY
+
+READS_SECRETS = False
+# The types of resources that are read by it alone.
+KINDS = ('sds', 'ecds')
+
+
+def is_read(profile):
+    """Whether scripts of a profile are read so."""
+    return READS_SECRETS and profile == ENVOY
