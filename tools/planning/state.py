@@ -12,7 +12,7 @@ from shared.recordings import scripts_of
 from shared.urls import URLS
 
 # How adapt is asked beside what is chosen.
-ASKED = {'source': 'auto', 'sotw': False, 'workers': None, 'auto': False, 'stable': False, 'probe': False}
+ASKED = {'source': 'auto', 'sotw': False, 'workers': None, 'auto': False, 'stable': False, 'probe': False, 'secrets': 'none'}
 # Operations of a script that bring a proxy to where it is; connections, pictures and reaps are the plan's own.
 HISTORY = ('connect', 'response', 'disconnect', 'health', 'fetchTimeout', 'ttlExpired', 'drainTimeout')
 

@@ -20,6 +20,28 @@ from .profiles import ENVOY
 READS_SECRETS = False
 # The types of resources that are read by it alone.
 KINDS = ('sds', 'ecds')
+# What a tool's --help says of it.
+HELP = {
+    'adapt': """
+secrets and extensions
+    Those of a dump are sent as responses, but for secrets that warm there. The insides of secrets are left out of script and report.
+    A secret that the input can't bring, since it comes by another stream or from a file, has an empty one in its stead, which the report names.
+
+--secrets none  what needs such a secret waits for it
+""",
+}
+
+
+def help_of(tool, text):
+    """A tool's help, with what it says of this."""
+    return text + HELP[tool] if READS_SECRETS else text
+
+
+def add_option(parser):
+    """Adds the option to a parser: `secrets` says what becomes of secrets that an input can't bring."""
+    parser.set_defaults(secrets='stand-in')
+    if READS_SECRETS:
+        parser.add_argument('--secrets', choices=('stand-in', 'none'))
 
 
 def is_read(profile):
