@@ -6,7 +6,8 @@ from .words import clusters_of, content_words, few
 LACKING = {'noCluster': 'isn\'t there', 'noEndpoint': 'has no host that may be chosen'}
 RESULTS = {'redirect': 'a redirect', 'noListener': 'no listener', 'noChain': 'no filter chain', 'noRoute': 'no route',
            **{kind: f'its cluster {words}' for kind, words in LACKING.items()},
-           'undecided': 'undecided: no script tells which way it goes', 'elsewhere': 'goes elsewhere, where no script tells its host'}
+           'undecided': 'undecided: no script tells which way it goes', 'elsewhere': 'goes elsewhere, where no script tells its host',
+           'noSecret': 'no handshake, since its filter chain needs a secret that isn\'t there'}
 
 
 def result_of(answer, name_of, cluster=None):
@@ -16,8 +17,8 @@ def result_of(answer, name_of, cluster=None):
         return answer, None, None
     if answer['result'] == 'served':
         return 'served', name_of(answer['cluster']), (answer['address'], answer['port'])
-    if answer['result'] == 'elsewhere':
-        return 'elsewhere', name_of(answer.get('cluster')), None
+    if answer['result'] in ('elsewhere', 'noSecret'):
+        return answer['result'], name_of(answer.get('cluster')), None
     return answer['result'], cluster if answer['result'] in LACKING else answer.get('status'), None
 
 
@@ -26,6 +27,8 @@ def change_words(kind, before, after):
         return host_words(before or (), after or ())
     if kind == 'rds':
         return route_words(before or (), after or ())
+    if kind in ('sds', 'ecds'):
+        return f'{content_words(kind, after)} with another body'
     was, now = content_words(kind, before), content_words(kind, after)
     if all('rows' in (content or {}) and 'elsewhere' not in content for content in (before, after)) and before['rows'] != after['rows']:
         return host_words(before['rows'], after['rows'])
@@ -72,6 +75,8 @@ def result_words(result):
         return f'served by cluster {quoted(what, 60)} at {named(host[0], 60)}:{host[1]}'
     if kind == 'elsewhere' and what:
         return f'goes on from cluster {quoted(what, 60)} to a host that no script tells'
+    if kind == 'noSecret' and what:
+        return f'no handshake with cluster {quoted(what, 60)}, which needs a secret that isn\'t there'
     if kind in LACKING and what:
         return f'cluster {quoted(what, 60)} {LACKING[kind]}'
     return f'answered with status {what}' if kind == 'local' else RESULTS.get(kind, kind)

@@ -137,6 +137,14 @@ def reached(picture, ask):
     return found[0].content['hands_over'] and listener_for(picture, *meant) or found
 
 
+def local_of(content, members):
+    """What an accept of these members asks for once a listener has taken it: one that doesn't restore takes it to come to where it was delivered."""
+    ask = Ask(members)
+    if members.get('redirectedTo') and not content['restores']:
+        ask.address, ask.port = end_of(members['redirectedTo'])
+    return ask
+
+
 def end_of(members):
     return members and (members['address'], members['port'])
 

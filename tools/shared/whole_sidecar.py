@@ -29,6 +29,14 @@ secrets and extensions
 
 --secrets none  what needs such a secret waits for it
 """,
+    'plan': """
+in place    listeners that change in place: how many of the open connections stay, and which filter chains stay, are new and are gone. DRAINS has
+            then what is replaced whole, and connections of filter chains that are gone
+            What hangs may hang for a secret or an extension. The types are cds, eds, sds, lds, rds, ecds; an order may leave out sds and ecds, which
+            are last then. Secrets that no input brings, since another stream does, are taken as there where CURRENT asks for them
+
+--secrets none  they aren't, and what needs them waits
+""",
 }
 
 

@@ -110,10 +110,15 @@ def range_words(one):
     return kind(bits << (kind(0).max_prefixlen - length)), length
 
 
+def redirected_words(members):
+    """Where the connection of an accept was redirected to, and who makes it, in words, as far as they are told."""
+    return [f'{words} {named(members[name]["address"], 60)}:{members[name]["port"]}' for name, words in
+            (('redirectedTo', 'redirected to'), ('source', 'from')) if members.get(name)]
+
+
 def more_asked(members):
     """What an accept asks for beside host and path, in words."""
-    parts = [f'{words} {named(members[name]["address"], 60)}:{members[name]["port"]}' for name, words in
-             (('redirectedTo', 'redirected to'), ('source', 'from')) if members.get(name)]
+    parts = redirected_words(members)
     parts += [f'server name {quoted(members["serverName"], 60)}'] if members.get('serverName') else []
     parts += ['over TLS'] if members.get('tls') else []
     parts += [f'alpn {few(quoted(protocol, 40) for protocol in members["alpn"])}'] if members.get('alpn') else []
