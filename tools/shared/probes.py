@@ -14,7 +14,8 @@ HOST = 'probe.invalid'
 VALUE, OTHER = 'probe', 'other'
 # Addresses of sources: of this machine, and of elsewhere (one of TEST-NET-1, RFC 5737).
 LOOPBACK, OUTSIDE = '127.0.0.1', '192.0.2.1'
-# Where redirected connections are meant to go where no range of addresses is asked for (TEST-NET-2, and RFC 3849).
+# Where redirected connections are meant to go where no range of addresses is asked for (TEST-NET-2, and RFC 3849). To a listener that hands over
+# the second comes first: of an IPv4 one it depends on the other listeners whether it is handed over, and connections are known by what they ask.
 MEANT = ('198.51.100.1', '2001:db8::1')
 # How many values of one criterion of a filter chain are tried.
 MOST_TRIED = 4
@@ -157,7 +158,7 @@ def ends_for(match, listener, probes):
     if not listener['restores']:
         ranges = match.ranges[:MOST_TRIED] if listener['takes_all'] else ()
         return [{'address': place, 'port': port} for place in dict.fromkeys([*(text for one in ranges for text in ends_of(one, address)), address])]
-    places = [text for one in match.ranges[:MOST_TRIED] for text in ends_of(one, '')] or MEANT
+    places = [text for one in match.ranges[:MOST_TRIED] for text in ends_of(one, '')] or MEANT[::-1 if listener['hands_over'] else 1]
     found = [(place, number) for number in match.ports or (probes.free_port(listener),) for place in dict.fromkeys(places)]
     return [{'address': place, 'port': number, 'redirectedTo': {'address': address, 'port': port}} for place, number in found
             if probes.takes(listener, place, number)]

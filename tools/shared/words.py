@@ -4,6 +4,7 @@ import ipaddress
 from .chain_matches import SAME_MACHINE
 from .routes import ELSEWHERE
 from .shown import named, quoted
+from .whole_sidecar import is_read
 
 MOST = 8
 
@@ -138,6 +139,11 @@ def cluster_words(content):
     else:
         asked = f'endpoints {quoted(content["eds"], 40)}' if content.get('eds') else hosts_words(content.get('rows') or ())
     return asked + (', health checked' if content.get('checked') else '')
+
+
+def lacked(profile):
+    """What generations of scripts of a profile may lack while they serve, in words."""
+    return 'hosts, routes, secrets or extensions' if is_read(profile) else 'hosts or routes'
 
 
 def in_place_words(row):

@@ -241,7 +241,7 @@ class BandDrawer:
             spans[4:-4] = [f'{len(spans) - 8} changes more']
         stop = number_of(life.stop or 0)
         end = {'dropped': f'; dropped at line {stop}, it never served', 'reaped': f'; reaped at line {stop}', None: ''}[life.end]
-        return f'{life.title()}, version {named(life.version, 40)}: {"; ".join(spans)}{end}{self.envoy_words(life)}{self.kept_by(life)}'
+        return f'{life.title()}, version {named(life.version, 40)}: {"; ".join(spans)}{end}{f"; {life.in_place}" * bool(life.in_place)}{self.envoy_words(life)}{self.kept_by(life)}'
 
     def envoy_words(self, life):
         """What Envoy would do otherwise with a generation."""
@@ -326,6 +326,7 @@ class BandDrawer:
     def connection_title(self, connection):
         words = f'line {number_of(connection.x)}: {self.connection_words(connection)}, listener g{connection.listener}'
         words += f', {connection.chain}' * bool(connection.chain) + f', since {connection.why}' * bool(connection.why)
+        words += ''.join(f'; goes on on listener g{number} from line {number_of(x)}, its filter chain stays' for x, number in connection.moves)
         if connection.closed is not None:
             words += f'; closes at line {number_of(connection.closed)}'
         if connection.forced:
