@@ -3,11 +3,11 @@ import hashlib
 import json
 
 from shared.fields import DISCOVERY, enumeration, get
+from shared.insides import hide
 from shared.spelling import snake
 from shared.urls import URLS
 
 from .capture import Unreadable, lists_secrets, statuses_in, text_in, type_of_body
-from .secrets import hide
 from .statuses import assignment_of
 
 NAMES = {kind: 'cluster_name' if kind == 'eds' else 'name' for kind in URLS}

@@ -4,6 +4,7 @@ import copy
 import json
 
 from shared.fields import get, key_of
+from shared.insides import hide
 from shared.probes import Probes
 from shared.profiles import ENVOY, OF_OPTIONS, OWN, USUAL
 from shared.resources import read_item, read_message
@@ -20,7 +21,7 @@ from .checked import Checked, NoScript
 from .dump import ACTIVE_EXTENSIONS, Dump, message_of, wrapped
 from .passed import passed_over
 from .project import PROJECTIONS, take_out
-from .secrets import Asked, hide
+from .secrets import Asked
 from .whole_of import WholeOf
 
 RESOURCE = 'envoy.service.discovery.v3.Resource'

@@ -1,4 +1,4 @@
-"""Secrets of an input: their insides are left out, and those that it can't bring are stood in for."""
+"""Secrets that an input asks for, and what stands in for those that it can't bring."""
 import re
 
 from shared.fields import get
@@ -7,26 +7,9 @@ from shared.urls import URLS
 
 from .capture import documents, kind_of, list_in, text_in
 
-# Members of a secret that stay as they are.
-OUTSIDE = ('@type', 'name')
 # Text in which a response of secrets may stand.
 OF_SECRETS = re.compile(r'"type_?[uU]rl"\s*:\s*"' + re.escape(URLS['sds']))
 BY_STREAM = ('ads', 'self')
-
-
-def hide(resource):
-    """Takes the insides of a secret out of its resource; says whether there were some."""
-    body = resource.get('resource')
-    hidden = {name: value if name in OUTSIDE else emptied(value) for name, value in body.items()} if isinstance(body, dict) else emptied(body)
-    if hidden == body:
-        return False
-    resource['resource'] = hidden
-    return True
-
-
-def emptied(value):
-    """An empty value of the same form."""
-    return type(value)() if isinstance(value, (dict, list, str, int, float)) and not isinstance(value, bool) else value
 
 
 def stand_in(name):

@@ -29,6 +29,12 @@ secrets and extensions
 
 --secrets none  what needs such a secret waits for it
 """,
+    'record': """
+secrets and extensions
+    --connect asks for those that clusters and listeners need, where the profile isn't --own-profile. Of secrets the files have what came, and only
+    their owner may read them; with --no-secrets they have that a secret came, and of which kind, and nothing of its inside. What stands in clusters and listeners themselves
+    stays.
+""",
     'plan': """
 in place    listeners that change in place: how many of the open connections stay, and which filter chains stay, are new and are gone. DRAINS has
             then what is replaced whole, and connections of filter chains that are gone
@@ -43,6 +49,13 @@ in place    listeners that change in place: how many of the open connections sta
 def help_of(tool, text):
     """A tool's help, with what it says of this."""
     return text + HELP[tool] if READS_SECRETS else text
+
+
+def add_no_secrets(parser):
+    """Adds an option to a parser: `no_secrets` says whether the insides of secrets are left out."""
+    parser.set_defaults(no_secrets=False)
+    if READS_SECRETS:
+        parser.add_argument('--no-secrets', action='store_true', help='leaves out the insides of secrets')
 
 
 def add_option(parser):
