@@ -429,7 +429,7 @@ class ScriptOf:
         for item, resource in zip(response.items, resources):
             if item.least:
                 self.report.refused(response.kind, item)
-            for member, path in passed_over(resource.get('resource')).items():
+            for member, path in passed_over(resource.get('resource'), self.profile).items():
                 self.report.add('passed-over', response.kind, item.name, member, before=path)
         self.probes.take(response)
         if is_read(self.profile):

@@ -14,6 +14,10 @@ What the documents have to say from then on:
 - docs/PLAN: the class `inPlace` (chains that stay, the connections that move, those that are closed); what hangs may hang for a secret or
   extension; `noSecret` is an answer; the order is cds, eds, sds, lds, rds, ecds.
 - docs/RULES: V28 and V29.
+- docs/script.schema.json: the types `sds` and `ecds`, as `schema_read` of tools/trials/sidecar.py puts them in.
+- the journals of examples of the profile envoy, and what tools print of them (tools/check --write): answers have `chain`, and what asks for secrets
+  waits for them.
+- tools/adapt, plan and record: what HELP says of them moves into their own help.
 """
 from .profiles import ENVOY
 

@@ -5,7 +5,7 @@ import json
 import os
 import tempfile
 
-from shared import journal, script
+from shared import journal, schema, script
 from shared.finding import walked
 from shared.profiles import ENVOY, OWN
 from shared.replayed import replayed
@@ -57,6 +57,7 @@ def run(check):
             if not name.endswith('.journal.jsonl'):
                 kept(check, name.removesuffix('.jsonl'))
         forms(check)
+        schemas(check)
         without(check, folder)
 
 
@@ -88,6 +89,27 @@ def forms(check):
             for op, answer in NO_FORMS:
                 check(journal.read_row(row_of(op, answer))[0] is None, f'{op} {answer} is no row')
             check(kinds_read(OWN) == tuple(URLS)[:4] and kinds_read(ENVOY) == tuple(URLS)[:6 if is_on else 4], f'the types that are read: {is_on}')
+
+
+def schema_read():
+    """docs/script.schema.json as it has to be where secrets are read: timeouts and ends of times to live of the two types, by their names."""
+    text = content(f'{TOP}/docs/script.schema.json').decode()
+    for old, new in (('"enum": ["eds", "rds"]', '"enum": ["eds", "rds", "sds", "ecds"]'), ('"enum": ["cds", "eds", "lds", "rds"]', f'"enum": {json.dumps(list(URLS))}')):
+        assert text.count(old) == 1, old
+        text = text.replace(old, new)
+    return json.loads(text)
+
+
+def schemas(check):
+    root, other = schema_read(), json.loads(content(f'{TOP}/docs/script.schema.json'))
+    for op in ('fetchTimeout', 'ttlExpired'):
+        for kind in (*URLS, 'vhds'):
+            for more in ({'name': 's'}, {}):
+                line = {'op': op, 'type': kind, **more}
+                for is_on, schemed in ((True, root), (False, other)):
+                    with of_sidecar(is_on):
+                        good = not script.read_script(f'{json.dumps({"workers": 1, "profile": "envoy"})}\n{json.dumps(line)}\n'.encode()).faults
+                    check(schema.accepts(schemed, line, schemed) == good, f'{line} by the schema, where secrets are read: {is_on}')
 
 
 def without(check, folder):
