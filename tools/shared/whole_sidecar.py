@@ -2,7 +2,7 @@
 
 `READS_SECRETS` is False as long as the program passes over the types of secrets and extensions (SDS and ECDS), writes the verdict `new` where a
 listener changes in place, and no `chain` in the answers of accepts. It waits for the program to do so in scripts of the profile envoy. Then it
-becomes True, here alone. The trials of tools/trials/sidecar.py set it so while they last.
+becomes True, here alone. The trials whose names begin with `sidecar` set it so while they last.
 
 What the documents have to say from then on:
 
@@ -10,14 +10,15 @@ What the documents have to say from then on:
 - docs/RECORDING: `adapt` sends the secrets and extensions of a dump, the insides of secrets left out. Where an input can't bring a secret, as where
   an agent on the node has it, a stand-in is sent, and reported; `--secrets none` sends none, and what needs them waits. `record` asks for secrets and
   extensions; their insides stay in its files, which only their owner may read, and `--no-secrets` leaves them out.
-- docs/TIMELINE: `inPlace` and `back` beside `new`; generations name what they are in place of; connections have `moved`, and answers `chain`.
-- docs/PLAN: the class `inPlace` (chains that stay, the connections that move, those that are closed); what hangs may hang for a secret or
+- docs/TIMELINE: `inPlace` and `back` beside `new`. A generation that is in place of another, and its resource, has `inPlaceOf`, `stay`, `newChains`
+  and `gone` (filter chains in words); a connection has `moved` (`at`, `listener`), a settle's answer too, and an accept's `chain`.
+- docs/PLAN: the class `in place` (chains that stay, the connections that move, those that are closed); what hangs may hang for a secret or
   extension; `noSecret` is an answer; the order is cds, eds, sds, lds, rds, ecds.
 - docs/RULES: V28 and V29.
 - docs/script.schema.json: the types `sds` and `ecds`, as `schema_read` of tools/trials/sidecar.py puts them in.
 - the journals of examples of the profile envoy, and what tools print of them (tools/check --write): answers have `chain`, and what asks for secrets
   waits for them.
-- tools/adapt, plan and record: what HELP says of them moves into their own help.
+- tools/adapt, look, plan and record: what HELP says of them moves into their own help.
 """
 from .profiles import ENVOY
 
@@ -33,11 +34,17 @@ secrets and extensions
 
 --secrets none  what needs such a secret waits for it
 """,
+    'look': """
+secrets and extensions
+    What waits for one stands on top. Secrets are as tools/adapt makes them: those that the input can't bring have an empty one in their stead.
+
+--secrets none  what needs such a secret waits for it
+""",
     'record': """
 secrets and extensions
     --connect asks for those that clusters and listeners need, where the profile isn't --own-profile. Of secrets the files have what came, and only
-    their owner may read them; with --no-secrets they have that a secret came, and of which kind, and nothing of its inside. What stands in clusters and listeners themselves
-    stays.
+    their owner may read them; with --no-secrets they have that a secret came, and of which kind, and nothing of its inside. What stands in
+    clusters and listeners themselves stays.
 """,
     'plan': """
 in place    listeners that change in place: how many of the open connections stay, and which filter chains stay, are new and are gone. DRAINS has

@@ -93,6 +93,7 @@ class Adapted:
 def run(check):
     with tempfile.TemporaryDirectory() as folder, of_sidecar():
         of_dump(check, folder)
+        of_itself(check, folder)
         of_an_agent(check, folder)
         of_responses(check, folder)
         of_refused(check, folder)
@@ -120,6 +121,16 @@ def of_dump(check, folder):
     kinds = [line.response.kind for line in whole.lines if line.response]
     check(not whole.faults and kinds.count('sds') == 3 and kinds.count('ecds') == 2, f'the same of the state of the world: {kinds}')
     check(made.said('made', 'limited') and made.said('absent', 'unlimited'), f'extensions that a dump hasn\'t are told: {made.report}')
+
+
+def of_itself(check, folder):
+    """A script that was made has all that it needs; by the own profile secrets aren't read."""
+    tree = dump([cluster('a', 'default', source=AGENT)], [listener('in', 'a', discovered('x', '5s'))], lists_secrets=False)
+    made = Adapted(check, folder, tree)
+    again = Adapted(check, folder, content(f'{folder}/script').decode())
+    check(made.lines == again.lines and not again.stood_in(), f'a script with stand-ins is adapted to {again.lines}')
+    found = Adapted(check, folder, dump([cluster('a', 's')], [], [secret('s')]), '--own-profile')
+    check(found.said('not-sent', 'SecretsConfigDump')[0]['before'].endswith('the four types brings'), f'secrets by the own profile: {found.report}')
 
 
 def of_an_agent(check, folder):

@@ -121,6 +121,8 @@ def of_look(check, folder):
     check(status == 0 and lines[:2] == ['Waited for: secrets and extensions: 1', "    secret 'late': cluster 'a' waits, and 1 more"], f'look at what waits for secrets: {status} {out} {errors}')
     check(any(line.startswith("    secret 'default': an empty secret in place of a secret that the input doesn't bring") for line in lines), f'look tells stand-ins: {out}')
     check('Serves without hosts, routes, secrets or extensions: nothing' in lines, f'look says what serves without: {out}')
+    out = called(main, '--program', '/bin/true', '--secrets', 'none', '--out', f'{folder}/none', f'{folder}/look.jsonl')[1]
+    check("    secret 'default': cluster 'c' waits" in out.splitlines(), f'look --secrets none: {out}')
 
 
 def of_why(check, folder):

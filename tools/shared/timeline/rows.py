@@ -241,7 +241,8 @@ class BandDrawer:
             spans[4:-4] = [f'{len(spans) - 8} changes more']
         stop = number_of(life.stop or 0)
         end = {'dropped': f'; dropped at line {stop}, it never served', 'reaped': f'; reaped at line {stop}', None: ''}[life.end]
-        return f'{life.title()}, version {named(life.version, 40)}: {"; ".join(spans)}{end}{f"; {life.in_place}" * bool(life.in_place)}{self.envoy_words(life)}{self.kept_by(life)}'
+        end += f'; {life.in_place}' if life.in_place else ''
+        return f'{life.title()}, version {named(life.version, 40)}: {"; ".join(spans)}{end}{self.envoy_words(life)}{self.kept_by(life)}'
 
     def envoy_words(self, life):
         """What Envoy would do otherwise with a generation."""
