@@ -59,7 +59,7 @@ class ScriptOf:
         self.open, self.nonces, self.known, self.last_full = False, 0, 0, {}
         self.clusters, self.hosts = {}, {}  # what clusters and endpoints were told to be; None of endpoints that broke a rule or timed out
         self.good = {}  # of the response that was read last: which resources break no rule
-        self.asked = Asked(report, brought, chosen.secrets != 'none')
+        self.asked, self.in_script = Asked(report, brought, chosen.secrets != 'none'), False
 
     def go_by(self, profile):
         """What comes from here on is read by this profile."""
@@ -150,7 +150,9 @@ class ScriptOf:
     def operation(self, tree):
         message = tree.get('message')
         if tree['op'] == 'response' and isinstance(message, dict):
+            self.in_script = True
             self.delta(message) if kind_of(message) != 'sotw' else self.full(message)
+            self.in_script = False
             return
         if tree['op'] in ('connect', 'disconnect'):
             self.open = tree['op'] == 'connect'
@@ -433,7 +435,7 @@ class ScriptOf:
                 self.report.add('passed-over', response.kind, item.name, member, before=path)
         self.probes.take(response)
         if is_read(self.profile):
-            self.asked.note(response, resources)
+            self.asked.note(response, resources, self.in_script)
 
     def note(self, response):
         """Keeps which resources break no rule of their own, and what clusters and endpoints are."""

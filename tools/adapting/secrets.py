@@ -43,7 +43,8 @@ def brought(text):
 
 class Asked:
     """Which secrets and extensions an input asks for, each with whether the wait is limited, and which were told. `stood_in` are the secrets that
-    are stood in for, where `stands_in`; `brought` those that its responses bring."""
+    are stood in for, where `stands_in`; `brought` those that its responses bring. Responses that stand alone and bring none at all are taken to be
+    those of a client that asked for none, and no script is."""
 
     def __init__(self, report, brought, stands_in):
         self.report, self.brought, self.stands_in = report, set(brought), stands_in
@@ -54,15 +55,15 @@ class Asked:
         """A state begins, which is told as a whole."""
         self.asked, self.told = {}, set()
 
-    def note(self, response, resources):
-        """Takes a response. `from_elsewhere` gets the names of secrets that it asks for and that the stream which it came by doesn't bring."""
+    def note(self, response, resources, is_script):
+        """Takes a response, which may be one of a script. `from_elsewhere` gets the names of secrets that it asks for and that the stream which it came by doesn't bring."""
         streams = {}
         for item, resource in zip(response.items, resources):
             if response.kind in ('sds', 'ecds') and not item.beat:
                 self.told.add((response.kind, item.name))
             keys = dependencies_of(response.kind, item.content) if response.kind in ('cds', 'lds') and item.content else ()
             keys = [(key, limited) for key, limited in keys if key[0] in ('sds', 'ecds')]
-            own = by_stream(resource.get('resource')) if keys else ()
+            own = by_stream(resource.get('resource')) if keys and (is_script or self.brought) else ()
             for key, limited in keys:
                 self.asked[key] = limited and self.asked.get(key, True)
                 streams[key] = streams.get(key, False) or key[1] in own

@@ -17,7 +17,7 @@ What the documents have to say from then on:
 - docs/RULES: V28 and V29.
 - docs/script.schema.json: the types `sds` and `ecds`, as `schema_read` of tools/trials/sidecar.py puts them in.
 - the journals of examples of the profile envoy, and what tools print of them (tools/check --write): answers have `chain`, and what asks for secrets
-  waits for them.
+  waits for them. examples/captures/contour.jsonl lacks three secrets that its stream brings, and its listener waits for them.
 - tools/adapt, look, plan and record: what HELP says of them moves into their own help.
 """
 from .profiles import ENVOY

@@ -98,7 +98,7 @@ def run(check):
         of_responses(check, folder)
         of_refused(check, folder)
         of_lists(check, folder)
-    with tempfile.TemporaryDirectory() as folder:
+    with tempfile.TemporaryDirectory() as folder, of_sidecar(False):
         without(check, folder)
 
 
@@ -157,11 +157,11 @@ def response(kind, *bodies, removed=(), form='delta'):
 
 
 def of_responses(check, folder):
-    """Of responses a secret of their own stream that doesn't come is waited for; one of another stream is stood in for, where none comes."""
+    """Of responses a secret of their own stream that doesn't come is waited for, where some come; one of another stream is stood in for."""
     for form in ('delta', 'sotw'):
         asks = response('cds', cluster('a', 'own'), cluster('b', 'other', source=AGENT), form=form)
         later = response('sds', secret('other')['secret'], form=form)
-        for lines, stood_in, waits in (([asks], ['other'], {'a': ["secret 'own'"]}), ([asks, later], [], {'a': ["secret 'own'"]}),
+        for lines, stood_in, waits in (([asks], ['own', 'other'], {}), ([asks, later], [], {'a': ["secret 'own'"]}),
                                        ([asks, response('sds', secret('own')['secret'], form=form)], ['other'], {})):
             made = Adapted(check, folder, ''.join(json.dumps(line) + '\n' for line in lines))
             check((made.stood_in(), made.waits()) == (stood_in, waits), f'{form} of secrets: {made.stood_in()} {made.waits()}')
@@ -169,6 +169,8 @@ def of_responses(check, folder):
              {'op': 'response', 'message': response('sds', secret('own')['secret'])}, {'op': 'response', 'message': response('sds', removed=['own'])}]
     made = Adapted(check, folder, ''.join(json.dumps(line) + '\n' for line in lines))
     check(made.statuses() == {'cds a': 'active'} and made.said('left-out', 'own'), f'a script with secrets: {made.statuses()} {made.report}')
+    made = Adapted(check, folder, ''.join(json.dumps(line) + '\n' for line in lines[:3]))
+    check(made.waits() == {'a': ["secret 'own'"]} and not made.stood_in(), f'a script whose secret doesn\'t come: {made.waits()}')
     body = {'@type': URLS['sds'], 'name': 'own', 'tlsCertificate': INSIDE}
     made = Adapted(check, folder, json.dumps(asks) + '\n' + json.dumps(response('sds', body)))
     check(any(line['action'] == 'refused' and line['rule'] == 'V6' for line in made.report), f'a secret of a wrong form is refused without its inside: {made.report}')
