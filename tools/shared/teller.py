@@ -312,7 +312,9 @@ class Teller:
                 words = f'serves {lacks}' if lacks else 'serves from the next picture on'
                 self.page.line(f'{row.words()} {words}', 'bad' if lacks else 'good', news=True)
             else:
-                self.page.line(f'{row.words()} {words}', news=True)
+                after = self.machine.newest(row.kind, row.name) if row.status == 'draining' else None
+                stays = f'; what stays of it goes on in generation {after.number}' if after and after.base == row.number else ''
+                self.page.line(f'{row.words()} {words}{stays}', news=True)
         self.more(len(rows) - MOST_CHANGES, 'generations more that serve, drain or are dropped', news=True)
 
     def waiting(self):

@@ -20,7 +20,7 @@ SAID = {
                                         "asks for secrets 's1', 's2'", 's1  version \'v1\'  kept: a secret'],
     'a_listener_changes_in_place': ['in place: listener generation 2, in place of generation 1: 1 filter chain stays; new: filter chain 2 '
                                     "(server name 'c'); gone: filter chain 1 (server name 'a')",
-                                    'go on, since their filter chains stay'],
+                                    'go on, since their filter chains stay', "listener 'l' (generation 1) drains; what stays of it goes on in generation 2"],
     'a_default_chain_stays': ['the default filter chain'],
     'in_place_over_an_update_that_waits': ['is dropped before it served'],
     'removal_of_a_secret_tells_nobody': ['removed: nobody is told, and its value stays'],
