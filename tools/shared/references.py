@@ -3,7 +3,7 @@
 Each is ((type, name), whether the wait for it is limited), in the order in which it is waited for; nothing where they aren't read.
 """
 from .addresses import read_source
-from .fields import MAX_NAME, Reader, size
+from .fields import MAX_NAME, WRONG, Reader, size
 from .urls import MANAGER, TYPE
 
 SOCKETS = TYPE + 'envoy.extensions.transport_sockets.'
@@ -61,12 +61,17 @@ def read_reference(reader, reference, path):
 
 def read_named(reader, kind, named, holder, source, path, where):
     """A name that is asked for, `path` that of the object which has it, with a config source of another object."""
-    name = reader.text(named, 'name', path)
-    if not isinstance(name, str) and name is not None:
-        name = ''
-    elif not 1 <= size(name or '') <= MAX_NAME:
-        reader.breaks(2, f'{path}.name', 'is missing or empty' if not name else f'has {size(name)} bytes, and {MAX_NAME} are the most')
-    return [((kind, name or ''), read_source(reader, holder, source, where))]
+    return [((kind, read_name(reader, named, path)), read_source(reader, holder, source, where))]
+
+
+def read_name(reader, holder, path):
+    """The name that is asked for in an object; the empty one where it can't be read."""
+    name = reader.text(holder, 'name', path)
+    if name is WRONG:
+        return ''
+    if not 1 <= size(name or '') <= MAX_NAME:
+        reader.breaks(2, f'{path}.name', f'has {size(name)} bytes, and {MAX_NAME} are the most' if name else 'is missing or empty')
+    return name or ''
 
 
 def read_matched(reader, body, path):
@@ -85,20 +90,13 @@ def read_extension(reader, one, path):
     if discovery is None:
         return []
     where = f'{path}.configDiscovery'
-    if not isinstance(discovery, dict):
-        read_name_beside(reader, one, path)
+    if discovery is WRONG:
+        read_name(reader, one, path)
         return []
     found = read_named(reader, 'ecds', one, discovery, 'config_source', path, where)
     default = reader.object(discovery, 'default_config', where)
     at_once = reader.boolean(discovery, 'apply_default_config_without_warming', where)
     return [] if default is not None and at_once is True else found
-
-
-def read_name_beside(reader, one, path):
-    """The name of a filter whose discovery has a wrong form."""
-    name = reader.text(one, 'name', path)
-    if (name is None or isinstance(name, str)) and not 1 <= size(name or '') <= MAX_NAME:
-        reader.breaks(2, f'{path}.name', 'is missing, empty or too long')
 
 
 def read_manager_extensions(reader, config, path):
