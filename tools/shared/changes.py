@@ -1,5 +1,7 @@
 """What changed of a resource or an answer, in words. Not proved."""
+from .machine import dependencies_of
 from .shown import named, quoted
+from .urls import WORD
 from .words import clusters_of, content_words, few
 
 # What a connection got whose cluster can't serve it, with the words for that cluster.
@@ -29,10 +31,23 @@ def change_words(kind, before, after):
         return route_words(before or (), after or ())
     if kind in ('sds', 'ecds'):
         return f'{content_words(kind, after)} with another body'
+    asked = asked_words(kind, before, after)
     was, now = content_words(kind, before), content_words(kind, after)
+    if asked and was == now:
+        return asked
+    now += f'; {asked}' if asked else ''
     if all('rows' in (content or {}) and 'elsewhere' not in content for content in (before, after)) and before['rows'] != after['rows']:
         return host_words(before['rows'], after['rows'])
     return f'{now}; before {was}' if was != now else f'{now}, in another way than before'
+
+
+def asked_words(kind, before, after):
+    """Which secrets and extensions a cluster or listener asks for and didn't, and asks for no more; empty where that is the same."""
+    names = [[key for key, _ in dependencies_of(kind, content or {}) if key[0] in ('sds', 'ecds')] for content in (before, after)]
+    parts = [f'{words} {few(f"{WORD[of]} {quoted(name, 60)}" for of, name in dict.fromkeys(found))}' for words, found in
+             (('asks for', [key for key in names[1] if key not in names[0]]), ('doesn\'t ask any more for', [key for key in names[0] if key not in names[1]]))
+             if found]
+    return '; '.join(parts)
 
 
 def host_words(before, after):

@@ -18,6 +18,8 @@ What the documents have to say from then on:
 - docs/script.schema.json: the types `sds` and `ecds`, as `schema_read` of tools/trials/sidecar.py puts them in.
 - the journals of examples of the profile envoy, and what tools print of them (tools/check --write): answers have `chain`, and what asks for secrets
   waits for them. examples/captures/contour.jsonl lacks three secrets that its stream brings, and its listener waits for them.
+- trials that expect what holds until then: of what a plan says of listeners that drain whole and of secrets that aren't read (plan, plan_outages),
+  of transport sockets that aren't read (causes), of what stands in the data of adapt, captures and profile.
 - tools/adapt, look, plan and record: what HELP says of them moves into their own help.
 """
 from .profiles import ENVOY

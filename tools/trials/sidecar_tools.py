@@ -87,6 +87,7 @@ def of_diff(check, folder):
     whole = [*steady, push('lds', [{**chained('in', 443, shop), 'perConnectionBufferLimitBytes': 1}]), *drained]
     other = [web, secrets('s'), push('lds', [chained('in', 443, chain('shop', 'web', serverNames=['*.example']), mail)]), *steady[3:], push('lds', [chained('in', 443, shop)]), *drained]
     warms = [web, *steady[2:], push('lds', [chained('in', 443, shop)]), *drained]
+    plain = [push('cds', [cluster('web', hosts=[1])]), *steady[2:], push('lds', [chained('in', 443, shop)]), *drained]
     cases = [
         (timed, "REGRESSION  cluster 'web': serves without secret 's' (its fetch timeout came)"),
         (timed, "no handshake with cluster 'web', which needs a secret that isn't there; before served"),
@@ -94,6 +95,7 @@ def of_diff(check, folder):
         (whole, "CHANGED     listener 'in', generation 2 of the name: is replaced whole, before it changes in place"),
         (other, "by filter chain 1 'shop' (server name '*.example'); before by filter chain 1 'shop' (server name 'shop.example')"),
         (warms, "REGRESSION  cluster 'web': warms on: it waits for secret 's'"),
+        (plain, "CHANGED     cluster 'web': doesn't ask any more for secret 's'"),
     ]
     for lines, words in cases:
         status, out, errors = called(tool('diff'), *first, *made(folder, 'second', *lines))
