@@ -8,8 +8,10 @@ from shared.fields import Reader
 from shared.pair import NotTheJournal
 from shared.pictures import follower
 from shared.profiles import OWN
+from shared.shown import quoted
 from shared.journal import MAKES
 from shared.teller import choice_of
+from shared.urls import WORD
 from shared.words import chain_words, chains_of, more_asked
 
 
@@ -94,6 +96,8 @@ class Outcome:
             if verdict[0] == 'V':
                 self.refusals.setdefault(key, []).append((verdict, item.whose(response.kind, verdict), item.complaints(verdict), resource))
             elif verdict in ('new', 'same', 'kept', 'inPlace', 'back'):
+                if item.content is None:
+                    raise NotTheJournal(f'it takes {WORD[response.kind]} {quoted(item.name, 60)}, which breaks a rule')
                 self.versions[key] = item.version
                 self.settle(key, verdict, item.content, resource)
             elif verdict == 'unasked':

@@ -59,7 +59,8 @@ class Row:
         """It is in place of another generation of its name: chains that are equal keep their origin."""
         self.base = base.number
         kept = {(place == 'default', text): base.origins[place] for place, text in base.chains.items()}
-        self.take_origins({place: kept.get((place == 'default', text), (self.number, place)) for place, text in self.chains.items()})
+        stay = {place: kept[place == 'default', text] for place, text in self.chains.items() if (place == 'default', text) in kept}
+        self.take_origins({**self.origins, **stay})
         self.left = [chain_words(chain) for chain in chains_of(base.content) if base.origins[chain['place']] not in self.places]
 
     def take_origins(self, origins):
