@@ -1,8 +1,10 @@
 """Inputs as they come, made a script: what tools/adapt, tools/look and tools/plan share."""
+from shared import whole_sidecar
 from shared.shown import read_file, shown
 
 from .capture import Unreadable, documents, kind_of, text_of
 from .script_of import ScriptOf
+from .secrets import brought
 
 SOURCES = ('auto', 'config-dump', 'delta', 'sotw', 'envoy-log')
 
@@ -14,10 +16,11 @@ def adapted(chosen, report):
 
 def taken(chosen, report, keeps=False):
     """What makes the script, with all inputs taken. With `keeps` it keeps its lines as they were read."""
-    maker = ScriptOf(chosen, report, keeps)
-    for number, path in enumerate(chosen.input):
+    texts = [text_at(path) for path in chosen.input] if whole_sidecar.READS_SECRETS else [None] * len(chosen.input)
+    maker = ScriptOf(chosen, report, keeps, names_brought(texts))
+    for number, (path, text) in enumerate(zip(chosen.input, texts)):
         before = maker.known
-        for document in documents_of(path):
+        for document in documents_of(path, text):
             if wanted(chosen.source, kind_of(document.tree)):
                 with maker.placing():
                     maker.take(document, f'line {document.line} of {shown(path)}', number)
@@ -28,9 +31,25 @@ def taken(chosen, report, keeps=False):
     return maker
 
 
-def documents_of(path):
+def text_at(path):
     try:
-        yield from documents(text_of(read_file(path)))
+        return text_of(read_file(path))
+    except Unreadable as error:
+        raise Unreadable(f'{shown(path)}: {error}') from None
+
+
+def names_brought(texts):
+    """The names of the secrets that responses of the input bring, as far as it can be read."""
+    try:
+        return {name for text in texts if text for name in brought(text)}
+    except Unreadable:
+        return set()
+
+
+def documents_of(path, text):
+    """The documents of a file, whose text may be known."""
+    try:
+        yield from documents(text_of(read_file(path)) if text is None else text)
     except Unreadable as error:
         raise Unreadable(f'{shown(path)}: {error}') from None
 

@@ -5,11 +5,12 @@ import json
 import re
 import zlib
 
+from shared import urls, whole_sidecar
 from shared.fields import DISCOVERY, WRONG, enumeration, get
 from shared.json_text import NotJson, fraction
+from shared.profiles import ENVOY
 from shared.progress import Progress
 from shared.statuses import Unreadable
-from shared.urls import KINDS
 
 BLANK = re.compile(r'[ \t\r\n\ufeff\x1e,]*')
 TOKEN = re.compile(r'"(?:[^"\\]|\\.)*"|[^\s",:\[\]{}]+')
@@ -151,7 +152,7 @@ def kind_of(tree):
     if not isinstance(tree, dict):
         return None
     url = text_in(tree, '@type')
-    if 'configs' in tree or 'bootstrap' in tree or url.endswith('ConfigDump'):
+    if 'configs' in tree or 'bootstrap' in tree or url.endswith('ConfigDump') or lists_secrets(tree):
         return 'config-dump'
     if 'op' in tree:
         return 'script'
@@ -164,6 +165,11 @@ def kind_of(tree):
     if get(tree, 'type_url') is not None or get(tree, 'resources') is not None:
         return 'sotw' if is_full(tree) else 'delta'
     return 'body' if type_of_body(tree) else 'statuses' if statuses_in(tree) else None
+
+
+def lists_secrets(tree):
+    """Whether a document lists secrets as `istioctl proxy-config secret -o json` prints them: as a part of a dump."""
+    return whole_sidecar.READS_SECRETS and any(isinstance(get(tree, f'dynamic_{state}_secrets'), list) for state in ('active', 'warming'))
 
 
 def statuses_in(tree):
@@ -196,5 +202,5 @@ def type_of_body(tree):
     """The type (`cds` and so on) of a body that stands alone, by its fields; None where they don't tell."""
     url = text_in(tree, '@type')
     if url or get(tree, 'host_statuses') is not None:
-        return KINDS.get(url)
+        return urls.kind_of(url, ENVOY)
     return next((kind for kind, tells in TELLING.items() if tells(tree)), None)

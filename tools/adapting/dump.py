@@ -3,14 +3,16 @@ import hashlib
 import json
 
 from shared.fields import DISCOVERY, enumeration, get
+from shared.insides import hide
 from shared.spelling import snake
 from shared.urls import URLS
 
-from .capture import Unreadable, statuses_in, text_in, type_of_body
+from .capture import Unreadable, lists_secrets, statuses_in, text_in, type_of_body
 from .statuses import assignment_of
 
-NAMES = {'cds': 'name', 'eds': 'cluster_name', 'lds': 'name', 'rds': 'name'}
-PARTS = {'ClustersConfigDump': 'cds', 'EndpointsConfigDump': 'eds', 'ListenersConfigDump': 'lds', 'RoutesConfigDump': 'rds'}
+NAMES = {kind: 'cluster_name' if kind == 'eds' else 'name' for kind in URLS}
+PARTS = {'ClustersConfigDump': 'cds', 'EndpointsConfigDump': 'eds', 'ListenersConfigDump': 'lds', 'RoutesConfigDump': 'rds',
+         'SecretsConfigDump': 'sds', 'EcdsConfigDump': 'ecds'}
 
 
 def wrapped(kind, body, version, name=None):
@@ -55,21 +57,22 @@ def address_words(body):
 class Dump:
     """Takes the parts of a dump, and bodies that stand alone. `messages` has them in an order in which each waits for nothing that comes
     later, `failures` what Envoy refused last, and `said` the states (warming, active, draining) in which a dump lists clusters and listeners,
-    by type and name. `listed` are the types of which a dump has the part."""
+    by type and name. `listed` are the types of which a dump has the part. `kinds` are the types that are read. Of secrets none has its inside."""
 
-    def __init__(self, report):
-        self.report, self.node, self.came = report, None, {}
+    def __init__(self, report, kinds):
+        self.report, self.kinds, self.node, self.came = report, kinds, None, {}
         self.static, self.clusters, self.warming_clusters = [], [], []
         self.endpoints, self.routes, self.statuses, self.route_names = [], [], [], {''}
         self.draining, self.listeners, self.warming_listeners = [], [], []
-        self.failed, self.static_listeners, self.said, self.listed = {kind: [] for kind in NAMES}, [], {}, set()
+        self.failed, self.static_listeners, self.said, self.listed = {kind: [] for kind in kinds}, [], {}, set()
+        self.secrets, self.extensions, self.warming_secrets = [], [], set()
 
     def joins(self, tree, source):
         """Whether a document is of this state: none of its parts came from another source. A second such part begins another state."""
-        return all(self.came.get(part, source) == source for part in parts_of(tree))
+        return all(self.came.get(part, source) == source for part in parts_of(tree, self.kinds))
 
     def add(self, tree, source):
-        self.came.update(dict.fromkeys(parts_of(tree), source))
+        self.came.update(dict.fromkeys(parts_of(tree, self.kinds), source))
         if type_of_body(tree):
             self.body(type_of_body(tree), tree)
         elif statuses_in(tree):
@@ -81,23 +84,37 @@ class Dump:
     def body(self, kind, body):
         """A body as `istioctl proxy-config` prints it."""
         found = wrapped(kind, {'@type': URLS[kind], **body}, '')
+        if kind not in self.kinds:
+            self.report.add('not-sent', name=found['name'], before='a body of a type that isn\'t read')
+            return
+        if kind == 'sds':
+            hide(found)
         if kind == 'lds':
             self.give_name(found)
         if kind == 'rds' and found['name'] in self.route_names:
             self.report.add('not-sent', 'rds', found['name'], before='routes without a name of their own: they stand in their listener')
             return
         self.route_names.update([found['name']] if kind == 'rds' else [])
-        {'cds': self.clusters, 'eds': self.endpoints, 'lds': self.listeners, 'rds': self.routes}[kind].append(found)
+        self.rows()[kind].append(found)
+
+    def rows(self):
+        """What it has of each type, active there as far as that is said."""
+        return {'cds': self.clusters, 'eds': self.endpoints, 'lds': self.listeners, 'rds': self.routes, 'sds': self.secrets, 'ecds': self.extensions}
 
     def part(self, part):
         name = part_name(part)
-        readers = {'BootstrapConfigDump': self.bootstrap, 'ClustersConfigDump': self.of_clusters, 'EndpointsConfigDump': self.of_endpoints,
-                   'ListenersConfigDump': self.of_listeners, 'RoutesConfigDump': self.of_routes}
-        if name in readers:
-            self.listed.add(PARTS.get(name))
-            readers[name](part)
+        readers = {'cds': self.of_clusters, 'eds': self.of_endpoints, 'lds': self.of_listeners, 'rds': self.of_routes, 'sds': self.of_secrets,
+                   'ecds': self.of_extensions}
+        kind = PARTS.get(name)
+        if name == 'BootstrapConfigDump':
+            self.listed.add(None)
+            self.bootstrap(part)
+        elif kind in self.kinds:
+            self.listed.add(kind)
+            readers[kind](part)
         else:
-            self.report.add('not-sent', name=name, before='a part of the dump that no response of the four types brings', after=digest(part))
+            count = 'four' if len(self.kinds) == 4 else 'six'
+            self.report.add('not-sent', name=name, before=f'a part of the dump that no response of the {count} types brings', after=digest(part))
 
     def bootstrap(self, part):
         self.node = text_in(get(get(part, 'bootstrap'), 'node'), 'id') or self.node
@@ -123,6 +140,27 @@ class Dump:
             self.failure('rds', entry, text_in(get(entry, 'route_config'), 'name'))
         for _, body in entries(part, 'static_route_configs', 'route_config'):
             self.report.add('not-sent', 'rds', get(body, 'name'), before='static routes: they stand in their listener')
+
+    def of_secrets(self, part):
+        """Active ones; the names of those that warm."""
+        for entry in listed(part, 'dynamic_active_secrets'):
+            self.failure('sds', entry, text_in(entry, 'name'))
+            if body_in(entry, 'secret') is not None:
+                self.secrets.append(wrapped('sds', get(entry, 'secret'), get(entry, 'version_info'), text_in(entry, 'name')))
+                hide(self.secrets[-1])
+        for entry in listed(part, 'dynamic_warming_secrets'):
+            self.failure('sds', entry, text_in(entry, 'name'))
+            name = text_in(get(entry, 'secret'), 'name') or text_in(entry, 'name')
+            self.warming_secrets.add(name)
+            self.report.add('not-sent', 'sds', name, before='a secret that warms: Envoy waits for it too')
+        for entry in listed(part, 'static_secrets'):
+            name = text_in(get(entry, 'secret'), 'name') or text_in(entry, 'name')
+            self.report.add('not-sent', 'sds', name, before='a static secret: nothing waits for it')
+
+    def of_extensions(self, part):
+        for entry in listed(part, 'ecds_filters'):
+            self.failure('ecds', entry, text_in(get(entry, 'ecds_filter'), 'name'))
+        self.extensions += [wrapped('ecds', body, version) for version, body in entries(part, 'ecds_filters', 'ecds_filter')]
 
     def of_listeners(self, part):
         for _, body in entries(part, 'static_listeners', 'listener'):
@@ -164,6 +202,8 @@ class Dump:
         if is_there:
             self.failed[kind].append(wrapped(kind, body, get(state, 'version_info'), name))
             name = self.failed[kind][-1]['name']
+            if kind == 'sds':
+                hide(self.failed[kind][-1])
         self.report.add('nack', kind, name, 'error_state', envoy='refuses', before=text_in(state, 'details') or 'without details',
                         after='failed_configuration, sent after all else' if is_there else 'no failed_configuration: nothing is sent')
 
@@ -193,8 +233,7 @@ class Dump:
 
     def kept(self, kind, name):
         """The resources of a name that Envoy has, the active one first."""
-        rows = {'cds': self.static + self.clusters + self.warming_clusters, 'eds': self.endpoints,
-                'lds': self.listeners + self.warming_listeners, 'rds': self.routes}[kind]
+        rows = {**self.rows(), 'cds': self.static + self.clusters + self.warming_clusters, 'lds': self.listeners + self.warming_listeners}[kind]
         return [resource for resource in rows if resource['name'] == name]
 
     def gone_since(self, said):
@@ -202,18 +241,29 @@ class Dump:
         gone = [key for key, states in said.items() if key[0] in self.listed and key not in self.said and states != {'draining'}]
         return {kind: [name for of, name in gone if of == kind] for kind in ('cds', 'lds')}
 
-    def messages(self, removed):
-        """(type, message, what it is) in order. `removed` are names, by type, that the proxy has and isn't to have any more."""
+    def messages(self, removed, awaited):
+        """(type, message, what it is) in order. `removed` are names, by type, that the proxy has and isn't to have any more; `awaited` gives the
+        resources, of what the dump has of a type, that something is waited for by then and that weren't sent, or with True all that weren't."""
         kept = {resource['name'] for resource in self.listeners}
         gone = [resource['name'] for resource in self.draining if resource['name'] not in kept]
-        steps = [('cds', self.static, [], 'static clusters'), ('cds', self.clusters, removed['cds'], 'active clusters'), ('eds', self.endpoints, [], 'endpoints')]
+        steps = [('cds', self.static, [], 'static clusters'), ('cds', self.clusters, removed['cds'], 'active clusters'), ('eds', self.endpoints, [], 'endpoints'),
+                 ('sds', None, [], 'secrets of the clusters')]
         if self.draining:
-            steps += [('lds', self.draining, [], 'draining listeners'), ('rds', self.routes, [], 'routes, for the draining listeners')]
+            steps += [('lds', self.draining, [], 'draining listeners'), ('rds', self.routes, [], 'routes, for the draining listeners'),
+                      ('sds', None, [], 'secrets of the draining listeners'), ('ecds', None, [], 'extensions of the draining listeners')]
         steps += [('lds', self.listeners, removed['lds'] + gone, 'active listeners'), ('rds', self.routes, [], 'routes'),
-                  ('cds', self.warming_clusters, [], 'warming clusters'), ('lds', self.warming_listeners, [], 'warming listeners')]
+                  ('sds', None, [], 'secrets of the listeners'), ('ecds', None, [], ACTIVE_EXTENSIONS),
+                  ('cds', self.warming_clusters, [], 'warming clusters'), ('lds', self.warming_listeners, [], 'warming listeners'),
+                  ('sds', True, [], 'other secrets'), ('ecds', True, [], 'other extensions')]
         for kind, resources, names, words in steps:
-            if resources or names or words == 'endpoints':
+            if kind in self.kinds and (resources is None or resources is True):
+                resources = awaited(kind, self.rows()[kind], resources is True)
+            if kind in self.kinds and (resources or names or words in ('endpoints', ACTIVE_EXTENSIONS)):
                 yield kind, message_of(kind, resources, names), words
+
+
+# The step behind which all that the active listeners wait for was sent.
+ACTIVE_EXTENSIONS = 'extensions of the listeners'
 
 
 def message_of(kind, resources, removed=()):
@@ -239,13 +289,14 @@ def timeless(tree):
 
 
 def part_name(part):
-    return text_in(part, '@type').rsplit('.', 1)[-1]
+    return text_in(part, '@type').rsplit('.', 1)[-1] or ('SecretsConfigDump' if lists_secrets(part) else '')
 
 
-def parts_of(tree):
+def parts_of(tree, kinds):
     """What a document has of a state: types, and the names of other parts of a dump."""
     if type_of_body(tree):
         return [type_of_body(tree)]
     if statuses_in(tree):
         return ['eds']
-    return [PARTS.get(part_name(part), part_name(part)) for part in configs_of(tree)]
+    names = [part_name(part) for part in configs_of(tree)]
+    return [PARTS[name] if PARTS.get(name) in kinds else name for name in names]

@@ -1,17 +1,21 @@
 """Members that the program passes over, and that change what Envoy does: they are named in the report."""
+from shared.profiles import ENVOY
 from shared.spelling import snake
 
 MEMBERS = {'transport_socket', 'transport_socket_matches', 'ignore_port_in_host_matching', 'strip_matching_host_port', 'strip_any_host_port',
            'require_tls', 'additional_addresses', 'outlier_detection', 'listener_filters', 'use_original_dst', 'retry_policy', 'rate_limits'}
+# What the profile envoy reads of them.
+READ_AS_ENVOY = {'use_original_dst'}
 TYPES = ('rbac', 'ext_authz', 'jwt_authn', 'oauth2', 'fault', 'ratelimit', 'rate_limit', 'basic_auth', 'lua', 'wasm', 'ext_proc')
 HIDDEN = ('[redacted]', 'W3JlZGFjdGVkXQ==')
 
 
-def passed_over(body):
+def passed_over(body, profile):
     """{member: words} of a resource: the first path of each such member, and how often it stands there."""
     found = {}
     walk(body, '', found)
-    return {name: f'{path}' + (f' and {count - 1} more' if count > 1 else '') for name, (path, count) in found.items()}
+    return {name: f'{path}' + (f' and {count - 1} more' if count > 1 else '') for name, (path, count) in found.items()
+            if profile != ENVOY or name not in READ_AS_ENVOY}
 
 
 def walk(tree, path, found):

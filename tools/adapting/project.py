@@ -64,7 +64,7 @@ class Projection:
         self.kind, self.name, self.of_udp = None, None, False
 
     def apply(self, kind, message):
-        if self.level == 'none':
+        if self.level == 'none' or not hasattr(self, kind):
             return
         resources, added, removed = list_in(message, 'resources'), [], []
         for resource in resources:

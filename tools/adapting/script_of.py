@@ -4,20 +4,24 @@ import copy
 import json
 
 from shared.fields import get, key_of
+from shared.insides import hide
 from shared.probes import Probes
 from shared.profiles import ENVOY, OF_OPTIONS, OWN, USUAL
-from shared.resources import read_message
+from shared.resources import read_item, read_message
 from shared.script import ASK_OF_ENVOY, MAX_INPUT, MAX_LINE, MAX_LINES
 from shared.shown import quoted
-from shared.urls import KINDS
+from shared.urls import URLS, WORD, kinds_read
+from shared.urls import kind_of as kind_of_url
+from shared.whole_sidecar import is_read
 from shared.words import counted
 
 from . import envoy_log
 from .capture import Unreadable, kind_of, list_in, text_in
 from .checked import Checked, NoScript
-from .dump import Dump, message_of, wrapped
+from .dump import ACTIVE_EXTENSIONS, Dump, message_of, wrapped
 from .passed import passed_over
 from .project import PROJECTIONS, take_out
+from .secrets import Asked
 from .whole_of import WholeOf
 
 RESOURCE = 'envoy.service.discovery.v3.Resource'
@@ -32,11 +36,6 @@ def compact(tree):
         raise Unreadable('a text has half a pair of surrogates') from None
 
 
-def kind_in(message):
-    """The type of a response that is read; None for any other, and where its type isn't a text."""
-    return KINDS.get(text_in(message, 'type_url'))
-
-
 def no_response(complaints):
     return Unreadable('a message is no response: ' + '; '.join(f'{path} {words}' for path, words in complaints[:3]))
 
@@ -44,9 +43,10 @@ def no_response(complaints):
 class ScriptOf:
     """`take` each document, then `finish`; `lines` are the script's, each bytes without its end. With `keeps` the `reading` of the script
     has its lines as they were read. `said` has what a dump says of clusters and listeners, where no response came after it, and `dumps` counts
-    the dumps. `came` are the types of which the input tells a state, and `fixed` the (type, name) of what Envoy has from its bootstrap."""
+    the dumps. `came` are the types of which the input tells a state, and `fixed` the (type, name) of what Envoy has from its bootstrap. `brought`
+    are the names of the secrets that its responses bring, and `asked` follows which are asked for."""
 
-    def __init__(self, chosen, report, keeps=False):
+    def __init__(self, chosen, report, keeps=False, brought=()):
         self.chosen, self.report, self.checked = chosen, report, Checked(chosen.sotw, keeps)
         self.reading, self.came, self.fixed, self.said = self.checked.reading, set(), set(), {}
         self.last_said, self.dumps = {}, 0
@@ -55,10 +55,11 @@ class ScriptOf:
         self.whole = WholeOf(report) if chosen.sotw else None
         self.header, self.lines, self.size = {}, [], 0
         self.place, self.header_place = 'no input', 'the header'  # what a line is made of
-        self.state, self.documents = None, 0  # the state of the documents that came last
+        self.state, self.documents, self.telling = None, 0, False  # the state of the documents that came last, and whether it is being told
         self.open, self.nonces, self.known, self.last_full = False, 0, 0, {}
         self.clusters, self.hosts = {}, {}  # what clusters and endpoints were told to be; None of endpoints that broke a rule or timed out
         self.good = {}  # of the response that was read last: which resources break no rule
+        self.asked, self.in_script = Asked(report, brought, chosen.secrets != 'none'), False
 
     def go_by(self, profile):
         """What comes from here on is read by this profile."""
@@ -74,7 +75,7 @@ class ScriptOf:
         for key in document.repeated:
             self.report.add('repeated-key', member=key, before=f'stands twice in an object of {place}', after='the last of them')
         if found in ('script', 'delta', 'sotw'):
-            self.came.add(kind_in(tree.get('message') if found == 'script' else tree))
+            self.came.add(self.kind_in(tree.get('message') if found == 'script' else tree))
             self.said = {}
         wanted = self.chosen.source
         if wanted in ('delta', 'sotw') and found in ('delta', 'sotw'):
@@ -83,13 +84,17 @@ class ScriptOf:
                   'sotw': self.full, 'health': self.health, 'log': self.log}
         if found in OF_STATE:
             self.known += 1
-            self.state = self.state or Dump(self.report)
+            self.state = self.state or Dump(self.report, kinds_read(self.profile))
             self.state.add(tree, self.source_of(found, source))
         elif found in takers:
             self.known += 1
             takers[found](tree)
         else:
             self.report.add('not-sent', before=f'{place}: no document that is known')
+
+    def kind_in(self, message):
+        """The type of a response that is read; None for any other, and where its type isn't a text."""
+        return kind_of_url(text_in(message, 'type_url'), self.profile)
 
     @contextlib.contextmanager
     def placing(self):
@@ -124,7 +129,7 @@ class ScriptOf:
         self.named(text_in(get(tree, 'node'), 'id'))
         error = get(tree, 'error_detail')
         if isinstance(error, dict):
-            self.report.add('nack', kind_in(tree), None, 'error_detail', envoy='refuses', before=text_in(error, 'message') or 'without details',
+            self.report.add('nack', self.kind_in(tree), None, 'error_detail', envoy='refuses', before=text_in(error, 'message') or 'without details',
                             after=f'nonce {text_in(tree, "response_nonce")}')
 
     def named(self, node):
@@ -145,7 +150,9 @@ class ScriptOf:
     def operation(self, tree):
         message = tree.get('message')
         if tree['op'] == 'response' and isinstance(message, dict):
+            self.in_script = True
             self.delta(message) if kind_of(message) != 'sotw' else self.full(message)
+            self.in_script = False
             return
         if tree['op'] in ('connect', 'disconnect'):
             self.open = tree['op'] == 'connect'
@@ -166,7 +173,12 @@ class ScriptOf:
         """Writes the responses that bring about the state that was gathered."""
         if not self.state:
             return
-        state, self.state = self.state, None
+        state, self.state, self.telling = self.state, None, True
+        self.told_state(state)
+        self.telling = False
+
+    def told_state(self, state):
+        self.asked.begin()
         self.named(state.node)
         state.finish()
         self.came.update(state.came)
@@ -180,14 +192,44 @@ class ScriptOf:
         self.lacks_endpoints(state)
         failed = [(kind, resource) for kind in state.failed for resource in state.failed[kind]]
         kept = {(kind, resource['name']): copy.deepcopy(state.kept(kind, resource['name'])) for kind, resource in failed}
-        for kind, message, words in state.messages(removed):
+        for kind, message, words in state.messages(removed, lambda *asked: self.asked.due(state, *asked)):
             if message['resources'] or message['removedResources']:
                 self.report.add('made', kind, before=words, after='a response', turns=words.startswith('warming'))
                 self.delta(message)
             if words == 'endpoints':
                 self.first_waits(state)
+            if words == ACTIVE_EXTENSIONS:
+                self.extension_waits()
         for kind, resource in failed:
             self.failure(kind, resource, kept[kind, resource['name']], state)
+
+    # Secrets and extensions
+
+    def extension_waits(self):
+        """The lines that end the waits of listeners that are active there for extensions that the dump doesn't have."""
+        missing = self.asked.missing_extensions()
+        for name, is_limited in sorted(missing) if self.chosen.stable else missing:
+            before = f'a listener is active there that asks for extension {quoted(name)}, and it isn\'t in the dump'
+            if is_limited:
+                self.report.add('made', 'ecds', name, before=before, after='a line of its fetch timeout', turns=True)
+                self.write({'op': 'fetchTimeout', 'type': 'ecds', 'name': name})
+            else:
+                self.report.add('absent', 'ecds', name, before=before, after='what waits for it warms on: its initial fetch timeout is 0, without limit')
+
+    def stand_in(self):
+        """Writes what stands in for secrets that the stream of the input can't bring, where that is no state that tells which there are."""
+        found = [] if self.telling else self.asked.stand_ins(self.asked.from_elsewhere)
+        self.asked.from_elsewhere = []
+        if found:
+            self.delta(message_of('sds', found))
+
+    def failed_in_part(self, kind, resource):
+        """Whether what Envoy refused is a secret or an extension in which nothing is wrong that is read."""
+        if kind not in ('sds', 'ecds') or read_item(kind, URLS[kind], resource, resource['name'], '', '', self.profile).content is None:
+            return False
+        words = f'a failed_configuration in which nothing is wrong that is read of a {WORD[kind]}'
+        self.report.add('not-sent', kind, resource['name'], before=words)
+        return True
 
     def lacks_endpoints(self, state):
         """A dump without any endpoints makes no script, unless that is wanted."""
@@ -235,6 +277,8 @@ class ScriptOf:
         """Sends what Envoy refused; where it breaks no rule here, what Envoy kept is sent again after it. The first of that is a cluster
         that is active there, or it isn't."""
         name, is_active = resource['name'], kind == 'cds' and resource['name'] in state.active_clusters()
+        if self.failed_in_part(kind, resource):
+            return
         self.report.add('made', kind, name, before='failed_configuration', after='a response', turns=True)
         self.delta(message_of(kind, [resource]))
         if not self.good.get(name):
@@ -265,7 +309,7 @@ class ScriptOf:
 
     def full(self, message):
         """A state-of-the-world response as an incremental one: clusters and listeners that it hasn't any more are removed."""
-        kind, version = kind_in(message), get(message, 'version_info')
+        kind, version = self.kind_in(message), get(message, 'version_info')
         if not isinstance(get(message, 'resources') or [], list) or not isinstance(version or '', str):
             raise Unreadable('the resources of a response aren\'t an array, or its versionInfo is no text')
         found = [self.of_full(kind, body, version or '') for body in list_in(message, 'resources')]
@@ -287,12 +331,14 @@ class ScriptOf:
 
     def delta(self, message, whole_version=None):
         """Writes an incremental response. With `whole_version` it came as one of the state of the world."""
-        kind = kind_in(message)
+        kind = self.kind_in(message)
         if not self.open:
             self.write({'op': 'connect'}, made=bool(self.lines))
             self.open = True
         for resource in self.resources(message):
             self.unwrap(resource)
+            if kind == 'sds' and hide(resource):
+                self.report.add('left-out', kind, get(resource, 'name'), 'resource', before='the inside of a secret')
         self.give_nonce(message)
         if kind:
             self.projection.apply(kind, message)
@@ -302,10 +348,11 @@ class ScriptOf:
             self.report.add('passed-over', name=text_in(message, 'type_url'), before='a response of a type that isn\'t read')
         if self.whole and kind:
             self.look_at(self.read_alone(message), self.resources(message))
-            self.write_response(self.whole.response(kind, message, whole_version))
-            return
-        take_out(message, *[name for name in ('resources', 'removed_resources') if get(message, name) == []])
+            message = self.whole.response(kind, message, whole_version)
+        else:
+            take_out(message, *[name for name in ('resources', 'removed_resources') if get(message, name) == []])
         self.write_response(message)
+        self.stand_in()
 
     def resources(self, message):
         return [resource for resource in list_in(message, 'resources') if isinstance(resource, dict)]
@@ -346,7 +393,7 @@ class ScriptOf:
         if len(data) > MAX_LINE:
             if len(resources) < 2:
                 raise Unreadable(f'a resource has more than {MAX_LINE} bytes, the most of a line: {get(resources[0], "name") if resources else ""}')
-            if self.whole and kind_in(message) in ('cds', 'lds'):
+            if self.whole and self.kind_in(message) in ('cds', 'lds'):
                 raise Unreadable(f'a response has more than {MAX_LINE} bytes, the most of a line, and one of the state of the world can\'t be split')
             self.split(message, resources)
             return
@@ -361,7 +408,7 @@ class ScriptOf:
     def split(self, message, resources):
         half = len(resources) // 2
         nonce = get(message, 'nonce')
-        self.report.add('split', kind_in(message), before=f'{len(resources)} resources in response {nonce}',
+        self.report.add('split', self.kind_in(message), before=f'{len(resources)} resources in response {nonce}',
                         after=f'{half} and {len(resources) - half}', turns=True)
         for place, part in enumerate((resources[:half], resources[half:])):
             one = dict(message, **{key_of(message, 'resources'): part, key_of(message, 'nonce'): f'{nonce}-{place}'})
@@ -384,9 +431,11 @@ class ScriptOf:
         for item, resource in zip(response.items, resources):
             if item.least:
                 self.report.refused(response.kind, item)
-            for member, path in passed_over(resource.get('resource')).items():
+            for member, path in passed_over(resource.get('resource'), self.profile).items():
                 self.report.add('passed-over', response.kind, item.name, member, before=path)
         self.probes.take(response)
+        if is_read(self.profile):
+            self.asked.note(response, resources, self.in_script)
 
     def note(self, response):
         """Keeps which resources break no rule of their own, and what clusters and endpoints are."""

@@ -6,7 +6,7 @@ from shared.bodies import differences
 from shared.leads import nowhere
 from shared.changes import LACKING, change_words, result_words
 from shared.shown import named, quoted, shown
-from shared.urls import WORD, WORDS
+from shared.urls import BY_NAME, WORD, WORDS, kinds_read
 from shared.words import counted, few
 
 from .chains import changed_chains
@@ -54,7 +54,7 @@ def compared(old, new, also, strict):
     findings += asked + forms(old, new, also)
     find_causes(findings)
     touched = {(finding.of, finding.name) for finding in findings}
-    counts = of_kinds(key for key in keys if key not in touched)
+    counts = of_kinds((key for key in keys if key not in touched), kinds_read(new.reading.profile))
     connected = len(set(old.asks) | set(new.asks)) - len({finding.name for finding in asked})
     return findings, ', '.join([f'{count} {WORDS[kind]}' for kind, count in counts.items()] + [counted(connected, 'connection')])
 
@@ -143,7 +143,7 @@ def unjudged(old, new):
     """Endpoints and routes that nothing depends on, resources of types that aren't read, and what comes on no stream."""
     for key in dict.fromkeys([*old.unjudged, *new.unjudged]):
         was, now = old.unjudged.get(key), new.unjudged.get(key)
-        why = '; nothing here depends on it' if key[0] in ('eds', 'rds') else '; it came on no stream' if key[0] in WORD else '; its type isn\'t read'
+        why = '; nothing here depends on it' if key[0] in BY_NAME else '; it came on no stream' if key[0] in WORD else '; its type isn\'t read'
         if was and now:
             yield from unread(key, was, now, True, why)
         elif key not in (new if was else old).generations:
@@ -193,8 +193,15 @@ def states(key, old, new):
         yield Finding(CHANGED, *key, 'serves' + (', and warmed on before' if old_warms else ', and is new'), generation)
     if key[0] == 'cds' and old_serves and serves and old_serves.results != serves.results:
         yield from results(key, old_serves, serves, generation)
-    if key[0] == 'cds' and old_serves and serves and old_serves.eligible and serves.lacking():
+    if key[0] == 'cds' and old_serves and serves and old_serves.eligible and not serves.eligible and 'elsewhere' not in serves.content:
         yield Finding(REGRESSION, *key, f'has no host that may be chosen; it had {old_serves.eligible}', generation)
+    if serves and serves.absent and not (old_serves and old_serves.absent):
+        absent = [f'{WORD[name[0]]} {quoted(name[1])} ({new.machine.why_absent(name)})' for name in serves.lacking() if name in serves.absent]
+        yield Finding(REGRESSION, *key, f'serves without {", ".join(absent)}', generation)
+    if old.closed[key[1]] != new.closed[key[1]] and key[0] == 'lds':
+        counts = [f'{counted(side.closed[key[1]], "connection")}' for side in (new, old)]
+        kind = REGRESSION if new.closed[key[1]] > old.closed[key[1]] else CHANGED
+        yield Finding(kind, *key, f'closes {counts[0]} when its drain time comes, before {counts[1]}', generation)
 
 
 def results(key, was, now, generation):
@@ -215,8 +222,11 @@ def contents(key, old, new):
     for place, (before, after) in enumerate(zip(was, now), 1):
         if before.content != after.content and not (told and place == len(was) == len(now) and before.content['address'] == after.content['address']):
             yield Finding(CHANGED, *key, change_words(key[0], before.content, after.content), place)
+        if before.is_in_place != after.is_in_place:
+            how = [('changes in place' if side.is_in_place else 'is replaced whole') for side in (after, before)]
+            yield Finding(CHANGED, *key, f'{how[0]}, before it {how[1]}', place)
         yield from unread(key, before.sent, after.sent, before.content == after.content, generation=place)
-    if len(was) != len(now) and (was and now or key[0] in ('eds', 'rds') and not (key in old.present and key not in new.present)):
+    if len(was) != len(now) and (was and now or key[0] in BY_NAME and not (key in old.present and key not in new.present)):
         yield Finding(CHANGED, *key, f'{counted(len(now), "generation")}, before {len(was)}', len(now) or None)
 
 
@@ -246,7 +256,7 @@ def connections(old, new):
 def connection(ask, was, now, new):
     """What differs between two answers to one connection; None where nothing does, or one that wasn't tried."""
     address, port, host, path, pick, more = ask
-    came_by = causes_of(was, now, new)
+    came_by, chains = causes_of(was, now, new), [one and one.chain for one in (was, now)]
     was, now = (one and one.result for one in (was, now))
     name = f'connection to {named(address, 60)}:{port}, host {quoted(host, 60)}, path {quoted(path, 60)}' + (f', pick {pick}' if pick else '') + more
     found = lambda kind, said: Finding(kind, 'connection', name, said, came_by=came_by)
@@ -261,6 +271,8 @@ def connection(ask, was, now, new):
         return found(CHANGED, result_words(now) + '; it is new' if now else 'not asked any more')
     if was[:2] != now[:2]:
         return found(CHANGED, f'{result_words(now)}; before {result_words(was)}')
+    if None not in chains and chains[0][0] != chains[1][0]:
+        return found(CHANGED, f'{result_words(now)}, by {chains[1][1]}; before by {chains[0][1]}')
     return None
 
 
@@ -269,6 +281,7 @@ def causes_of(was, now, new):
     routes, listener and cluster."""
     keys = [('lds', was.listener)] if was and was.listener and not new.live(('lds', was.listener))[0] else []
     keys += [('cds', now.cluster)] if now and now.result[0] in LACKING else []
+    keys += [('cds', now.result[1]), ('lds', now.listener)] if now and now.result[0] == 'noSecret' else []
     for one in filter(None, (was, now)):
         keys += [('rds', one.routes), ('lds', one.listener), ('cds', one.cluster), ('eds', one.cluster)]
     return [key for key in keys if key[1] is not None]

@@ -1,4 +1,6 @@
 """What a script came to by its journal: generations by name, refusals, what connections got, and what was sent and isn't read."""
+from collections import Counter
+
 from shared.bodies import resources_of, sent
 from shared.changes import result_of
 from shared.envoy_waits import EnvoyWaits
@@ -6,9 +8,11 @@ from shared.fields import Reader
 from shared.pair import NotTheJournal
 from shared.pictures import follower
 from shared.profiles import OWN
+from shared.shown import quoted
+from shared.journal import MAKES
 from shared.teller import choice_of
-from shared.urls import KINDS
-from shared.words import chains_of, more_asked
+from shared.urls import WORD
+from shared.words import chain_words, chains_of, more_asked
 
 
 class Sent:
@@ -27,19 +31,22 @@ class Sent:
 
 
 class Generation:
-    """A generation of a cluster or listener, or a value of endpoints or routes, with the resources that brought it."""
+    """A generation of a cluster or listener, or a value of another type, with the resources that brought it; `is_in_place` where it is a listener
+    that is in place of the one before."""
 
-    def __init__(self, content, profile):
-        self.content, self.sent = content, Sent(profile=profile)
+    def __init__(self, content, profile, is_in_place=False):
+        self.content, self.sent, self.is_in_place = content, Sent(profile=profile), is_in_place
 
 
 class Tried:
     """A connection: its `result` in words, and the names of its listener, its named routes and the cluster that it was led to, None where it
-    has none."""
+    has none. `chain` is what its filter chain asks for, with words for that chain, where the answer tells which it is."""
 
     def __init__(self, result, listener, choice):
         self.result, self.listener, self.cluster = result, listener, choice.cluster
         self.routes = choice.taken and choice.taken['serves'].get('rds')
+        is_told = choice.taken and isinstance(choice.answer, dict) and 'chain' in choice.answer
+        self.chain = (choice.taken['match'], chain_words(choice.taken)) if is_told else None
 
 
 class Outcome:
@@ -51,6 +58,7 @@ class Outcome:
         self.generations, self.refusals, self.asks, self.taken = {}, {}, {}, set()
         self.unjudged, self.present, self.anew = {}, set(), []
         self.names, self.versions, self.nonces, self.order = {}, {}, [], []
+        self.opened, self.closed = {}, Counter()  # the listener of each open connection, and how many each had closed when its drain time came
         self.lines = pair.reading.count
         for entry in pair.entries():
             self.take(entry)
@@ -63,12 +71,15 @@ class Outcome:
         self.anew += [found for found in self.envoy.begun if found.changed]
         if row.op == 'response':
             self.respond(line, row.answer, first)
+        elif row.op == 'settle':
+            self.closed.update(self.opened.get((entry.worker, conn)) for conn in row.answer['closed'])
         elif row.op == 'accept' and row.answer != 'inUse':
             members = line.members
             ask = members['address'], members['port'], members['host'], members['path'], members['pick'], more_asked(members)
             choice = choice_of(self.machine, members, entry.worker, row.answer)
             self.taken.add(id(choice.taken))
             listener = self.names.get(row.answer['listener']) if isinstance(row.answer, dict) else None
+            self.opened[entry.worker, members['conn']] = listener
             self.asks.setdefault(ask, []).append(Tried(result_of(row.answer, self.names.get, choice.cluster), listener, choice))
 
     def respond(self, line, answer, number):
@@ -84,12 +95,14 @@ class Outcome:
             self.present.add(key)
             if verdict[0] == 'V':
                 self.refusals.setdefault(key, []).append((verdict, item.whose(response.kind, verdict), item.complaints(verdict), resource))
-            elif verdict in ('new', 'same', 'kept'):
+            elif verdict in ('new', 'same', 'kept', 'inPlace', 'back'):
+                if item.content is None:
+                    raise NotTheJournal(f'it takes {WORD[response.kind]} {quoted(item.name, 60)}, which breaks a rule')
                 self.versions[key] = item.version
                 self.settle(key, verdict, item.content, resource)
             elif verdict == 'unasked':
                 self.unjudged.setdefault(key, self.none_sent()).add(resource)
-            if verdict == 'new':
+            if verdict in MAKES:
                 self.names[number] = item.name
                 number += 1
         if number != self.machine.next:
@@ -100,8 +113,10 @@ class Outcome:
 
     def settle(self, key, verdict, content, resource):
         found = self.generations.setdefault(key, [])
-        if not found or not (verdict == 'same' or (verdict == 'kept' and found[-1].content == content)):
-            found.append(Generation(content, self.reading.profile))
+        if verdict == 'back' and len(found) > 1:
+            found.pop()
+        if not found or not (verdict in ('same', 'back') or (verdict == 'kept' and found[-1].content == content)):
+            found.append(Generation(content, self.reading.profile, verdict == 'inPlace'))
         found[-1].sent.add(resource)
 
     def ignore(self, line):
@@ -130,9 +145,9 @@ def name_of(resource):
     return name if isinstance(name, str) else ''
 
 
-def of_kinds(keys):
-    """How many keys there are of each type."""
-    counts = {kind: 0 for kind in KINDS.values()}
+def of_kinds(keys, kinds):
+    """How many keys there are of each of these types."""
+    counts = {kind: 0 for kind in kinds}
     for kind, _ in keys:
         if kind in counts:
             counts[kind] += 1

@@ -11,7 +11,7 @@ from shared.pictures import follower
 from shared.shown import quoted, shown
 from shared.teller import choice_of, refusal_words
 from shared.urls import WORD, WORDS
-from shared.words import counted
+from shared.words import counted, lacked
 
 MOST_WORDS = 400
 # The member of a refusal that a relayed client sent.
@@ -48,7 +48,7 @@ class Facts:
     """Follows a journal to its end beside the report of adapt, to which `note` added what it doesn't have."""
 
     def __init__(self, pair, report):
-        self.report = report
+        self.report, self.profile = report, pair.reading.profile
         self.said = {(line['type'], line['name']): line['before'] for line in report.lines if line['action'] == 'listed'}
         self.machine = follower(pair.reading, pair.format)
         self.verdicts, self.by_nonce, self.refusals, self.answers, self.lacking = {}, {}, Counter(), Counter(), Counter()
@@ -63,7 +63,7 @@ class Facts:
         if row.op == 'accept':
             result = row.answer if isinstance(row.answer, str) else row.answer['result']
             self.answers[result] += 1
-            if result in LACKING:
+            if result in (*LACKING, 'noSecret'):
                 self.lacking[result, choice_of(self.machine, line.members, entry.worker, row.answer).why] += 1
 
     def respond(self, line, verdicts):
@@ -87,7 +87,7 @@ class Facts:
 
     def sections(self):
         refused = Section('Refused here', [times(text, count) for text, count in self.refusals.items()])
-        return [self.of_envoy(), *self.otherwise(), *self.of_log(), self.waiting(), self.without(), *self.nowhere(), refused,
+        return [*self.secrets(), self.of_envoy(), *self.otherwise(), *self.of_log(), self.waiting(), self.without(), *self.nowhere(), refused,
                 self.stand_ins(), self.connections(), *self.unreached()]
 
     def of_envoy(self):
@@ -135,6 +135,17 @@ class Facts:
                  for (kind, name), way, cluster in nowhere(self.machine)]
         return [Section('Leads to a cluster that isn\'t there', lines)] if lines else []
 
+    def secrets(self):
+        """What waits for a secret or an extension, by each of these."""
+        found = {}
+        for row in self.rows('warming'):
+            for key in self.machine.awaited_of(row):
+                if key[0] in ('sds', 'ecds'):
+                    found.setdefault(key, []).append(f'{WORD[row.kind]} {quoted(row.name)}')
+        lines = [f'{WORD[kind]} {quoted(name)}: {names[0]} waits' + (f', and {len(names) - 1} more' if len(names) > 1 else '')
+                 for (kind, name), names in found.items()]
+        return [Section('Waited for: secrets and extensions', lines)] if lines else []
+
     def waiting(self):
         """What warms at the end, and for what."""
         lines = []
@@ -146,7 +157,7 @@ class Facts:
 
     def without(self):
         lacking = [(row, self.machine.without(row)) for row in self.rows('active')]
-        return Section('Serves without hosts or routes', [f'{WORD[row.kind]} {quoted(row.name)}: {words}' for row, words in lacking if words], 'nothing')
+        return Section(f'Serves without {lacked(self.profile)}', [f'{WORD[row.kind]} {quoted(row.name)}: {words}' for row, words in lacking if words], 'nothing')
 
     def rows(self, status):
         return [row for _, row in sorted(self.machine.rows.items()) if row.status == status]
@@ -154,7 +165,7 @@ class Facts:
     def stand_ins(self):
         lines = []
         for line in self.report.lines:
-            if line['action'] in ('stand-in', 'left-out'):
+            if line['action'] == 'stand-in' or line['action'] == 'left-out' and line['type'] != 'sds':
                 what = f'{shown(value_words(line["after"]), 160)} in place of {shown(value_words(line["before"]), 160)}'
                 words = what if line['action'] == 'stand-in' else f'{shown(line["member"])} left out: {shown(value_words(line["before"]), 160)}'
                 lines.append(f'{WORD[line["type"]]} {quoted(line["name"])}: {words}')
@@ -162,12 +173,12 @@ class Facts:
 
     def connections(self):
         words = {'served': 'served', 'local': 'answered directly', 'redirect': 'redirected', 'noRoute': 'no route', 'noCluster': 'no cluster',
-                 'noEndpoint': 'no host', 'noListener': 'no listener', 'noChain': 'no filter chain', 'inUse': 'number in use',
+                 'noEndpoint': 'no host', 'noSecret': 'no handshake', 'noListener': 'no listener', 'noChain': 'no filter chain', 'inUse': 'number in use',
                  'undecided': 'undecided', 'elsewhere': 'gone elsewhere, to a host that no script tells'}
         lines = [f'{count} {words[result]}' + (f': {why}' if why else '') for (result, why), count in self.lacking.most_common()]
-        others = [(result, count) for result, count in self.answers.most_common() if result not in LACKING]
+        others = [(result, count) for result, count in self.answers.most_common() if result not in (*LACKING, 'noSecret')]
         lines += [f'{count} {words[result]}' for result, count in sorted(others, key=lambda pair: pair[0] not in LOST)]
-        bad = any(self.answers[result] for result in (*LACKING, *LOST))
+        bad = any(self.answers[result] for result in (*LACKING, 'noSecret', *LOST))
         return Section('Connections tried', lines, alarms=bad, count=sum(self.answers.values()))
 
     def unreached(self):

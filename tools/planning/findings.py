@@ -7,13 +7,14 @@ from shared import rules
 from shared.bodies import between, canonical, differences, outer, text_of
 from shared.bodies import walk as walk_bodies
 from shared.came import came
+from shared.journal import MAKES
 from shared.changes import host_words, result_words
 from shared.shown import named, quoted
 from shared.spelling import spelled
 from shared.urls import WORDS
-from shared.words import counted, few
+from shared.words import counted, few, in_place_words, match_words, redirected_words
 
-from .push import CHANGED, ORDER
+from .push import CHANGED
 from .transition import OPEN, PROBE, TIMEOUTS
 
 REFUSED, HANGS, DRAINS, NOWHERE, WITHOUT, ANSWERS, BETWEEN, HOSTS = (
@@ -24,8 +25,6 @@ COUNTED = (REFUSED, HANGS, DRAINS, NOWHERE, WITHOUT, ANSWERS, BETWEEN, HOSTS)
 CLASSES = (*COUNTED, IN_PLACE, ANEW, VALUE, TODAY, UNJUDGED, OTHERWISE)
 # Members of a listener that hold its filter chains.
 CHAINS = ('filterChains', 'defaultFilterChain')
-# Verdicts that make a generation.
-MAKES = ('new', 'inPlace')
 PLACE = re.compile(r'\[[^\]]*\]')
 
 
@@ -95,6 +94,10 @@ class Findings:
         for number, waits in self.journey.waiting.items():
             row = self.journey.generations[number]
             yield Finding(TODAY, row.kind, row.name, 'warms', [f'{quoted(row.name)} waits for {few(waits)}'], generation=number)
+        absent = sorted(self.push.current.stand_ins)
+        if absent:
+            words = f'{counted(len(absent), "secret")} that no input brings, as {quoted(absent[0], 60)}: taken as there'
+            yield Finding(TODAY, 'input', None, words, [few(map(quoted, absent))] if len(absent) > 1 else [])
 
     # Generations
 
@@ -160,8 +163,11 @@ class Findings:
                 continue
             stays = row.name in in_place
             if stays:
-                words = f'{counted(moved[number], "connection")} of {self.count} open ones stay'
-                yield Finding(IN_PLACE, 'lds', row.name, words, self.chain_details(row), self.paths_of('lds', row.name), number, moved[number], step=stage.step)
+                words = f'{counted(moved[number], "connection")} of {self.count} open ones {"stays" if moved[number] == 1 else "stay"}'
+                after = next((in_place_words(one) for one in self.by_name['lds', row.name] if one.base == number), None)
+                details = [after] if after else []
+                yield Finding(IN_PLACE, 'lds', row.name, words, details + self.chain_details(row), self.paths_of('lds', row.name), number, moved[number],
+                              step=stage.step)
             if not stays or conns:
                 yield self.drain(row, conns, stage, stays)
 
@@ -204,7 +210,7 @@ class Findings:
         for said in self.journey.said:
             if said.verdict == 'back':
                 yield Finding(VALUE, said.kind, said.item.name, 'is back as it serves: what warmed is dropped', step=said.step)
-        for kind in ORDER:
+        for kind in self.push.kinds:
             for change in self.push.changes[kind]:
                 if kind not in ('cds', 'lds') and change.how == CHANGED:
                     paths = self.paths_of(kind, change.name)
@@ -233,9 +239,12 @@ class Findings:
 
     def without(self):
         before, after = self.journey.before, self.journey.after
-        for name, words in after.lacks.items():
-            if before.hosts.get(name):
-                yield Finding(WITHOUT, 'cds', name, 'has no host any more', [f'{quoted(name)} serves {words}; it had {counted(len(before.hosts[name]), "host")}'])
+        for (kind, name), words in after.lacks.items():
+            had = before.hosts.get(name) if kind == 'cds' else None
+            if had and after.hosts.get(name) == ():
+                yield Finding(WITHOUT, kind, name, 'has no host any more', [f'{quoted(name)} serves {words}; it had {counted(len(had), "host")}'])
+            elif (kind, name) in after.absent and (kind, name) not in before.absent:
+                yield Finding(WITHOUT, kind, name, 'lacks a secret or an extension', [f'{quoted(name)} serves {words}'])
 
     def hosts(self):
         """Clusters of which hosts are gone and some are left or new."""
@@ -265,7 +274,7 @@ class Findings:
         was, now = (self.journey.results[stage] for stage in (self.stages[0], self.last_push()))
         groups = collections.defaultdict(list)
         for place in self.other_answers(self.stages[0], self.last_push()):
-            groups[answer_words(now[place]), answer_words(was[place])].append(place)
+            groups[answer_words(now[place], was[place]), answer_words(was[place], now[place])].append(place)
         for (after, before), places in groups.items():
             yield Finding(ANSWERS, 'connection', None, f'{len(places)} of {self.count}: {after}, today {before}', self.asked(places), probes=places, answer=after)
 
@@ -337,17 +346,18 @@ def without_host(result):
     return result[:2] + result[3:]
 
 
-def answer_words(result):
-    """What a connection got, without its host."""
+def answer_words(result, other=None):
+    """What a connection got, without its host; and by which filter chain, where another result differs in that alone."""
     kind, what = result[:2]
-    return f'by {quoted(what, 60)}' if kind == 'served' else result_words((kind, what, None))
+    chain = f', by the filter chain for {match_words(result[3]) or "all"}' if other and len(result) > 3 and result[:2] == other[:2] else ''
+    return (f'by {quoted(what, 60)}' if kind == 'served' else result_words((kind, what, None))) + chain
 
 
 def ask_words(ask):
     parts = ['over TLS' if ask.get('tls') else '', f'server name {quoted(ask["serverName"], 60)}' if ask.get('serverName') else '',
              f'alpn {few(quoted(one, 40) for one in ask["alpn"])}' if ask.get('alpn') else '', f'pick {ask["pick"]}' if ask.get('pick') else '',
              *(f'header {quoted(name, 40)} {quoted(value, 60)}' for name, value in sorted(ask.get('headers', {}).items())[:4])]
-    place = f'{named(ask["address"], 60)}:{ask["port"]}'
+    place = f'{named(ask["address"], 60)}:{ask["port"]}' + ''.join(f', {words}' for words in redirected_words(ask))
     return ', '.join([f'{named(ask["host"], 100)} {named(ask["path"], 100)} at {place}' if ask.get('host') else place] + [part for part in parts if part])
 
 
@@ -381,7 +391,7 @@ class Paths:
     """Where what changes differs from what is there, looked at once."""
 
     def __init__(self, push):
-        self.changes = {(kind, change.name): change for kind in ORDER for change in push.changes[kind] if change.how == CHANGED}
+        self.changes = {(kind, change.name): change for kind in push.kinds for change in push.changes[kind] if change.how == CHANGED}
         self.profile, self.known = push.following.profile, {}
 
     def of(self, kind, name):
@@ -414,7 +424,7 @@ def unjudged(push, paths):
     for kind in push.lacking:
         yield Finding(UNJUDGED, 'input', None, f'the second input has no {WORDS[kind]}: those of the first stay')
     yield from parts(push.current, push.following)
-    sent = {(kind, change.name) for kind in ORDER for change in push.changes[kind] if change.further}
+    sent = {(kind, change.name) for kind in push.kinds for change in push.changes[kind] if change.further}
     for kind, name, words in push.following.nacks():
         if (kind, name, words) not in push.current.nacks() and (kind, name) not in sent:
             yield Finding(UNJUDGED, kind or 'input', name, 'Envoy refused it, and no rule here does', [quoted(words, 300)])
@@ -453,6 +463,6 @@ def stand_ins(push):
     touched = push.touched()
     found = dict.fromkeys((line['type'], line['name'], line['action']) for line in push.following.report.lines if line['action'] in ('stand-in', 'left-out'))
     for kind, name, action in found:
-        if (kind, name) in touched:
+        if (kind, name) in touched and kind != 'sds':
             yield Finding(UNJUDGED, kind, name, 'isn\'t as it came: what this profile doesn\'t take has a stand-in' if action == 'stand-in'
                           else 'isn\'t as it came: what this profile doesn\'t take is left out')

@@ -2,7 +2,7 @@
 import collections
 
 from shared.changes import result_of
-from shared.choices import Ask, chain_for
+from shared.choices import chain_for, local_of
 from shared.machine import Machine
 from shared.leads import leads_of
 from shared.pair import Pair
@@ -11,9 +11,9 @@ from .transition import KEEPER, OPEN, PROBE, PUSH, SERVE, TIMEOUTS
 
 # What a step said of a resource: its number, its type, what was read, the verdict, and the resource.
 Said = collections.namedtuple('Said', 'step kind item verdict resource')
-# What connections see at one time: by name the hosts of clusters that serve, and what they lack; the names of the clusters to which each
-# serving listener leads, by the type and name of what says so.
-Sight = collections.namedtuple('Sight', 'hosts lacks leads')
+# What connections see at one time: by name the hosts of clusters that serve; what clusters and listeners lack by type and name, and which of them
+# lack a secret or an extension; the names of the clusters to which each serving listener leads, by the type and name of what says so.
+Sight = collections.namedtuple('Sight', 'hosts lacks absent leads')
 
 
 class Journey:
@@ -108,9 +108,12 @@ class Journey:
         found = result_of(answer, lambda number: self.generations[number].name if number in self.generations else None)
         if not isinstance(answer, dict) or 'chain' not in answer:
             return found
+        return (*found, self.chain_at(answer)['match'])
+
+    def chain_at(self, answer):
+        """The filter chain that an answer names."""
         content, place = self.generations[answer['listener']].content, answer['chain']
-        chain = content['default'] if place == 'default' else content['chains'][place]
-        return (*found, repr(chain['match']))
+        return content['default'] if place == 'default' else content['chains'][place]
 
     # What is to be seen
 
@@ -118,17 +121,21 @@ class Journey:
         serving = [self.machine.rows[number] for kind in ('cds', 'lds') for number in self.machine.active[kind]]
         clusters = [row for row in serving if row.kind == 'cds']
         hosts = {row.name: None if 'elsewhere' in row.content else row.shows() for row in clusters}
-        lacks = {row.name: self.machine.without(row) for row in clusters if row.lacking()}
+        lacks = {(row.kind, row.name): self.machine.without(row) for row in serving if row.lacking() and (row.kind == 'cds' or row.absent)}
+        absent = {(row.kind, row.name) for row in serving if row.absent}
         leads, told = {}, set()
         for row in serving:
             for key, _, name in leads_of(row, told) if row.kind == 'lds' and self.machine.phase == 'serving' else ():
                 leads.setdefault(key, {})[name] = None
-        return Sight(hosts, lacks, leads)
+        return Sight(hosts, lacks, absent, leads)
 
     def chain_of(self, conn):
         """The words for the filter chain that an open connection came to."""
-        row, ask = self.generations[self.opened[conn]['listener']], self.transition.asks[conn - 1]
-        found, why = chain_for(row.content['chains'], row.content['default'], Ask({'host': '', 'path': '/', 'pick': 0, **ask}))
+        answer, ask = self.opened[conn], self.transition.asks[conn - 1]
+        if 'chain' in answer:
+            return str(self.chain_at(answer)['label'])
+        content = self.generations[answer['listener']].content
+        found, why = chain_for(content['chains'], content['default'], local_of(content, {'host': '', 'path': '/', 'pick': 0, **ask}))
         return str(found['label']) if found else why
 
     def stages(self):

@@ -4,7 +4,7 @@ from shared.running import output_of
 from . import connections
 from .findings import BETWEEN, COUNTED, OTHERWISE, UNJUDGED, Findings, Paths, unjudged, untried
 from .journey import Journey
-from .push import LISTENERS_FIRST, Push, Way
+from .push import Push, Way, listeners_first
 from .state import states_of
 from .transition import Opened, Transition
 
@@ -55,7 +55,7 @@ class Plan:
         """The other ways to push that make another script."""
         base, found = self.chosen.way, []
         if self.chosen.order is None:
-            found += [Way(base.order, True, base.again), Way(LISTENERS_FIRST, False, base.again)]
+            found += [Way(base.order, True, base.again), Way(listeners_first(), False, base.again)]
         if self.chosen.again is None:
             found.append(Way(base.order, base.safe, not base.again))
         seen = {steps_of(self.push, base)}

@@ -1,16 +1,22 @@
 """What a control plane sends so that a proxy has what another input says: what differs, in responses a type, in an order."""
 from shared.machine import dependencies_of
+from shared.profiles import ENVOY
 from shared.script import MAX_LINES
-from shared.urls import URLS, WORDS
+from shared.urls import WORDS, kinds_read
 
-# The order in which a control plane sends the types, as far as they are read.
-ORDER = tuple(kind for kind in ('cds', 'eds', 'sds', 'lds', 'rds', 'ecds') if kind in URLS)
-LISTENERS_FIRST = tuple(sorted(ORDER, key=lambda kind: kind in ('cds', 'eds', 'sds')))
 NEW, CHANGED, AGAIN = 'new', 'changed', 'again'
+SECRETS = 'sds'
 # The most lines that a push has beside its resources and connections: publications, settles, and parts of responses.
 LINES_OF_STEPS = 1000
-# Types of which a resource comes only where a cluster or listener asks for it.
-ASKED_FOR = tuple(kind for kind in ORDER if kind not in ('cds', 'lds'))
+
+
+def order_of(profile=ENVOY):
+    """The order in which a control plane sends the types, as far as scripts of a profile have them."""
+    return tuple(kind for kind in ('cds', 'eds', 'sds', 'lds', 'rds', 'ecds') if kind in kinds_read(profile))
+
+
+def listeners_first():
+    return tuple(sorted(order_of(), key=lambda kind: kind in ('cds', 'eds', 'sds')))
 
 
 class Change:
@@ -30,8 +36,8 @@ class Way:
     """How a push is sent: the order of the types, whether clusters and endpoints are removed last, in responses of their own, and whether
     endpoints that didn't change come again for the clusters that did."""
 
-    def __init__(self, order=ORDER, safe=False, again=True):
-        self.order, self.safe, self.again = order, safe, again
+    def __init__(self, order=None, safe=False, again=True):
+        self.order, self.safe, self.again = order or order_of(), safe, again
 
     def words(self, other):
         """What is otherwise in another way."""
@@ -58,20 +64,23 @@ class Step:
 class Push:
     """What differs between two states. `unasked`, `fixed` and `lacking` are what differs and isn't sent: resources that nothing asks for, those
     of the bootstrap, and types of which the second input tells nothing, whose resources stay. `awaited` are the (type, name) that new and
-    changed clusters and listeners ask for."""
+    changed clusters and listeners ask for. `kinds` are the types that are read."""
 
     def __init__(self, current, following):
-        self.current, self.following = current, following
-        self.lacking = [kind for kind in ORDER if kind not in following.came and current.held[kind] and not following.held[kind]]
-        for kind in self.lacking:
-            following.held[kind] = current.held[kind]
-        self.changes, self.removed = {kind: [] for kind in ORDER}, {kind: [] for kind in ORDER}
-        self.unasked, self.fixed, self.same = [], [], {kind: 0 for kind in ORDER}
+        self.current, self.following, self.kinds = current, following, order_of(current.profile)
+        self.lacking = [kind for kind in self.kinds if kind not in following.came and set(current.held[kind]) - current.stood_in(kind)
+                        and not following.held[kind]]
+        for kind in self.kinds:
+            stays = current.held[kind] if kind in self.lacking else {name: current.held[kind][name] for name in current.stood_in(kind)}
+            following.held[kind] = {**stays, **following.held[kind]}
+        self.changes, self.removed = {kind: [] for kind in self.kinds}, {kind: [] for kind in self.kinds}
+        self.unasked, self.fixed, self.same = [], [], {kind: 0 for kind in self.kinds}
         for kind in ('cds', 'lds'):
             self.compare(kind)
         self.awaited = dict.fromkeys(key for kind in ('cds', 'lds') for change in self.changes[kind] for key in change.asks())
-        for kind in ASKED_FOR:
-            self.compare(kind)
+        for kind in self.kinds:
+            if kind not in ('cds', 'lds'):
+                self.compare(kind)
 
     def compare(self, kind):
         had, has = self.current.held[kind], self.following.held[kind]
@@ -89,7 +98,7 @@ class Push:
             self.same[kind] += 1
             if kind == 'eds' and (kind, name) in self.awaited:
                 self.changes[kind].append(Change(kind, name, AGAIN, before, held, held.last))
-        elif kind in ASKED_FOR and (kind, name) not in self.following.asked:
+        elif kind not in ('cds', 'lds') and (kind, name) not in self.following.asked:
             self.same[kind] += is_same
             self.unasked += [(kind, name)] * (not is_same)
         elif self.is_sent(kind, name):
@@ -109,8 +118,8 @@ class Push:
 
     def touched(self):
         """(type, name) of all that it changes or removes."""
-        return {(kind, change.name) for kind in ORDER for change in self.changes[kind] if change.how != AGAIN} | {
-            (kind, name) for kind in ORDER for name in self.removed[kind]}
+        return {(kind, change.name) for kind in self.kinds for change in self.changes[kind] if change.how != AGAIN} | {
+            (kind, name) for kind in self.kinds for name in self.removed[kind]}
 
     def checked_hosts(self):
         """(cluster, host) of the health checked clusters that are new or changed, or whose endpoints are."""
@@ -125,16 +134,28 @@ class Push:
     def room(self, most):
         """How many connections a script has room for beside the push, at most so many."""
         others = len(self.current.lines) + sum(1 for _ in self.checked_hosts()) + len(self.awaited) + len(self.changes['lds']) + len(self.removed['lds'])
-        steps = len(ORDER) + 2
+        steps = len(self.kinds) + 2 + (SECRETS in self.kinds)
         return max(0, min(most, (MAX_LINES - others - LINES_OF_STEPS) // (1 + 2 * (steps + 1))))
 
     def steps(self, way):
         """The responses in their order."""
-        last = [kind for kind in ('cds', 'eds') if way.safe]
-        found = [Step(kind, [change for change in self.changes[kind] if change.how != AGAIN or way.again], [] if kind in last else self.removed[kind])
-                 for kind in way.order]
+        last, found = [kind for kind in ('cds', 'eds') if way.safe], []
+        for kind in (kind for kind in way.order if kind in self.kinds):
+            changes = [change for change in self.changes[kind] if change.how != AGAIN or way.again]
+            later = self.asked_later(changes, way.order)
+            found.append(Step(kind, [change for change in changes if change not in later], [] if kind in last else self.removed[kind]))
+            if kind == 'lds' and SECRETS in self.kinds:
+                found.append(Step(SECRETS, self.asked_later(self.changes[SECRETS], way.order), []))
         found += [Step(kind, [], self.removed[kind]) for kind in last]
         return [step for step in found if step.changes or step.removed]
+
+    def asked_later(self, changes, order):
+        """The changes of secrets for which only new and changed listeners ask, where secrets come before listeners: these are asked for once the
+        listeners are there, and so sent."""
+        if SECRETS not in order or order.index(SECRETS) > order.index('lds'):
+            return []
+        before = self.current.asked | {key for change in self.changes['cds'] for key in change.asks()}
+        return [change for change in changes if change.kind == SECRETS and (SECRETS, change.name) not in before]
 
     def versions(self):
         """How many have another body with the version of today."""

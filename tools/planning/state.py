@@ -73,7 +73,7 @@ class State:
 
     def __init__(self, maker, report):
         self.report, self.profile, self.node = report, maker.profile, maker.header.get('node')
-        self.came, self.fixed = maker.came - {None}, maker.fixed
+        self.came, self.fixed, self.stand_ins = maker.came - {None}, maker.fixed, set(maker.asked.stood_in)
         self.held, self.others, self.is_open = {kind: {} for kind in URLS}, {}, False
         self.lines = [(line, data) for line, data in zip(maker.reading.lines, maker.lines) if line.op in HISTORY]
         for line, _ in self.lines:
@@ -113,6 +113,10 @@ class State:
         """(type, name) of the resources that its clusters and listeners ask for."""
         return {key for kind in ('cds', 'lds') for _, content in self.good(kind) for key, _ in dependencies_of(kind, content)}
 
+    def stood_in(self, kind):
+        """The names of the resources of a type that are there in the stead of those that the input can't bring."""
+        return self.stand_ins & set(self.held[kind]) if kind == 'sds' else set()
+
     def nacks(self):
         """(type, name, Envoy's words) of what Envoy refused."""
         return {(line['type'], line['name'], line['before']): None for line in self.report.lines if line['action'] == 'nack' and line['name'] is not None}
@@ -131,18 +135,20 @@ def name_of(resource):
     return name if isinstance(name, str) else ''
 
 
-def state_of(path, chosen, profile):
-    """The state of an input; `profile` is the option that asks for one, or None."""
+def state_of(path, chosen, profile, secrets):
+    """The state of an input; `profile` is the option that asks for one, or None, and `secrets` says what becomes of those that it can't bring."""
     report = Report()
-    how = argparse.Namespace(input=scripts_of(path), project=chosen.project, profile=profile, no_endpoints=chosen.no_endpoints, **ASKED)
+    how = argparse.Namespace(input=scripts_of(path), project=chosen.project, profile=profile, no_endpoints=chosen.no_endpoints, secrets=secrets, **ASKED)
     maker = taken(how, report, keeps=True)
     maker.finish()
     return State(maker, report)
 
 
 def states_of(current, following, chosen):
-    """The states of both inputs, by one profile: that which is asked for, and else `envoy` where one of them has it."""
-    found = [state_of(path, chosen, chosen.profile) for path in (current, following)]
+    """The states of both inputs, by one profile: that which is asked for, and else `envoy` where one of them has it. Secrets that no stream brings
+    are taken as there where the first input asks for them."""
+    inputs = ((current, chosen.secrets), (following, 'none'))
+    found = [state_of(path, chosen, chosen.profile, secrets) for path, secrets in inputs]
     if len({state.profile for state in found}) == 1:
         return found
-    return [state if state.profile == ENVOY else state_of(path, chosen, '--envoy-profile') for state, path in zip(found, (current, following))]
+    return [state if state.profile == ENVOY else state_of(path, chosen, '--envoy-profile', secrets) for state, (path, secrets) in zip(found, inputs)]

@@ -73,6 +73,8 @@ class Printer:
     def value(self, full, field, value):
         if field.message_type is None:
             names = ENUMS.get((full, field.name), [])
+            if field.type == field.TYPE_INT64:
+                return str(value)
             return names[value] if isinstance(value, int) and value < len(names) else value
         kind = field.message_type.full_name
         if kind == 'google.protobuf.Any':

@@ -7,6 +7,7 @@ import threading
 from collections import Counter
 
 from shared import script
+from shared.insides import is_secret, without_inside
 from shared.profiles import USUAL
 from shared.shown import escaped, quoted
 
@@ -124,6 +125,15 @@ def parts_of(message):
     return parts
 
 
+def without_insides(tree):
+    """A response, or what is in one, without the insides of secrets, whether they stand in resources or not."""
+    if is_secret(tree):
+        return without_inside(tree)
+    if isinstance(tree, dict):
+        return {name: without_insides(part) for name, part in tree.items()}
+    return [without_insides(part) for part in tree] if isinstance(tree, list) else tree
+
+
 class Came:
     """A response: its type and nonce, None where even these can't be read, in how many lines it stands, and what of it isn't written, in words."""
 
@@ -137,10 +147,11 @@ class Recording:
     NAME.jsonl is the script, incremental whatever the protocol is; NAME.requests.jsonl has what the client sent. Of the state
     of the world NAME.sotw.jsonl has the responses as they came. NAME.notes.txt is there where something has to be told.
     `replies`, where they are given, take each line of the script, of the state of the world of NAME.sotw.jsonl. `profile` is that of the script.
+    With `hides` secrets are written without their insides.
     """
 
-    def __init__(self, folder, name, protocol, replies=None, profile=USUAL):
-        self.folder, self.name, self.protocol, self.replies, self.profile = folder, name, protocol, replies, profile
+    def __init__(self, folder, name, protocol, replies=None, profile=USUAL, hides=False):
+        self.folder, self.name, self.protocol, self.replies, self.profile, self.hides = folder, name, protocol, replies, profile, hides
         self.notes = Notes(name, f'{folder}/{name}.notes.txt')
         self.printer, self.incremental = Printer(), Incremental()
         self.lock, self.open, self.begun, self.closed, self.node = threading.RLock(), False, False, False, None
@@ -226,6 +237,8 @@ class Recording:
                 return came
             self.seen['responses'] += 1
             came = Came(tree.get('typeUrl'), tree.get('nonce'))
+            if self.hides:
+                tree = without_insides(tree)
             if self.whole:
                 self.write_whole(tree, came)
                 tree = self.incremental.message(tree)

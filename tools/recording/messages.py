@@ -75,9 +75,24 @@ envoy.config.core.v3.AggregatedConfigSource
 envoy.config.core.v3.SelfConfigSource
 envoy.config.core.v3.PathConfigSource
 envoy.config.core.v3.HealthCheck
+envoy.config.core.v3.TransportSocket
+    1 name string
+    3 typed_config google.protobuf.Any
+envoy.config.core.v3.CidrRange
+    1 address_prefix string
+    2 prefix_len google.protobuf.UInt32Value
+envoy.config.core.v3.ExtensionConfigSource
+    1 config_source envoy.config.core.v3.ConfigSource
+    2 default_config google.protobuf.Any
+    3 apply_default_config_without_warming bool
+    4 type_urls *string
 envoy.config.core.v3.Address
     1 socket_address envoy.config.core.v3.SocketAddress
     2 pipe envoy.config.core.v3.Pipe
+    3 envoy_internal_address envoy.config.core.v3.EnvoyInternalAddress
+envoy.config.core.v3.EnvoyInternalAddress
+    1 server_listener_name string
+    2 endpoint_id string
 envoy.config.core.v3.Pipe
     1 path string
 envoy.config.core.v3.SocketAddress
@@ -92,8 +107,14 @@ envoy.config.cluster.v3.Cluster
     4 connect_timeout google.protobuf.Duration
     6 lb_policy uint32
     8 health_checks *envoy.config.core.v3.HealthCheck
+    24 transport_socket envoy.config.core.v3.TransportSocket
     33 load_assignment envoy.config.endpoint.v3.ClusterLoadAssignment
     38 cluster_type envoy.config.cluster.v3.Cluster.CustomClusterType
+    43 transport_socket_matches *envoy.config.cluster.v3.Cluster.TransportSocketMatch
+envoy.config.cluster.v3.Cluster.TransportSocketMatch
+    1 name string
+    2 match google.protobuf.Struct
+    3 transport_socket envoy.config.core.v3.TransportSocket
 envoy.config.cluster.v3.Cluster.EdsClusterConfig
     1 eds_config envoy.config.core.v3.ConfigSource
     2 service_name string
@@ -120,22 +141,38 @@ envoy.config.listener.v3.Listener
     1 name string
     2 address envoy.config.core.v3.Address
     3 filter_chains *envoy.config.listener.v3.FilterChain
+    4 use_original_dst google.protobuf.BoolValue
+    9 listener_filters *envoy.config.listener.v3.ListenerFilter
     19 api_listener envoy.config.listener.v3.ApiListener
     25 default_filter_chain envoy.config.listener.v3.FilterChain
+    27 internal_listener envoy.config.listener.v3.Listener.InternalListenerConfig
+envoy.config.listener.v3.Listener.InternalListenerConfig
+envoy.config.listener.v3.ListenerFilter
+    1 name string
+    3 typed_config google.protobuf.Any
+    5 config_discovery envoy.config.core.v3.ExtensionConfigSource
+envoy.extensions.filters.listener.original_dst.v3.OriginalDst
 envoy.config.listener.v3.ApiListener
     1 api_listener google.protobuf.Any
 envoy.config.listener.v3.FilterChain
     1 filter_chain_match envoy.config.listener.v3.FilterChainMatch
     3 filters *envoy.config.listener.v3.Filter
+    6 transport_socket envoy.config.core.v3.TransportSocket
     7 name string
 envoy.config.listener.v3.FilterChainMatch
+    3 prefix_ranges *envoy.config.core.v3.CidrRange
+    6 source_prefix_ranges *envoy.config.core.v3.CidrRange
+    7 source_ports *uint32
     8 destination_port google.protobuf.UInt32Value
     9 transport_protocol string
     10 application_protocols *string
     11 server_names *string
+    12 source_type uint32
+    13 direct_source_prefix_ranges *envoy.config.core.v3.CidrRange
 envoy.config.listener.v3.Filter
     1 name string
     4 typed_config google.protobuf.Any
+    5 config_discovery envoy.config.core.v3.ExtensionConfigSource
 envoy.extensions.filters.network.http_connection_manager.v3.HttpConnectionManager
     1 codec_type uint32
     2 stat_prefix string
@@ -149,6 +186,7 @@ envoy.extensions.filters.network.http_connection_manager.v3.Rds
 envoy.extensions.filters.network.http_connection_manager.v3.HttpFilter
     1 name string
     4 typed_config google.protobuf.Any
+    5 config_discovery envoy.config.core.v3.ExtensionConfigSource
 envoy.extensions.filters.network.http_connection_manager.v3.ScopedRoutes
 envoy.extensions.filters.http.router.v3.Router
 envoy.extensions.filters.network.tcp_proxy.v3.TcpProxy
@@ -197,8 +235,31 @@ envoy.config.route.v3.RouteMatch
     16 filter_state *envoy.type.matcher.v3.FilterStateMatcher
 envoy.config.route.v3.HeaderMatcher
     1 name string
+    4 exact_match string optional
+    6 range_match envoy.type.v3.Int64Range
+    7 present_match bool optional
+    8 invert_match bool
+    9 prefix_match string optional
+    10 suffix_match string optional
+    11 safe_regex_match envoy.type.matcher.v3.RegexMatcher
+    12 contains_match string optional
+    13 string_match envoy.type.matcher.v3.StringMatcher
+    14 treat_missing_header_as_empty bool
 envoy.config.route.v3.QueryParameterMatcher
     1 name string
+    5 string_match envoy.type.matcher.v3.StringMatcher
+    6 present_match bool optional
+envoy.type.v3.Int64Range
+    1 start int64
+    2 end int64
+envoy.type.matcher.v3.StringMatcher
+    1 exact string optional
+    2 prefix string optional
+    3 suffix string optional
+    5 safe_regex envoy.type.matcher.v3.RegexMatcher
+    6 ignore_case bool
+    7 contains string optional
+    8 custom envoy.config.core.v3.TypedExtensionConfig
 envoy.config.route.v3.RouteMatch.GrpcRouteMatchOptions
 envoy.config.core.v3.RuntimeFractionalPercent
 envoy.type.matcher.v3.RegexMatcher
@@ -223,6 +284,49 @@ envoy.config.route.v3.WeightedCluster.ClusterWeight
     1 name string
     2 weight google.protobuf.UInt32Value
     12 cluster_header string optional
+envoy.extensions.transport_sockets.tls.v3.Secret
+    1 name string
+    2 tls_certificate envoy.extensions.transport_sockets.tls.v3.TlsCertificate
+    3 session_ticket_keys envoy.extensions.transport_sockets.tls.v3.TlsSessionTicketKeys
+    4 validation_context envoy.extensions.transport_sockets.tls.v3.CertificateValidationContext
+    5 generic_secret envoy.extensions.transport_sockets.tls.v3.GenericSecret
+envoy.extensions.transport_sockets.tls.v3.TlsCertificate
+envoy.extensions.transport_sockets.tls.v3.TlsSessionTicketKeys
+envoy.extensions.transport_sockets.tls.v3.CertificateValidationContext
+envoy.extensions.transport_sockets.tls.v3.GenericSecret
+envoy.extensions.transport_sockets.tls.v3.SdsSecretConfig
+    1 name string
+    2 sds_config envoy.config.core.v3.ConfigSource
+envoy.extensions.transport_sockets.tls.v3.CommonTlsContext
+    3 validation_context envoy.extensions.transport_sockets.tls.v3.CertificateValidationContext
+    4 alpn_protocols *string
+    6 tls_certificate_sds_secret_configs *envoy.extensions.transport_sockets.tls.v3.SdsSecretConfig
+    7 validation_context_sds_secret_config envoy.extensions.transport_sockets.tls.v3.SdsSecretConfig
+    8 combined_validation_context envoy.extensions.transport_sockets.tls.v3.CommonTlsContext.CombinedCertificateValidationContext
+envoy.extensions.transport_sockets.tls.v3.CommonTlsContext.CombinedCertificateValidationContext
+    1 default_validation_context envoy.extensions.transport_sockets.tls.v3.CertificateValidationContext
+    2 validation_context_sds_secret_config envoy.extensions.transport_sockets.tls.v3.SdsSecretConfig
+envoy.extensions.transport_sockets.tls.v3.UpstreamTlsContext
+    1 common_tls_context envoy.extensions.transport_sockets.tls.v3.CommonTlsContext
+    2 sni string
+envoy.extensions.transport_sockets.tls.v3.DownstreamTlsContext
+    1 common_tls_context envoy.extensions.transport_sockets.tls.v3.CommonTlsContext
+    2 require_client_certificate google.protobuf.BoolValue
+    5 session_ticket_keys_sds_secret_config envoy.extensions.transport_sockets.tls.v3.SdsSecretConfig
+envoy.extensions.transport_sockets.quic.v3.QuicUpstreamTransport
+    1 upstream_tls_context envoy.extensions.transport_sockets.tls.v3.UpstreamTlsContext
+envoy.extensions.transport_sockets.quic.v3.QuicDownstreamTransport
+    1 downstream_tls_context envoy.extensions.transport_sockets.tls.v3.DownstreamTlsContext
+envoy.extensions.transport_sockets.proxy_protocol.v3.ProxyProtocolUpstreamTransport
+    2 transport_socket envoy.config.core.v3.TransportSocket
+envoy.extensions.transport_sockets.tap.v3.Tap
+    2 transport_socket envoy.config.core.v3.TransportSocket
+envoy.extensions.transport_sockets.internal_upstream.v3.InternalUpstreamTransport
+    3 transport_socket envoy.config.core.v3.TransportSocket
+envoy.extensions.transport_sockets.http_11_proxy.v3.Http11ProxyUpstreamTransport
+    1 transport_socket envoy.config.core.v3.TransportSocket
+envoy.extensions.transport_sockets.tcp_stats.v3.Config
+    1 transport_socket envoy.config.core.v3.TransportSocket
 '''
 
 # Members that the API has as enums, by message and name. They travel as numbers do; they are printed by name.
@@ -230,11 +334,12 @@ ENUMS = {
     ('envoy.config.cluster.v3.Cluster', 'type'): 'STATIC STRICT_DNS LOGICAL_DNS EDS ORIGINAL_DST',
     ('envoy.config.endpoint.v3.LbEndpoint', 'health_status'): 'UNKNOWN HEALTHY UNHEALTHY DRAINING TIMEOUT DEGRADED',
     ('envoy.config.core.v3.SocketAddress', 'protocol'): 'TCP UDP',
+    ('envoy.config.listener.v3.FilterChainMatch', 'source_type'): 'ANY SAME_IP_OR_LOOPBACK EXTERNAL',
 }
 ENUMS = {key: names.split() for key, names in ENUMS.items()}
 
 Field = descriptor_pb2.FieldDescriptorProto
-SCALARS = {'string': Field.TYPE_STRING, 'uint32': Field.TYPE_UINT32, 'int32': Field.TYPE_INT32}
+SCALARS = {'string': Field.TYPE_STRING, 'uint32': Field.TYPE_UINT32, 'int32': Field.TYPE_INT32, 'int64': Field.TYPE_INT64, 'bool': Field.TYPE_BOOL}
 
 
 def file_of(table):

@@ -31,8 +31,8 @@ class Relay(grpc.GenericRpcHandler):
     """Passes every method on, and records those of ADS. Each stream holds a thread; more than STREAMS wait. `others` tells the calls that
     aren't recorded."""
 
-    def __init__(self, upstream, tls, folder, profile):
-        self.upstream, self.folder, self.profile = upstream, folder, profile
+    def __init__(self, upstream, tls, folder, profile, hides):
+        self.upstream, self.folder, self.profile, self.hides = upstream, folder, profile, hides
         self.channel = channel_to(upstream, tls)
         self.lock, self.count, self.recordings, self.held = threading.Lock(), 0, [], {}
         self.others, self.lost, self.unwritten = Notes('relay', None), False, False
@@ -76,7 +76,7 @@ class Relay(grpc.GenericRpcHandler):
                 self.others.add(unrecorded(method))
                 return None
             self.count += 1
-            recording = Recording(self.folder, f'stream-{self.count:03}', METHODS[method], profile=self.profile)
+            recording = Recording(self.folder, f'stream-{self.count:03}', METHODS[method], profile=self.profile, hides=self.hides)
             self.recordings.append(recording)
             return recording
 
@@ -118,9 +118,10 @@ def noted(requests, recording):
         yield request
 
 
-def relayed(listen, listen_tls, upstream, upstream_tls, folder, profile, seconds, stop, say):
-    """Relays until `stop` is set or the seconds are over. The relay, with the number of streams and what was lost."""
-    relay = Relay(upstream, upstream_tls, folder, profile)
+def relayed(listen, listen_tls, upstream, upstream_tls, folder, profile, hides, seconds, stop, say):
+    """Relays until `stop` is set or the seconds are over. The relay, with the number of streams and what was lost. With `hides` the insides of
+    secrets aren't recorded."""
+    relay = Relay(upstream, upstream_tls, folder, profile, hides)
     pool = futures.ThreadPoolExecutor(STREAMS)
     try:
         server, port = server_at(listen, listen_tls, pool, relay)

@@ -10,7 +10,7 @@ from shared import script
 from shared.answers import NACK, Answering
 from shared.json_text import compact
 from shared.replayed import WholeRequests
-from shared.urls import KINDS
+from shared.urls import kind_of
 from shared.whole import Whole
 
 from .program import answers_of
@@ -45,11 +45,11 @@ class Replies:
     """Takes the lines of a script one after the other, and says what is sent after them."""
 
     def __init__(self, protocol):
-        self.protocol, self.machine, self.whole = protocol, None, None
+        self.protocol, self.machine, self.whole, self.profile = protocol, None, None, None
         self.waiting, self.sums, self.lost_nonces = [], {}, {}
 
     def begin(self, node, profile):
-        self.machine = Answering(1, 2, node, profile)
+        self.machine, self.profile = Answering(1, 2, node, profile), profile
         self.whole = WholeRequests(self.machine) if self.protocol == STATE_OF_THE_WORLD else None
 
     def take(self, line, at):
@@ -78,9 +78,9 @@ class Replies:
             return {'typeUrl': url, 'responseNonce': nonce, 'errorDetail': {'code': NACK, 'message': words}}
         self.lost_nonces[url] = nonce
         request = {'typeUrl': url, 'responseNonce': nonce, 'errorDetail': {'code': NACK, 'message': words}}
-        if url not in KINDS:
+        kind = kind_of(url, self.profile)
+        if kind is None:
             return request
-        kind = KINDS[url]
         kept = self.whole.nonces.get(kind)
         made = self.whole.request(request, None)
         self.whole.nonces[kind] = kept

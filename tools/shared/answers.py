@@ -8,9 +8,11 @@ import collections
 
 from .addresses import socket_of
 from .pictures import Pictured
-from .urls import URLS
+from .urls import BY_NAME, URLS
 
 NACK = 13
+# The types that are asked for behind clusters, in order.
+AFTER_CLUSTERS = tuple(kind for kind in URLS if kind != 'cds')
 
 
 class Answering(Pictured):
@@ -39,7 +41,7 @@ class Answering(Pictured):
         if self.open:
             return 'ignored'
         requests = [request('cds', node={'id': self.node}, initialResourceVersions=dict(self.versions['cds']))]
-        for kind in ('eds', 'lds', 'rds'):
+        for kind in AFTER_CLUSTERS:
             names = sorted(name for of, name in self.dependents if of == kind)
             if names or (kind == 'lds' and self.phase != 'clusters'):
                 requests.append(request(kind, initialResourceVersions=dict(self.versions[kind]), resourceNamesSubscribe=names))
@@ -90,8 +92,15 @@ class Answering(Pictured):
         return 'done' if (worker, members['conn']) in self.connections else 'notOpen'
 
     def decide_settle(self, members, worker, line):
-        closed = [conn for number in self.expired for conn in connections_of(self.rows[number].users, worker)]
-        return {'closed': sorted(closed), 'version': self.last}
+        moved = [conn for number in self.ended for conn in self.on_listener(number, worker)
+                 if not self.rows[number].is_shown() and self.target(worker, conn)]
+        closed = [conn for number in self.expired for conn in self.on_listener(number, worker) if not self.target(worker, conn)]
+        return {'closed': sorted(closed), **({'moved': sorted(moved)} if moved else {}), 'version': self.last}
+
+    def on_listener(self, number, worker):
+        """A worker's connections on a generation, where that is one of a listener."""
+        row = self.rows[number]
+        return connections_of(row.users, worker) if row.kind == 'lds' else []
 
     # Verdicts
 
@@ -101,7 +110,7 @@ class Answering(Pictured):
         gone, made, places, found = removed - set(counts), set(), {}, []
         for item in response.items:
             found.append(self.verdict(kind, item, counts[item.name] > 1, removed, gone, made, places))
-            if found[-1] == 'new':
+            if found[-1] in ('new', 'inPlace', 'back'):
                 made.add(item.name)
                 places.setdefault(socket_of(item.content), set()).add(item.name)
         return found
@@ -114,12 +123,22 @@ class Answering(Pictured):
             return f'V{min(broken)}'
         if item.beat:
             return 'renewed' if kept == item.version else 'unasked'
-        if kind in ('eds', 'rds'):
+        if kind in BY_NAME:
             return 'kept' if self.is_watched(key) else 'unasked'
         if kind == 'lds' and self.is_taken(item, gone, made, places):
             return 'V15'
         row = self.newest(kind, item.name)
-        return 'same' if row and item.name not in made and row.alike == item.alike else 'new'
+        if row and item.name not in made and row.alike == item.alike:
+            return 'same'
+        return self.update(row, item) if row and kind == 'lds' and self.of_sidecar and item.name not in made else 'new'
+
+    def update(self, row, item):
+        """The verdict on an update of a listener. `row` is the newest one of its name."""
+        active = self.named['lds', item.name].get('active')
+        if active and row is not active and active.alike == item.alike:
+            return 'back'
+        is_in_place = active and active.frame == item.frame and item.content['chains'] and item.chains and not item.content['udp']
+        return 'inPlace' if is_in_place else 'new'
 
     def is_taken(self, item, gone, made, places):
         """Whether a live listener of another name has the address, after removals and what was made earlier in the response."""
@@ -136,7 +155,7 @@ class Answering(Pictured):
             return []
         added, gone = self.watch_changes()
         found = []
-        for kind in ('eds', 'lds', 'rds'):
+        for kind in AFTER_CLUSTERS:
             names = [sorted(name for of, name in changed if of == kind) for changed in (added, gone)]
             if any(names):
                 found.append(request(kind, resourceNamesSubscribe=names[0], resourceNamesUnsubscribe=names[1]))
@@ -170,7 +189,7 @@ class Answering(Pictured):
         super().respond(response, verdicts)
         for item, verdict in zip(response.items, verdicts):
             key = response.kind, item.name
-            if verdict in ('new', 'same', 'kept'):
+            if verdict in ('new', 'same', 'kept', 'inPlace', 'back'):
                 self.versions[response.kind][item.name] = item.version
                 (self.lives.add if item.ttl else self.lives.discard)(key)
             elif verdict == 'renewed':

@@ -4,7 +4,7 @@ from collections import Counter
 
 from .came import MEMBER, came
 from .fields import DISCOVERY, camel, enumeration
-from .members import BODIES, of
+from .members import bodies_of, of
 from .profiles import ENVOY, OWN
 from .spelling import snake
 
@@ -93,7 +93,7 @@ WITH_HOSTS = {OWN: ('STATIC',), ENVOY: ('STATIC', 'STRICT_DNS', 'LOGICAL_DNS')}
 
 def table_of(kind, profile, *bodies):
     """The members that are read. Hosts that stand in a cluster are read of its type."""
-    table, kinds = BODIES[profile].get(kind), [DISCOVERY[word] for word in WITH_HOSTS[profile]]
+    table, kinds = bodies_of(profile).get(kind), [DISCOVERY[word] for word in WITH_HOSTS[profile]]
     if kind == 'cds' and not all(isinstance(body, dict) and enumeration(body.get('type', 0), DISCOVERY) in kinds for body in bodies):
         table = {name: part for name, part in table.items() if name != 'load_assignment'}
     return table
@@ -114,9 +114,9 @@ def objects(old, new, table, path):
     if of(table) == 'config':
         urls = [tree.get('@type') for tree in (old, new)]
         if urls[0] != urls[1]:
-            yield Difference(f'{path}.@type', 'differs', any(isinstance(url, str) and url in table for url in urls))
+            yield Difference(f'{path}.@type', 'differs', any(table.of_type(url) is not None for url in urls))
             return
-        table = table.get(urls[0]) if isinstance(urls[0], str) else None
+        table = table.of_type(urls[0])
     for name in dict.fromkeys([*old, *new]):
         below, where = below_of(table, name), f'{path}.{name}' if path else name
         if name in old and name in new:
@@ -147,7 +147,7 @@ def lists(old, new, table, path):
             else:
                 yield Difference(where, 'is new' if after else 'is gone', is_read(part, table))
     if order_differs(old, new):
-        yield Difference(path, 'has another order', table is not None and of(table) != 'filter')
+        yield Difference(path, 'has another order', table is not None and of(table) not in ('filter', 'discovered'))
 
 
 def matched(olds, news):
@@ -167,9 +167,12 @@ def matched(olds, news):
 
 
 def is_read(part, table):
+    if of(table) == 'discovered':
+        return isinstance(part, dict) and 'configDiscovery' in part
     if of(table) == 'filter':
         url = part['typedConfig'].get('@type') if isinstance(part, dict) and isinstance(part.get('typedConfig'), dict) else None
-        return isinstance(url, str) and url in table['typed_config']
+        is_discovered = isinstance(part, dict) and 'configDiscovery' in part and 'config_discovery' in table
+        return is_discovered or table['typed_config'].of_type(url) is not None
     return table is not None
 
 

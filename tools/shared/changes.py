@@ -1,12 +1,15 @@
 """What changed of a resource or an answer, in words. Not proved."""
+from .machine import dependencies_of
 from .shown import named, quoted
+from .urls import WORD
 from .words import clusters_of, content_words, few
 
 # What a connection got whose cluster can't serve it, with the words for that cluster.
 LACKING = {'noCluster': 'isn\'t there', 'noEndpoint': 'has no host that may be chosen'}
 RESULTS = {'redirect': 'a redirect', 'noListener': 'no listener', 'noChain': 'no filter chain', 'noRoute': 'no route',
            **{kind: f'its cluster {words}' for kind, words in LACKING.items()},
-           'undecided': 'undecided: no script tells which way it goes', 'elsewhere': 'goes elsewhere, where no script tells its host'}
+           'undecided': 'undecided: no script tells which way it goes', 'elsewhere': 'goes elsewhere, where no script tells its host',
+           'noSecret': 'no handshake, since its filter chain needs a secret that isn\'t there'}
 
 
 def result_of(answer, name_of, cluster=None):
@@ -16,8 +19,8 @@ def result_of(answer, name_of, cluster=None):
         return answer, None, None
     if answer['result'] == 'served':
         return 'served', name_of(answer['cluster']), (answer['address'], answer['port'])
-    if answer['result'] == 'elsewhere':
-        return 'elsewhere', name_of(answer.get('cluster')), None
+    if answer['result'] in ('elsewhere', 'noSecret'):
+        return answer['result'], name_of(answer.get('cluster')), None
     return answer['result'], cluster if answer['result'] in LACKING else answer.get('status'), None
 
 
@@ -26,10 +29,25 @@ def change_words(kind, before, after):
         return host_words(before or (), after or ())
     if kind == 'rds':
         return route_words(before or (), after or ())
+    if kind in ('sds', 'ecds'):
+        return f'{content_words(kind, after)} with another body'
+    asked = asked_words(kind, before, after)
     was, now = content_words(kind, before), content_words(kind, after)
+    if asked and was == now:
+        return asked
+    now += f'; {asked}' if asked else ''
     if all('rows' in (content or {}) and 'elsewhere' not in content for content in (before, after)) and before['rows'] != after['rows']:
         return host_words(before['rows'], after['rows'])
     return f'{now}; before {was}' if was != now else f'{now}, in another way than before'
+
+
+def asked_words(kind, before, after):
+    """Which secrets and extensions a cluster or listener asks for and didn't, and asks for no more; empty where that is the same."""
+    names = [[key for key, _ in dependencies_of(kind, content or {}) if key[0] in ('sds', 'ecds')] for content in (before, after)]
+    parts = [f'{words} {few(f"{WORD[of]} {quoted(name, 60)}" for of, name in dict.fromkeys(found))}' for words, found in
+             (('asks for', [key for key in names[1] if key not in names[0]]), ('doesn\'t ask any more for', [key for key in names[0] if key not in names[1]]))
+             if found]
+    return '; '.join(parts)
 
 
 def host_words(before, after):
@@ -72,6 +90,8 @@ def result_words(result):
         return f'served by cluster {quoted(what, 60)} at {named(host[0], 60)}:{host[1]}'
     if kind == 'elsewhere' and what:
         return f'goes on from cluster {quoted(what, 60)} to a host that no script tells'
+    if kind == 'noSecret' and what:
+        return f'no handshake with cluster {quoted(what, 60)}, which needs a secret that isn\'t there'
     if kind in LACKING and what:
         return f'cluster {quoted(what, 60)} {LACKING[kind]}'
     return f'answered with status {what}' if kind == 'local' else RESULTS.get(kind, kind)

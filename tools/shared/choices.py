@@ -8,7 +8,8 @@ from .chain_matches import EXTERNAL, OF_DESTINATION, OF_SOURCE, SAME_MACHINE, bi
 from .fields import decimal, lower
 from .routes import ELSEWHERE, OPEN
 from .shown import quoted
-from .words import match_words, type_words
+from .machine import LACKS, MAY_LACK
+from .words import chain_words, few, type_words
 
 NO, OPEN_ANSWER, YES = 'no', 'open', 'yes'
 
@@ -40,12 +41,13 @@ class Ask:
 
 
 def choose(picture, members):
-    """The choice of a picture for an accept: `picture` gives the `listener` and the `cluster` that it shows, with what it shows of them."""
+    """The choice of a picture for an accept: `picture` gives the `listener` and the `cluster` that it shows, with what it shows of them and of the
+    secrets that they lack. Where it `tells_chains` the answer has the chain's place."""
     ask = Ask(members)
     found = reached(picture, ask)
     if found is None:
         return Choice('noListener')
-    listener, tables = found
+    listener, tables, lacking = found
     chains, default = listener.content['chains'], listener.content['default']
     chain, why = chain_for(chains, default, ask)
     undecided = {'listener': listener.number, 'result': 'undecided'}
@@ -54,13 +56,10 @@ def choose(picture, members):
     if chain is None:
         return Choice('noChain', why=f'listener {quoted(listener.name)} (generation {listener.number}) has none for it and no default one')
     label = chain_words(chain) if len(chains) + bool(default) > 1 else ''
-    answer, why, cluster = served(picture, chain, tables, ask)
-    return Choice({'listener': listener.number, **answer}, label, why, chain, cluster)
-
-
-def chain_words(chain):
-    asked = match_words(chain['match'])
-    return str(chain['label']) + (f' ({asked})' if asked else '')
+    answer, why, cluster = (without_secret(chain['label'], listener, chain['secrets']) if chain['place'] in lacking
+                            else served(picture, chain, tables, ask))
+    place = {'chain': chain['place']} if picture.tells_chains else {}
+    return Choice({'listener': listener.number, **place, **answer}, label, why, chain, cluster)
 
 
 def served(picture, chain, tables, ask):
@@ -91,16 +90,33 @@ def answer_of_target(picture, target, ask, way):
     found, leads = picture.cluster(name), f'{way} leads to cluster {quoted(name)}'
     if found is None:
         return {'result': 'noCluster'}, leads, name
-    cluster, hosts = found
-    if 'elsewhere' in cluster.content:
-        why = f'cluster {quoted(name)} is of {type_words(cluster.content)}: Envoy or an extension finds its host'
-        return {'cluster': cluster.number, 'result': 'elsewhere'}, why, name
+    cluster, hosts, lacks = found
     least = min((priority for _, _, priority, _ in hosts), default=None)
     hosts = [(host, share) for host, share, priority, _ in hosts if priority == least]
-    if not hosts:
+    if not hosts and 'elsewhere' not in cluster.content:
         return {'result': 'noEndpoint'}, leads, name
+    if lacks == LACKS:
+        answer, why, _ = without_secret(f'cluster {quoted(name)}', cluster, cluster.content['secrets'])
+        return {'cluster': cluster.number, **answer}, why, name
+    why = way_elsewhere(cluster, lacks)
+    if why:
+        return {'cluster': cluster.number, 'result': 'elsewhere'}, f'cluster {quoted(name)} {why}', name
     address, port = by_weight(hosts, ask.pick // weight)
     return {'address': address, 'cluster': cluster.number, 'port': port, 'result': 'served'}, '', name
+
+
+def way_elsewhere(cluster, lacks):
+    """Why no script tells the host that a cluster chooses, in words; empty where one does."""
+    if lacks == MAY_LACK:
+        return 'has several transport sockets, one of which needs a secret that isn\'t there'
+    return f'is of {type_words(cluster.content)}: Envoy or an extension finds its host' if 'elsewhere' in cluster.content else ''
+
+
+def without_secret(what, row, secrets):
+    """The same of what can't shake hands. Which secret it lacked then isn't kept: those are told that aren't there now, if there are some."""
+    names = [quoted(key[1]) for key in dict.fromkeys(key for key, _ in secrets) if key in row.absent]
+    words = f'secret{"s" * (len(names) > 1)} {few(names)}' if names else f'a secret of {few(quoted(key[1]) for key, _ in secrets)}'
+    return {'result': 'noSecret'}, f'{what} needs {words}, which {"are" if len(names) > 1 else "is"}n\'t there', None
 
 
 def elsewhere(why):
@@ -119,6 +135,14 @@ def reached(picture, ask):
         ask.address, ask.port = delivered
         return found
     return found[0].content['hands_over'] and listener_for(picture, *meant) or found
+
+
+def local_of(content, members):
+    """What an accept of these members asks for once a listener has taken it: one that doesn't restore takes it to come to where it was delivered."""
+    ask = Ask(members)
+    if members.get('redirectedTo') and not content['restores']:
+        ask.address, ask.port = end_of(members['redirectedTo'])
+    return ask
 
 
 def end_of(members):

@@ -5,6 +5,7 @@ docs/TIMELINE.md lists the members. They are those that Teller tells in words, w
 from collections import Counter
 
 from .envoy_waits import EnvoyWaits
+from .journal import MAKES
 from .teller import choice_of, refusal_words
 
 
@@ -47,8 +48,9 @@ class Facts:
         resources = []
         for index, (item, verdict) in enumerate(zip(response.items, answer['verdicts'])):
             resource = {'name': item.name, 'version': item.version, 'verdict': verdict}
-            if verdict == 'new':
+            if verdict in MAKES:
                 resource['generation'] = number
+                resource.update(in_place(self.machine.rows.get(number)))
                 number += 1
             if verdict[0] == 'V':
                 tag, complaints = refusal_words(line, index, verdict)
@@ -85,6 +87,14 @@ class Facts:
         return {'end': count, 'phase': machine.phase, 'picture': machine.last, 'serving': serving,
                 'waits': self.waits([row.number for row in rows]), 'notDestroyed': ended, 'refused': dict(self.refused),
                 'envoy': [self.envoy_wait(wait) for wait in self.envoy.waits.values()]}
+
+
+def in_place(row):
+    """What stays, is new and is gone of a listener that is in place of another generation."""
+    if row is None or row.base is None:
+        return {}
+    kept, own = row.chains_by_origin()
+    return {'inPlaceOf': row.base, **{name: labels for name, labels in (('stay', kept), ('newChains', own), ('gone', row.left)) if labels}}
 
 
 def lacks(machine, row):

@@ -7,6 +7,7 @@ import re
 
 from .profiles import ENVOY, OWN
 from .shown import value_shown
+from .whole_sidecar import is_read
 
 WRONG = object()
 MAX_NAME = 512
@@ -51,10 +52,11 @@ def lower(text):
 
 
 class Reader:
-    """Reads fields by either spelling, and notes each broken rule with its path. `as_envoy` is whether resources are read by the profile envoy."""
+    """Reads fields by either spelling, and notes each broken rule with its path. `as_envoy` is whether resources are read by the profile envoy,
+    `of_sidecar` whether secrets and extensions are."""
 
     def __init__(self, profile=OWN, form_rule=6):
-        self.form_rule, self.broken, self.as_envoy = form_rule, [], profile == ENVOY
+        self.form_rule, self.broken, self.as_envoy, self.of_sidecar = form_rule, [], profile == ENVOY, is_read(profile)
 
     def breaks(self, rule, path, words):
         self.broken.append((rule, path, words))

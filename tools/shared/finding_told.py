@@ -7,6 +7,7 @@ from .json_text import NotJson, compact, read_tree
 from .shown import quoted, shown
 from .statuses import WrongInput
 from .teller import Teller, place_of
+from .whole_sidecar import is_read
 from .words import counted, few
 
 MOST, MOST_TEXT = 20, 400
@@ -24,6 +25,13 @@ RULES = {
     'accept': 'the picture that the worker holds chooses; a number that is open at this worker is in use',
     'close': 'a connection closes where it is open at this worker',
     'settle': 'the worker takes the last picture, and closes its connections on listeners whose drain timeout came, in ascending order',
+}
+# The same of scripts in which secrets, extensions and listeners that change in place are read, where that is something else.
+RULES_OF_SIDECAR = {
+    'settle': 'the worker takes the last picture. Its connections on listeners that this doesn\'t show go on where it shows their filter chain; it '
+              'closes those on listeners whose drain timeout came and whose filter chain it doesn\'t show, and both stand in ascending order',
+    'accept': 'the picture that the worker holds chooses, and the answer has the place of the filter chain that was found; a number that is open at '
+              'this worker is in use',
 }
 FORMAT_2 = '; a listener that drains waits for its drain timeout too'
 
@@ -139,7 +147,8 @@ class Told:
             self.page.line(f'machine  {shown(compact(walk.answer).decode(), MOST_TEXT)}', 'good')
             for words in itertools.islice(self.reasons(), MOST):
                 self.page.line(f'why      {words}')
-            self.page.line(f'rule     {RULES[row.op]}{FORMAT_2 * (row.op == "reap" and self.reading.format == 2)}')
+            ruled = {**RULES, **(RULES_OF_SIDECAR if is_read(self.reading.profile) else {})}
+            self.page.line(f'rule     {ruled[row.op]}{FORMAT_2 * (row.op == "reap" and self.reading.format == 2)}')
         if walk.batch:
             self.page.line(f'rule     directly after an accept or a close stands an entry of the same worker, up to its settle; {walk.batch} had not settled')
 
@@ -150,6 +159,8 @@ class Told:
             yield from self.reaped(row.answer['reaped'], answer['reaped'])
         elif row.op == 'response' and isinstance(row.answer, dict) and isinstance(answer, dict):
             yield from self.verdicts(row.answer['verdicts'], answer['verdicts'])
+        elif row.op == 'settle':
+            yield from self.settled(row.answer, answer)
         if row.op == 'accept':
             yield f'{row.actor} holds picture {self.walk.machine.held[int(row.actor[1:])]}, and {self.walk.machine.last} is the last'
         both = isinstance(row.answer, dict) and isinstance(answer, dict)
@@ -176,6 +187,12 @@ class Told:
             yield f'{machine.destroyed[number].words()} is destroyed here: nothing holds it'
         if found != wanted and set(found) == set(wanted):
             yield 'the numbers stand once each and in ascending order'
+
+    def settled(self, found, wanted):
+        """Connections that move, or are closed, in one of two answers alone."""
+        for name, words in (('moved', 'goes on: the last picture shows its filter chain'), ('closed', 'is closed: its listener\'s drain timeout came')):
+            for conn in sorted(set(found.get(name, ())) ^ set(wanted.get(name, ()))):
+                yield f'connection {conn} {words if conn in wanted.get(name, ()) else f"isn{chr(39)}t {name}"}'
 
     def verdicts(self, found, wanted):
         items = self.walk.due.line.response.items

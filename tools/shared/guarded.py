@@ -2,11 +2,11 @@
 from .fields import MAX_NAME, WRONG, Reader, size
 from .shown import quoted
 from .statuses import WrongInput
-from .urls import TYPE, WORDS
+from .references import UPSTREAM
+from .urls import URLS, WORDS
 from .words import few
 
-SECRET = TYPE + 'envoy.extensions.transport_sockets.tls.v3.Secret'
-CONTEXT = TYPE + 'envoy.extensions.transport_sockets.tls.v3.UpstreamTlsContext'
+SECRET = URLS['sds']
 PREFIX = 'tls/'
 MOST = 20
 
@@ -77,7 +77,7 @@ def member(holder, name):
 def references(body):
     """The names of the secrets that a cluster's body asks for, those of its certificates first."""
     config = member(member(body, 'transport_socket'), 'typed_config')
-    if not isinstance(config, dict) or config.get('@type') != CONTEXT:
+    if not isinstance(config, dict) or config.get('@type') != UPSTREAM:
         return []
     context = member(config, 'common_tls_context')
     certificates = member(context, 'tls_certificate_sds_secret_configs')

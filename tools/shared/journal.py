@@ -1,13 +1,18 @@
 """Journals: the exact text of each line. Formats 1 and 2. Not proved."""
 import re
 
+from . import whole_sidecar
 from .fields import MAX_NAME, MAX_U32, size
 from .json_text import NotJson, compact, read_tree
-from .urls import KINDS
+from .profiles import ENVOY
+from .urls import kind_of
 
 MAX_U64 = 2 ** 64 - 1
 ACTOR = re.compile(r'stream|health|timer|main|w(0|[1-9][0-9]{0,9})')
 VERDICT = re.compile(r'new|same|kept|unasked|renewed|V(0|[1-9][0-9]{0,2})')
+OF_SIDECAR = ('inPlace', 'back')
+# Verdicts by which a generation is made.
+MAKES = ('new', 'inPlace')
 RESULTS = ('noRoute', 'redirect', 'noCluster', 'noEndpoint', 'undecided')
 
 
@@ -109,7 +114,7 @@ REQUEST = {
     'resourceNamesSubscribe': names,
     'resourceNamesUnsubscribe': names,
     'responseNonce': lambda v: isinstance(v, str) and v != '',
-    'typeUrl': lambda v: isinstance(v, str) and v in KINDS,
+    'typeUrl': lambda v: kind_of(v, ENVOY) is not None,
 }
 
 
@@ -118,6 +123,8 @@ def request(value):
 
 
 def verdict(value):
+    if whole_sidecar.READS_SECRETS and value in OF_SIDECAR:
+        return True
     if not isinstance(value, str) or not VERDICT.fullmatch(value):
         return False
     return value[0] != 'V' or int(value[1:]) <= 255
@@ -140,15 +147,24 @@ def accepted(value):
     if not isinstance(value, dict) or not isinstance(value.get('result'), str):
         return False
     result = value['result']
-    known = lambda text: True
+    forms = {'listener': generation, 'result': lambda text: True}
+    if whole_sidecar.READS_SECRETS and 'chain' in value:
+        forms['chain'] = lambda place: place == 'default' or u32(place)
     if result in RESULTS:
-        return has(value, listener=generation, result=known)
-    if result == 'elsewhere':
-        return has(value, listener=generation, result=known, **({'cluster': generation} if 'cluster' in value else {}))
+        return has(value, **forms)
+    if result == 'elsewhere' or (result == 'noSecret' and whole_sidecar.READS_SECRETS):
+        return has(value, **forms, **({'cluster': generation} if 'cluster' in value else {}))
     if result == 'local':
-        return has(value, listener=generation, result=known, status=lambda v: whole(v, 0, 65535))
-    return result == 'served' and has(value, address=name, cluster=generation, listener=generation,
-                                      port=lambda v: whole(v, 0, 65535), result=known)
+        return has(value, **forms, status=lambda v: whole(v, 0, 65535))
+    return result == 'served' and has(value, **forms, address=name, cluster=generation, port=lambda v: whole(v, 0, 65535))
+
+
+def settled(value):
+    numbers = list_of(u64)
+    forms = {'closed': numbers, 'version': u64}
+    if whole_sidecar.READS_SECRETS and isinstance(value, dict) and 'moved' in value:
+        forms['moved'] = lambda moved: numbers(moved) and moved != []
+    return has(value, **forms)
 
 
 ANSWERS = {
@@ -163,7 +179,7 @@ ANSWERS = {
     'reap': lambda v: has(v, reaped=list_of(generation)),
     'accept': accepted,
     'close': lambda v: v in ('notOpen', 'done'),
-    'settle': lambda v: has(v, closed=list_of(u64), version=u64),
+    'settle': settled,
 }
 WHOLE_REQUEST = {**{name: REQUEST[name] for name in ('errorDetail', 'node', 'responseNonce', 'typeUrl')},
                  'resourceNames': names, 'versionInfo': lambda v: isinstance(v, str) and v != ''}

@@ -1,13 +1,15 @@
 """Listeners, their filter chains and connection managers: which rules they break, and what they contain. Not proved.
 
 A listener has `address`, `chains` and `default`, whether it `takes_all` addresses of its port, whether it listens by `udp`, whether it `restores` the
-address that a redirected connection was meant for, and whether it `hands_over` such a connection to the listener there. A chain has its `match`, what it `serves` and a
-`label`. It serves routes of its own (`routes`), those of a name (`rds`, with `limited`), a target (`target`), or something else (`other`).
+address that a redirected connection was meant for, and whether it `hands_over` such a connection to the listener there. Of `extensions` it waits
+for those of its listener filters. A chain has its `match`, what it `serves`, its `place` (its index, or 'default'), a `label`, and the `secrets` and
+`extensions` for which it waits. It serves routes of its own (`routes`), those of a name (`rds`, with `limited`), a target (`target`), or something else (`other`).
 """
 from .addresses import is_udp, read_address, read_source
 from .chain_matches import ANY, clashing, read_chain_match
 from .fields import MAX_NAME, WRONG, Reader, size
 from .profiles import Label
+from .references import read_extension, read_manager_extensions, read_socket
 from .routes import read_routes, read_target
 from .shown import quoted
 from .urls import MANAGER, ORIGINAL_DST, TCP_PROXY
@@ -28,29 +30,36 @@ def read_listener(reader, body, path):
         reader.breaks(16, f'{path}.filterChains', f'has {len(chains)} chains: exactly one is read')
     if reader.object(body, 'default_filter_chain', path) not in (None, WRONG):
         reader.breaks(16, f'{path}.defaultFilterChain', 'is given')
-    found = [{'match': ANY, 'serves': read_chain(reader, chain, f'{path}.filterChains[{place}]'), 'label': Label('the filter chain')}
+    found = [made_chain(ANY, read_chain(reader, chain, f'{path}.filterChains[{place}]'), place, 'the filter chain')
              for place, chain in enumerate(chains if chains is not WRONG else [])]
-    return {'address': address, 'chains': tuple(found), 'default': None, **dict.fromkeys(('takes_all', 'udp', 'restores', 'hands_over'), False)}
+    return {'address': address, 'chains': tuple(found), 'default': None, **dict.fromkeys(('takes_all', 'udp', 'restores', 'hands_over'), False),
+            'extensions': ()}
+
+
+def made_chain(match, serves, place, label, secrets=(), extensions=()):
+    return {'match': match, 'serves': serves, 'place': place, 'label': Label(label), 'secrets': tuple(secrets), 'extensions': tuple(extensions)}
 
 
 def read_chain(reader, chain, path):
     match = reader.object(chain, 'filter_chain_match', path)
     if isinstance(match, dict) and any(value is not None for value in match.values()):
         reader.breaks(16, f'{path}.filterChainMatch', 'has a member')
-    filters, serving = read_filters(reader, chain, path)
+    filters, serving, _ = read_filters(reader, chain, path)
     if filters is not WRONG and len(serving) != 1:
         reader.breaks(17, f'{path}.filters', f'has {len(serving)} connection managers and TCP proxies: exactly one is wanted')
     return serving[0] if serving else None
 
 
 def read_filters(reader, chain, path):
-    """(the filters, what those of them serve that are connection managers or TCP proxies)."""
-    filters, serving = reader.objects(chain, 'filters', path), []
+    """(the filters, what those of them serve that are connection managers or TCP proxies, the extensions of them)."""
+    filters, serving, extensions = reader.objects(chain, 'filters', path), [], []
     for place, one in enumerate(filters if filters is not WRONG else []):
-        config = reader.object(one, 'typed_config', f'{path}.filters[{place}]')
-        served = read_filter(reader, config, f'{path}.filters[{place}].typedConfig')
+        where = f'{path}.filters[{place}]'
+        config = reader.object(one, 'typed_config', where)
+        served = read_filter(reader, config, f'{where}.typedConfig')
         serving += [served] if served is not None else []
-    return filters, serving
+        extensions += read_extension(reader, one, where) + read_manager_extensions(reader, config, f'{where}.typedConfig')
+    return filters, serving, extensions
 
 
 def read_filter(reader, config, path):
@@ -99,16 +108,19 @@ def read_listener_as_envoy(reader, body, path, name):
         chains, default = (read_api_chain(reader, api if isinstance(api, dict) else {}, f'{path}.apiListener'),), None
     else:
         chains, default = read_chains(reader, body, path, udp)
-    return {'address': address, 'chains': chains, 'default': default, 'takes_all': address[0] in EVERY_ADDRESS, 'udp': udp,
-            **read_redirected(reader, body, path)}
+    found = {'address': address, 'chains': chains, 'default': default, 'takes_all': address[0] in EVERY_ADDRESS, 'udp': udp,
+             **read_redirected(reader, body, path)}
+    return {**found, 'extensions': ()} if api is not None else found
 
 
 def read_redirected(reader, body, path):
-    """What becomes of redirected connections."""
+    """What becomes of redirected connections, and what listener filters are waited for."""
     hands_over = reader.boolean(body, 'use_original_dst', path) is True
     filters = reader.objects(body, 'listener_filters', path)
-    restore = [restores(reader, one, f'{path}.listenerFilters[{place}]') for place, one in enumerate(filters if filters is not WRONG else [])]
-    return {'restores': hands_over or any(restore), 'hands_over': hands_over}
+    filters = [(f'{path}.listenerFilters[{place}]', one) for place, one in enumerate(filters if filters is not WRONG else [])]
+    restore = [restores(reader, one, where) for where, one in filters]
+    extensions = [found for where, one in filters for found in read_extension(reader, one, where)]
+    return {'restores': hands_over or any(restore), 'hands_over': hands_over, 'extensions': tuple(extensions)}
 
 
 def restores(reader, one, path):
@@ -142,19 +154,20 @@ def read_chains(reader, body, path, udp):
     for place, chain in enumerate(chains if chains is not WRONG else []):
         where = f'{path}.filterChains[{place}]'
         match = read_chain_match(reader, reader.object(chain, 'filter_chain_match', where), f'{where}.filterChainMatch')
-        found.append(chain_of(reader, chain, where, match, f'filter chain {place + 1}'))
+        found.append(chain_of(reader, chain, where, match, place, f'filter chain {place + 1}'))
     for place, before in clashing([chain['match'] for chain in found]):
         reader.breaks(26, f'{path}.filterChains[{place}].filterChainMatch', f'fits what that of filterChains[{before}] fits as well')
-    last = chain_of(reader, default, f'{path}.defaultFilterChain', ANY, 'the default filter chain') if isinstance(default, dict) else None
+    last = chain_of(reader, default, f'{path}.defaultFilterChain', ANY, 'default', 'the default filter chain') if isinstance(default, dict) else None
     return tuple(found), last
 
 
-def chain_of(reader, chain, path, match, label):
-    filters, serving = read_filters(reader, chain, path)
+def chain_of(reader, chain, path, match, place, label):
+    secrets = read_socket(reader, chain, path)
+    filters, serving, extensions = read_filters(reader, chain, path)
     if len(serving) > 1:
         reader.breaks(17, f'{path}.filters', f'has {len(serving)} connection managers and TCP proxies: one is the most')
     serves = serving[0] if serving else {'other': Label('no connection manager or TCP proxy')}
-    return {'match': match, 'serves': serves, 'label': Label(label + own_name(chain))}
+    return made_chain(match, serves, place, label + own_name(chain), secrets, extensions)
 
 
 def own_name(chain):
@@ -169,4 +182,4 @@ def read_api_chain(reader, api, path):
     serves = read_filter(reader, config, f'{path}.apiListener')
     if serves is None or 'target' in serves:
         reader.breaks(17, f'{path}.apiListener', 'has 0 connection managers: exactly one is wanted' if config is not None else 'is missing')
-    return {'match': ANY, 'serves': serves or {}, 'label': Label('the API listener')}
+    return made_chain(ANY, serves or {}, 0, 'the API listener', extensions=read_manager_extensions(reader, config, f'{path}.apiListener'))

@@ -11,15 +11,24 @@ import heapq
 from . import rules
 from .profiles import ENVOY, OWN
 from .shown import named, quoted
-from .urls import WORD, WORDS
+from .urls import BY_NAME, WORD, WORDS
+from .words import chain_words, chains_of
 
 EMPTY = ()
 MOST_HOSTS = 8
 PICTURE = 'the last picture'
 
 
+# What a serving generation may lack, by the type of the name, and how a cluster may lack a secret.
+LACKING = {'eds': 'HOSTS', 'rds': 'ROUTES', 'sds': 'SECRETS', 'ecds': 'EXTENSIONS'}
+LACKS, MAY_LACK = 'lacks', 'may lack'
+
+
 class Row:
-    """A generation, with what a picture shows of it and who uses it. `tables` are the routes of each name that a listener asks for."""
+    """A generation, with what a picture shows of it and who uses it. `tables` are the routes of each name that a listener asks for, `absent`
+    the secrets and extensions that it asks for and that have no value. `base` is the number of the generation that a listener is in place of,
+    or None, and `left` the words for those of its filter chains that go; `origins` has the origin of each of its filter chains by its place, and
+    `places` the place by the origin."""
 
     def __init__(self, kind, number, item):
         self.kind, self.number, self.name, self.version, self.content = kind, number, item.name, item.version, item.content or {}
@@ -27,6 +36,8 @@ class Row:
         self.status, self.expired = 'warming', False
         self.checked = kind == 'cds' and bool(self.content.get('checked'))
         self.dependencies = dependencies_of(kind, self.content)
+        self.absent, self.base, self.left, self.origins, self.places = set(), None, [], {}, {}
+        self.frame, self.chains = item.frame, item.chains
         self.assigned, self.tables, self.usable, self.eligible = EMPTY, {}, {}, 0
         self.results, self.missing = {}, []
         self.first_shown, self.last_shown = None, None
@@ -39,6 +50,28 @@ class Row:
     def names(self):
         """(kind, name) of each that it depends on, in order."""
         return list(dict.fromkeys(key for key, _ in self.dependencies))
+
+    def names_of(self, kind):
+        """Those of a type."""
+        return [key for key in self.names() if key[0] == kind]
+
+    def stays(self, base):
+        """It is in place of another generation of its name: chains that are equal keep their origin."""
+        self.base = base.number
+        kept = {(place == 'default', text): base.origins[place] for place, text in base.chains.items()}
+        stay = {place: kept[place == 'default', text] for place, text in self.chains.items() if (place == 'default', text) in kept}
+        self.take_origins({**self.origins, **stay})
+        self.left = [chain_words(chain) for chain in chains_of(base.content) if base.origins[chain['place']] not in self.places]
+
+    def take_origins(self, origins):
+        self.origins, self.places = origins, {origin: place for place, origin in origins.items()}
+
+    def chains_by_origin(self):
+        """(the words for the filter chains that it has from the one that it is in place of, those for its own)."""
+        labels = ([], [])
+        for chain in chains_of(self.content):
+            labels[self.origins[chain['place']][0] == self.number].append(chain_words(chain))
+        return labels
 
     def has_limit(self, name):
         """Whether a wait for a name is limited."""
@@ -58,10 +91,25 @@ class Row:
         return self.first_shown <= version and (self.last_shown is None or version <= self.last_shown)
 
     def lacking(self):
-        """The names by which it lacks something: None where none of its hosts may be chosen, a name of routes without a virtual host."""
+        """The names by which it lacks something: None where none of its hosts may be chosen, a name of routes without a virtual host, a secret or an
+        extension without a value."""
+        absent = [name for name in self.names() if name in self.absent]
         if self.kind == 'cds':
-            return [] if self.eligible or 'elsewhere' in self.content else (self.names() or [None])
-        return [name for name in self.names() if not self.tables.get(name)]
+            return ([] if self.eligible or 'elsewhere' in self.content else (self.names_of('eds') or [None])) + absent
+        return [name for name in self.names_of('rds') if not self.tables.get(name)] + absent
+
+    def lacks(self):
+        """What a picture shows of secrets that aren't there: whether a cluster lacks one, or may lack one; the places of filter chains that do."""
+        if self.kind == 'lds':
+            return frozenset(chain['place'] for chain in chains_of(self.content) if any(key in self.absent for key, _ in chain['secrets']))
+        own, matched = self.content.get('secrets', ()), self.content.get('matched')
+        if any(key in self.absent for key, _ in (*own, *(matched or ()))):
+            return LACKS if matched is None else MAY_LACK
+        return None
+
+    def seen(self):
+        """All that a picture shows of it that may change."""
+        return self.shows(), self.lacks()
 
     def shows(self):
         """What a picture shows of it: its eligible hosts, or its routes by their names. Of a checked cluster with the results that the last
@@ -74,7 +122,11 @@ class Row:
                      if host[3] and (self.results.get(host[0]) is True) != (host[0] in self.toggled))
 
     def assign(self, name, value):
-        """Takes the hosts of an assignment, or the routes of a name."""
+        """Takes the value of a name, None where it has none: the hosts of an assignment, the routes of a name, a secret or an extension."""
+        if name and name[0] in ('sds', 'ecds'):
+            (self.absent.add if value is None else self.absent.discard)(name)
+            return
+        value = EMPTY if value is None else value
         if self.kind != 'cds':
             self.tables[name] = value
             return
@@ -105,9 +157,14 @@ class Row:
 def dependencies_of(kind, content):
     """What a generation waits for: ((kind, name), whether the wait is limited) for each, once."""
     if kind == 'cds':
-        return ((('eds', content['eds']), content['limited']),) if content.get('eds') else ()
-    chains = [*content.get('chains', ()), *([content['default']] if content.get('default') else [])]
-    return tuple(dict.fromkeys((('rds', chain['serves']['rds']), chain['serves']['limited']) for chain in chains if 'rds' in chain['serves']))
+        found = [(('eds', content['eds']), content['limited'])] if content.get('eds') else []
+        return tuple(dict.fromkeys([*found, *content.get('secrets', ()), *(content.get('matched') or ())]))
+    found = []
+    for chain in chains_of(content):
+        serves = chain['serves']
+        found += [(('rds', serves['rds']), serves['limited'])] if 'rds' in serves else []
+        found += [*chain['secrets'], *chain['extensions']]
+    return tuple(dict.fromkeys([*found, *content.get('extensions', ())]))
 
 
 class Machine:
@@ -123,6 +180,7 @@ class Machine:
         self.values, self.how, self.told, self.timed = {}, {}, {}, {}
         self.first, self.awaited = {}, {}
         self.last, self.held, self.connections = 0, {w: 0 for w in range(workers)}, {}
+        self.taken, self.shown_listeners = {}, {}  # (listener, place, origin) by connection; the listeners of the last picture by name
         self.picture_lines = [0]
         self.active, self.ended = {'cds': [], 'lds': []}, []
         self.unpublished, self.kept, self.dead_ones = set(), {}, set()
@@ -182,27 +240,38 @@ class Machine:
 
     def wait_words(self, name):
         again = ' (these endpoints were known, and have to be sent again)' if name[0] == 'eds' and name in self.values else ''
-        return f'{WORDS[name[0]]} {quoted(name[1])}{again}'
+        return f'{WORD[name[0]]} {quoted(name[1])}{again}'
 
     def without(self, row):
         """What a serving generation lacks and why, in words; None where it lacks nothing."""
-        what, lacking = 'HOSTS' if row.kind == 'cds' else 'ROUTES', row.lacking()
-        return f'WITHOUT {what}: {"; ".join(self.lack_words(row.kind, name) for name in lacking)}' if lacking else None
+        found = {}
+        for name in row.lacking():
+            found.setdefault(LACKING[name[0] if name else 'eds'], []).append(name)
+        return ', '.join(f'WITHOUT {what}: {"; ".join(self.lack_words(row.kind, name) for name in names)}' for what, names in found.items()) or None
 
     def lack_words(self, kind, name):
         if name is None:
             return 'none that may be chosen'
+        if name[0] in ('sds', 'ecds'):
+            return f'{quoted(name[1])}: {self.why_absent(name)}'
         refusal = self.how.get(name)
         if name in self.values:
             why = 'none that may be chosen' if kind == 'cds' else f'{quoted(name[1])} has no virtual host'
         elif isinstance(refusal, tuple):
-            whose = {rules.PROFILE: 'which Envoy takes', rules.ENVOY: 'which Envoy refuses too',
-                     rules.UNKNOWN: 'and whether Envoy takes them is not known'}
-            why = f'refused by {refusal[0]}, {whose[refusal[1]]}'
+            why = self.refused_words(*refusal)
         else:
             removed = self.guards.endpoints_of(name) if self.guards and name in self.guards.of else f'{WORDS[name[0]]} {quoted(name[1])} were removed'
             why = removed if name in self.how else 'their fetch timeout came'
         return why
+
+    def refused_words(self, verdict, whose):
+        words = {rules.PROFILE: 'which Envoy takes', rules.ENVOY: 'which Envoy refuses too', rules.UNKNOWN: 'and whether Envoy takes them is not known'}
+        return f'refused by {verdict}, {words[whose]}'
+
+    def why_absent(self, name):
+        """Why a secret or an extension that was waited for isn't there, in words."""
+        how = self.how.get(name)
+        return self.refused_words(*how) if isinstance(how, tuple) else 'it was removed' if how == 'removed' else 'its fetch timeout came'
 
     def would_show(self, row):
         return row.status == 'active' and (row.kind == 'cds' or self.phase == 'serving')
@@ -219,7 +288,7 @@ class Machine:
     def differs(self, row):
         if self.would_show(row) != row.is_shown():
             return True
-        return row.is_shown() and (bool(row.toggled) or (row.before is not None and row.before != row.shows()))
+        return row.is_shown() and (bool(row.toggled) or (row.before is not None and row.before != row.seen()))
 
     def choice(self, members, worker):
         """What a worker's picture chooses for an accept; None where what pictures show isn't kept."""
@@ -331,14 +400,43 @@ class Machine:
         if op == 'accept':
             if isinstance(answer, dict):
                 self.use(worker, line.members['conn'], {answer['listener'], answer.get('cluster')} - {None})
+                self.note_chain(worker, line.members['conn'], answer)
         elif op == 'close':
             if answer == 'done':
                 self.leave(worker, line.members['conn'])
         else:
+            for conn in answer.get('moved', ()):
+                self.shift(worker, conn)
             for conn in answer['closed']:
                 self.leave(worker, conn)
             self.held[worker] = answer['version']
             self.release(worker)
+
+    def note_chain(self, worker, conn, answer):
+        """The filter chain that took a connection, where the answer says which."""
+        row = self.rows.get(answer['listener'])
+        origin = row.origins.get(answer.get('chain')) if row else None
+        if origin:
+            self.taken[worker, conn] = row.number, answer['chain'], origin
+
+    def target(self, worker, conn):
+        """(listener, place) in the last picture of the chain that a connection is on, or None."""
+        listener, _, origin = self.taken.get((worker, conn), (None, None, None))
+        row = self.rows.get(listener)
+        shown = self.shown_listeners.get(row.name) if row else None
+        return (shown, shown.places[origin]) if shown and origin in shown.places else None
+
+    def shift(self, worker, conn):
+        """A connection goes on on the listener that the last picture shows its chain of."""
+        target, key = self.target(worker, conn), (worker, conn)
+        if target and key in self.connections:
+            old, _, origin = self.taken[key]
+            numbers = self.connections[key]
+            self.unuse(worker, conn, old)
+            self.release(key)
+            self.connections[key] = numbers - {old} | {target[0].number}
+            bisect.insort(target[0].users, key)
+            self.taken[key] = target[0].number, target[1], origin
 
     def use(self, worker, conn, numbers):
         self.connections[worker, conn] = numbers
@@ -347,12 +445,16 @@ class Machine:
                 bisect.insort(self.rows[number].users, (worker, conn))
 
     def leave(self, worker, conn):
+        self.taken.pop((worker, conn), None)
         for number in self.connections.pop((worker, conn), ()):
-            users = self.rows[number].users if number in self.rows else []
-            place = bisect.bisect_left(users, (worker, conn))
-            if users[place:place + 1] == [(worker, conn)]:
-                del users[place]
+            self.unuse(worker, conn, number)
         self.release((worker, conn))
+
+    def unuse(self, worker, conn, number):
+        users = self.rows[number].users if number in self.rows else []
+        place = bisect.bisect_left(users, (worker, conn))
+        if users[place:place + 1] == [(worker, conn)]:
+            del users[place]
 
     def publish(self, at):
         self.last += 1
@@ -366,6 +468,10 @@ class Machine:
             elif row.is_shown() and not self.would_show(row):
                 row.last_shown = self.last - 1
             row.before, row.toggled = None, set()
+        shown = [self.rows[number] for number in sorted(self.unpublished) if number in self.rows and self.rows[number].kind == 'lds']
+        for row in (row for row in shown if not row.is_shown() and self.shown_listeners.get(row.name) is row):
+            del self.shown_listeners[row.name]
+        self.shown_listeners.update((row.name, row) for row in shown if row.is_shown())
         self.unpublished = set()
         self.release(PICTURE)
 
@@ -388,19 +494,21 @@ class Machine:
         made = []
         for item, verdict in zip(response.items, verdicts):
             key = (kind, item.name)
-            if verdict == 'new':
+            if verdict in ('new', 'inPlace'):
                 self.retire(kind, item.name, drop_alone=True)
-                self.make(kind, item)
-                made.append(item.name)
+                self.make(kind, item, verdict == 'inPlace')
+                made += [item.name] if verdict == 'new' else []
+            elif verdict == 'back':
+                self.retire(kind, item.name, drop_alone=True)
             elif verdict == 'kept':
                 self.give(key, EMPTY if item.content is None else item.content)
                 self.tell(key, 'told')
-            elif verdict[0] == 'V' and kind in ('eds', 'rds') and self.is_watched(key):
+            elif verdict[0] == 'V' and kind in BY_NAME and self.is_watched(key):
                 self.tell(key, (verdict, item.whose(kind, verdict)))
         if kind in ('cds', 'lds') and kind not in self.first:
             self.note_first(kind, made)
 
-    def make(self, kind, item):
+    def make(self, kind, item, is_in_place=False):
         row = Row(kind, self.next, item)
         self.rows[row.number] = row
         self.next += 1
@@ -409,24 +517,29 @@ class Machine:
         for name in row.names():
             self.note_watch(name)
             self.dependents.setdefault(name, {})[row.number] = row
-            row.assign(name, self.values.get(name, EMPTY))
-        if kind == 'cds' and not row.dependencies:
+            row.assign(name, self.values.get(name))
+        if kind == 'cds' and not row.content.get('eds'):
             row.assign(None, row.content.get('rows', EMPTY))
+        if kind == 'lds':
+            base = self.named[kind, item.name].get('active') if is_in_place else None
+            row.take_origins({chain['place']: (row.number, chain['place']) for chain in chains_of(row.content)})
+            if base:
+                row.stays(base)
         self.touched.add(row.number)
         self.note_awaited(row)
 
     def give(self, key, value):
-        """A name of endpoints or routes has a value."""
+        """A name has a value."""
         self.values[key] = value
         for row in self.dependents.get(key, {}).values():
             if row.is_shown() and row.before is None:
-                row.before, row.toggled = row.shows(), set()
+                row.before, row.toggled = row.seen(), set()
                 self.unpublished.add(row.number)
             row.assign(key, value)
         self.touch(key)
 
     def tell(self, key, how):
-        """The control plane speaks of a name of endpoints or routes."""
+        """The control plane speaks of a name."""
         self.told[key], self.how[key] = self.next - 1, how
         self.touch(key)
 
@@ -438,7 +551,7 @@ class Machine:
     def remove(self, kind, name):
         if kind in ('cds', 'lds'):
             self.retire(kind, name)
-        elif self.is_watched((kind, name)):
+        elif kind != 'sds' and self.is_watched((kind, name)):
             self.tell((kind, name), 'removed')
 
     def retire(self, kind, name, drop_alone=False):
@@ -451,7 +564,7 @@ class Machine:
     def expire(self, kind, name):
         if kind in ('cds', 'lds'):
             self.retire(kind, name)
-        else:
+        elif kind in ('eds', 'rds'):
             self.give((kind, name), EMPTY)
             if kind == 'rds' or not self.needs_fresh:
                 self.tell((kind, name), 'told')

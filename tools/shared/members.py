@@ -7,15 +7,23 @@ import functools
 
 from .fields import camel
 from .profiles import ENVOY, OWN
+from .references import CONTEXTS, DOWNSTREAM, UPSTREAM
 from .spelling import snake
 from .urls import MANAGER, TCP_PROXY
+from .whole_sidecar import is_read
+
 
 class Table(dict):
-    """The members of an object, each with the table of what stands there. `of` says which object it is, where that matters."""
+    """The members of an object, each with the table of what stands there. `of` says which object it is, where that matters. One that is a `config`
+    has tables by the types of what stands there, and `others` for types that it hasn't."""
 
-    def __init__(self, of, members):
+    def __init__(self, of, members, others=None):
         super().__init__(members)
-        self.of = of
+        self.of, self.others = of, others
+
+    def of_type(self, url):
+        """The table of a type; None where nothing of it is read."""
+        return self.get(url, self.others) if isinstance(url, str) else None
 
 
 def of(table):
@@ -94,7 +102,33 @@ OF_ENVOY = {
             'listener_filters': {'name': NONE, 'typed_config': NONE}},
     'rds': ROUTES_OF_ENVOY,
 }
-BODIES = {OWN: OF_OWN, ENVOY: OF_ENVOY}
+
+# The same where secrets and extensions are read
+
+REFERENCE = {'name': NONE, 'sds_config': SOURCE_OF_ENVOY}
+CONTEXT = {'common_tls_context': {**dict.fromkeys(('tls_certificate_sds_secret_configs', 'validation_context_sds_secret_config'), REFERENCE),
+                                  'combined_validation_context': {'validation_context_sds_secret_config': REFERENCE}}}
+OF_CONTEXTS = {UPSTREAM: CONTEXT, DOWNSTREAM: {**CONTEXT, 'session_ticket_keys_sds_secret_config': REFERENCE}}
+OF_SOCKETS = {url: OF_CONTEXTS[url] if member is None else {member: OF_CONTEXTS[DOWNSTREAM if is_downstream else UPSTREAM]}
+              for url, (member, is_downstream) in CONTEXTS.items()}
+SOCKET = {'typed_config': Table('config', OF_SOCKETS, {'transport_socket': {'typed_config': Table('config', OF_SOCKETS)}})}
+DISCOVERY = {'name': NONE, 'config_discovery': {'config_source': SOURCE_OF_ENVOY, 'default_config': THERE, 'apply_default_config_without_warming': NONE}}
+OF_FILTERS = Table('config', {**CONFIGS_OF_ENVOY, MANAGER: {**CONFIGS_OF_ENVOY[MANAGER], 'http_filters': Table('discovered', DISCOVERY)}})
+CHAIN_OF_SIDECAR = {**CHAIN, 'transport_socket': SOCKET, 'filters': Table('filter', {**filter_of(OF_FILTERS), **DISCOVERY})}
+OF_SIDECAR = {
+    **OF_ENVOY,
+    'cds': {**OF_ENVOY['cds'], 'transport_socket': SOCKET, 'transport_socket_matches': {'transport_socket': SOCKET}},
+    'lds': {**OF_ENVOY['lds'], 'filter_chains': CHAIN_OF_SIDECAR, 'default_filter_chain': {**CHAIN_OF_SIDECAR, 'filter_chain_match': THERE},
+            'api_listener': {'api_listener': OF_FILTERS}, 'listener_filters': {**OF_ENVOY['lds']['listener_filters'], **DISCOVERY}},
+    'sds': {'name': NONE, **dict.fromkeys(('tls_certificate', 'session_ticket_keys', 'validation_context', 'generic_secret'), THERE)},
+    'ecds': {'name': NONE, 'typed_config': THERE},
+}
+
+
+def bodies_of(profile):
+    """The members that scripts of a profile have read, by the types of resources."""
+    return OF_SIDECAR if is_read(profile) else OF_ENVOY if profile == ENVOY else OF_OWN
+
 
 WRAPPER = dict.fromkeys(('name', 'version', 'resource', 'ttl', 'aliases', 'resource_name', 'cache_control', 'metadata'), NONE)
 MESSAGE = dict.fromkeys(('type_url', 'nonce', 'resources', 'removed_resources', 'removed_resource_names', 'system_version_info', 'control_plane'), NONE)
@@ -107,7 +141,7 @@ def near_misses(kind, message, profile=OWN):
     for place, resource in enumerate(resources if isinstance(resources, list) else []):
         if isinstance(resource, dict):
             yield from misses(resource, WRAPPER, f'resources[{place}]')
-            yield from misses(resource.get('resource'), BODIES[profile][kind], f'resources[{place}].resource')
+            yield from misses(resource.get('resource'), bodies_of(profile)[kind], f'resources[{place}].resource')
 
 
 def misses(holder, table, path):
@@ -117,8 +151,7 @@ def misses(holder, table, path):
     if not isinstance(holder, dict):
         return
     if of(table) == 'config':
-        url = holder.get('@type')
-        table = table.get(url, NONE) if isinstance(url, str) else NONE
+        table = table.of_type(holder.get('@type')) or NONE
     names = tuple(table)
     for name, value in holder.items():
         known = snake(name)

@@ -5,11 +5,11 @@ from . import journal, script
 from .progress import Progress
 from .shown import read_file
 from .statuses import DONE, INPUT, WrongInput
-from .urls import WORDS
+from .urls import BY_NAME, WORDS
 
 
 # Verdicts that a resource of a kind never has.
-NEVER = {'cds': ('kept',), 'lds': ('kept',), 'eds': ('new', 'same'), 'rds': ('new', 'same')}
+NEVER = {'cds': ('kept', 'inPlace', 'back'), 'lds': ('kept',), **dict.fromkeys(BY_NAME, ('new', 'same', 'inPlace', 'back'))}
 
 
 class NotTheJournal(WrongInput):

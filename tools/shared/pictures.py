@@ -4,6 +4,7 @@ import bisect
 from .addresses import socket_of
 from .choices import choose
 from .machine import Machine
+from .whole_sidecar import is_read
 
 
 class Pictured(Machine):
@@ -11,10 +12,11 @@ class Pictured(Machine):
 
     def __init__(self, workers, format, profile):
         super().__init__(workers, format, profile)
+        self.of_sidecar = is_read(profile)
         self.at_address, self.by_name, self.histories = {}, {}, {}
 
-    def make(self, kind, item):
-        super().make(kind, item)
+    def make(self, kind, item, is_in_place=False):
+        super().make(kind, item, is_in_place)
         row = self.rows[self.next - 1]
         self.place_of(row)[row.number] = row
         self.histories[row.number] = ([], [])
@@ -43,11 +45,11 @@ class Pictured(Machine):
         return choose(Picture(self, self.held[worker]), members)
 
     def shown_in(self, rows, version):
-        """The generation of these that the picture of a version shows, with what it shows of it, or None."""
+        """(the generation of these that the picture of a version shows, what it shows of it, what that lacks), or None."""
         for row in rows.values():
             if row.in_picture(version, self.last):
                 versions, values = self.histories[row.number]
-                return row, values[bisect.bisect_right(versions, version) - 1]
+                return (row, *values[bisect.bisect_right(versions, version) - 1])
         return None
 
 
@@ -55,7 +57,7 @@ class Picture:
     """A published picture, as a choice asks for it."""
 
     def __init__(self, machine, version):
-        self.machine, self.version = machine, version
+        self.machine, self.version, self.tells_chains = machine, version, machine.of_sidecar
 
     def listener(self, address, port):
         """The listener of TCP at an address."""
@@ -66,10 +68,10 @@ class Picture:
 
 
 def pictured(row):
-    """What a picture shows of a generation: the hosts that may be chosen, or the routes of each name."""
+    """What a picture shows of a generation: the hosts that may be chosen, or the routes of each name; and what lacks a secret."""
     if row.kind == 'cds':
-        return [host for host in row.assigned if host[3] and (not row.checked or row.results.get(host[0]) is True)]
-    return {name: table for (_, name), table in row.tables.items()}
+        return [host for host in row.assigned if host[3] and (not row.checked or row.results.get(host[0]) is True)], row.lacks()
+    return {name: table for (_, name), table in row.tables.items()}, row.lacks()
 
 
 def follower(reading, format):

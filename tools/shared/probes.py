@@ -1,8 +1,9 @@
 """Connections that try each listener, filter chain, virtual host, domain and route of what a script ends with."""
 import ipaddress
 import itertools
+import types
 
-from .choices import NO, Ask, by_range, chain_for, condition_says, path_says
+from .choices import NO, Ask, by_range, chain_for, condition_says, listener_for, path_says
 from .fields import MAX_NAME, size
 from .routes import ELSEWHERE, PATHS, TEXT_TESTS
 from .script import MAX_LINES, MAX_PATH
@@ -13,6 +14,9 @@ HOST = 'probe.invalid'
 VALUE, OTHER = 'probe', 'other'
 # Addresses of sources: of this machine, and of elsewhere (one of TEST-NET-1, RFC 5737).
 LOOPBACK, OUTSIDE = '127.0.0.1', '192.0.2.1'
+# Where redirected connections are meant to go where no range of addresses is asked for (TEST-NET-2, and RFC 3849). To a listener that hands over
+# the second comes first: of an IPv4 one it depends on the other listeners whether it is handed over, and connections are known by what they ask.
+MEANT = ('198.51.100.1', '2001:db8::1')
 # How many values of one criterion of a filter chain are tried.
 MOST_TRIED = 4
 TAKEN = 'takes none of the connections that were tried'
@@ -66,7 +70,7 @@ class Probes:
         """A probe for each filter chain of a listener and each way on from there."""
         for chain in chains_of(listener):
             words = obstacle(chain['match'], listener)
-            begun = None if words else begun_for(chain, listener)
+            begun = None if words else begun_for(chain, listener, self)
             if begun is None:
                 self.unreached.append((name, f'{chain["label"]} {words or TAKEN}'))
                 continue
@@ -75,6 +79,22 @@ class Probes:
                 yield Probe({'address': begun['address'], 'port': begun['port'], **ask, **begun}, name, chain, names)
             for other in others_than(begun, chain['match'], listener):
                 yield Probe({'address': other['address'], 'port': other['port'], **asks[0][0], **other}, name, chain, asks[0][1])
+
+    def listener(self, address, port):
+        """The listener of TCP at an address, as a choice asks a picture for it."""
+        return next(((types.SimpleNamespace(content=content), content) for content in self.listeners.values()
+                     if content['address'] == (address, port) and not content['udp']), None)
+
+    def takes(self, listener, address, port):
+        """Whether a listener keeps a redirected connection that is meant to go there."""
+        found = listener_for(self, address, port) if listener['hands_over'] else None
+        return found is None or found[1] is listener
+
+    def free_port(self, listener):
+        """A port that no filter chain of a listener asks for, and at which no other listener is."""
+        taken = {port for chain in listener['chains'] for port in chain['match'].ports}
+        taken |= {content['address'][1] for content in self.listeners.values()}
+        return next(port for port in itertools.chain(range(listener['address'][1] + 1, 65536), range(1, 65536)) if port not in taken)
 
     def asks_of(self, serves):
         """(host, path and pick, with headers where a route asks for some; the clusters) for each way of what a filter chain serves."""
@@ -92,10 +112,10 @@ class Probes:
 
 # The filter chain
 
-def begun_for(chain, listener):
+def begun_for(chain, listener, probes):
     """What an accept asks for so that this chain takes it, else so that it is undecided which does; None where neither is found."""
     chains, default, undecided = listener['chains'], listener['default'], None
-    for begun in beginnings(chain['match'], listener, chain is default):
+    for begun in beginnings(chain['match'], listener, chain is default, probes):
         found, why = chain_for(chains, default, asking(begun))
         if found is chain:
             return begun
@@ -111,7 +131,7 @@ def others_than(begun, match, listener):
     """The same with each further server name, protocol and range of a match."""
     yield from ({**begun, 'serverName': name_of(name)} for name in match.names if name_of(name) != begun.get('serverName'))
     yield from ({**begun, 'alpn': [protocol]} for protocol in match.protocols if [protocol] != begun.get('alpn'))
-    for one in match.ranges[1:] if listener['takes_all'] else ():
+    for one in match.ranges[1:] if listener['takes_all'] or listener['restores'] else ():
         yield from ({**begun, 'address': text} for text in ends_of(one, listener['address'][0])[:1])
 
 
@@ -120,17 +140,28 @@ def name_of(name):
     return name.replace('*', VALUE, 1) if name[:1] == '*' else name
 
 
-def beginnings(match, listener, is_default):
+def beginnings(match, listener, is_default, probes):
     """What an accept may ask for, by each criterion of a match in turn."""
-    address, port = listener['address']
-    ranges = match.ranges[:MOST_TRIED] if listener['takes_all'] else ()
-    addresses = list(dict.fromkeys([*(text for one in ranges for text in ends_of(one, address)), address]))
     names = list(map(name_of, match.names[:MOST_TRIED])) or ['', HOST][:1 + is_default]
     transports = [transport == 'tls' for transport in match.transports] or ([True, False] if match.names else [False, True])
     protocols = match.protocols[:MOST_TRIED] or [None]
-    for place, name, over_tls, protocol, source in itertools.product(addresses, names, transports, protocols, sources_for(match, listener)):
+    for end, name, over_tls, protocol, source in itertools.product(ends_for(match, listener, probes), names, transports, protocols,
+                                                                   sources_for(match, listener)):
         more = {'source': source, 'serverName': name, 'tls': over_tls, 'alpn': [protocol] if protocol else []}
-        yield {'address': place, 'port': port} | {member: value for member, value in more.items() if value}
+        yield end | {member: value for member, value in more.items() if value}
+
+
+def ends_for(match, listener, probes):
+    """Where a connection may go so that a chain with this match takes it. One to a listener that restores is redirected there, from where it is
+    meant to go: to a port that the chain asks for, else to one that none does."""
+    address, port = listener['address']
+    if not listener['restores']:
+        ranges = match.ranges[:MOST_TRIED] if listener['takes_all'] else ()
+        return [{'address': place, 'port': port} for place in dict.fromkeys([*(text for one in ranges for text in ends_of(one, address)), address])]
+    places = [text for one in match.ranges[:MOST_TRIED] for text in ends_of(one, '')] or MEANT[::-1 if listener['hands_over'] else 1]
+    found = [(place, number) for number in match.ports or (probes.free_port(listener),) for place in dict.fromkeys(places)]
+    return [{'address': place, 'port': number, 'redirectedTo': {'address': address, 'port': port}} for place, number in found
+            if probes.takes(listener, place, number)]
 
 
 def sources_for(match, listener):
@@ -158,9 +189,9 @@ def obstacle(match, listener):
     address, port = listener['address']
     if listener['udp']:
         return 'is of a listener by UDP, and connections of a script come by TCP'
-    if match.ports and port not in match.ports:
+    if match.ports and port not in match.ports and not listener['restores']:
         return f'asks for port {match.ports[0]}, and connections of a script come at {port}'
-    if match.ranges and not listener['takes_all'] and not by_range([{'match': match}], asking({'address': address, 'port': port})):
+    if match.ranges and not (listener['takes_all'] or listener['restores']) and not by_range([{'match': match}], asking({'address': address, 'port': port})):
         return f'asks for other addresses than {address}, at which connections of a script come'
     if match.transports and not set(match.transports) & {'tls', 'raw_buffer'}:
         return f'asks for transport {quoted(match.transports[0], 40)}, and connections of a script come by TLS or without'

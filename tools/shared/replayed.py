@@ -3,7 +3,7 @@ from . import script
 from .answers import Answering
 from .json_text import compact
 from .operations import ACTORS, BATCH
-from .urls import KINDS
+from .urls import BY_NAME, KINDS
 
 
 class Replay:
@@ -78,7 +78,7 @@ class WholeRequests:
             self.nonces[kind] = request['responseNonce']
             if 'errorDetail' not in request:
                 self.acknowledged[kind] = version
-        names = sorted(name for of, name in self.machine.dependents if of == kind) if kind in ('eds', 'rds') else []
+        names = sorted(name for of, name in self.machine.dependents if of == kind) if kind in BY_NAME else []
         more = {'resourceNames': names, 'responseNonce': self.nonces.get(kind), 'versionInfo': self.acknowledged.get(kind)}
         return {**made, **{name: value for name, value in more.items() if value}}
 

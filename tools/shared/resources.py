@@ -8,18 +8,21 @@ from .fields import DISCOVERY, HEALTH, MAX_NAME, MAX_U32, WRONG, Reader, size
 from .json_text import plain
 from .listeners import read_listener
 from .profiles import ENVOY, OWN, Label
+from .references import read_matched, read_socket
 from .routes import read_routes
 from .shown import quoted, shown
-from .urls import KINDS
+from .urls import kind_of
 
 
 class Item:
     """A resource of a response: its outer name, version, and body as it was read. `alike` is what two clusters or listeners of one name have in
-    common that are the same."""
+    common that are the same. Of a listener `frame` is what two have in common of which one may be in place of the other, and `chains` has what each
+    of its filter chains is compared by, the default one last, where it has one."""
 
     def __init__(self, name, version, profile):
         self.name, self.version, self.profile = name, version, profile
         self.content, self.alike, self.beat, self.ttl, self.broken, self.least = None, None, False, False, [], None
+        self.frame, self.chains = None, {}
 
     def complaints(self, verdict):
         """What breaks the rule of a verdict: (path, words)."""
@@ -49,7 +52,7 @@ def read_message(value, path='message', profile=OWN):
         reader.breaks(6, f'{path}.nonce', 'is missing: a response has a nonce')
     elif nonce == '':
         reader.breaks(6, f'{path}.nonce', 'is empty: a response\'s nonce has at least one byte')
-    kind = KINDS.get(url) if url is not WRONG else None
+    kind = kind_of(url, profile)
     heads, removed = [], []
     if kind:
         found = reader.objects(value, 'resources', path)
@@ -93,7 +96,27 @@ def read_item(kind, url, resource, name, version, path, profile=OWN):
         item.content = None
     elif kind in ('cds', 'lds'):
         item.alike = plain(body) if profile == ENVOY else item.content
+        if kind == 'lds' and reader.of_sidecar:
+            item.frame, item.chains = frame_of(body), chains_of(body)
     return item
+
+
+FRAMED = {'filter_chains', 'filterChains', 'default_filter_chain', 'defaultFilterChain', 'filter_chain_matcher', 'filterChainMatcher'}
+
+
+def frame_of(body):
+    """A listener's body without what changes in place."""
+    return plain({name: value for name, value in body.items() if name not in FRAMED})
+
+
+def chains_of(body):
+    """The filter chains of a listener's body by their places. One of an API has none."""
+    reader = Reader()
+    if reader.any(body, 'api_listener', '') is not None:
+        return {}
+    default = reader.any(body, 'default_filter_chain', '')
+    found = dict(enumerate(map(plain, reader.any(body, 'filter_chains', '') or ())))
+    return {**found, **({} if default is None else {'default': plain(default)})}
 
 
 def type_words(given, url):
@@ -153,9 +176,11 @@ def read_cluster(reader, body, path):
         if isinstance(assignment, dict):
             rows = read_assignment(reader, assignment, f'{path}.loadAssignment')
     checked = checks is not WRONG and len(checks) > 0
+    own, matched = read_socket(reader, body, path), read_matched(reader, body, path)
+    more = {'checked': checked, 'secrets': tuple(own), 'matched': None if matched is None else tuple(matched)}
     if kind == 3:
-        return {'eds': (service if isinstance(service, str) else None) or name, 'limited': limited, 'checked': checked}
-    return {'rows': rows, 'checked': checked, **({'elsewhere': kind} if isinstance(kind, Label) else {})}
+        return {'eds': (service if isinstance(service, str) else None) or name, 'limited': limited, **more}
+    return {'rows': rows, **more, **({'elsewhere': kind} if isinstance(kind, Label) else {})}
 
 
 def read_assignment(reader, body, path):
@@ -185,4 +210,26 @@ def read_assignment(reader, body, path):
     return tuple(rows)
 
 
-READERS = {'cds': read_cluster, 'eds': read_assignment, 'lds': read_listener, 'rds': read_routes}
+SECRETS = ('tls_certificate', 'session_ticket_keys', 'validation_context', 'generic_secret')
+
+
+def read_secret(reader, body, path):
+    """A secret: nothing of it is kept but that it is there."""
+    given = reader.members(body, path, dict.fromkeys(SECRETS, Reader.object))
+    if len(given) != 1:
+        names = 'tlsCertificate, sessionTicketKeys, validationContext and genericSecret'
+        reader.breaks(28, path, f'has {len(given)} of {names}: exactly one is wanted')
+    return ()
+
+
+def read_extension_config(reader, body, path):
+    """An extension: the same."""
+    config = reader.object(body, 'typed_config', path)
+    if config is None:
+        reader.breaks(29, f'{path}.typedConfig', 'is missing')
+    elif isinstance(config, dict) and reader.text(config, '@type', f'{path}.typedConfig') in (None, ''):
+        reader.breaks(29, f'{path}.typedConfig.@type', 'is missing or empty')
+    return ()
+
+
+READERS = {'cds': read_cluster, 'eds': read_assignment, 'lds': read_listener, 'rds': read_routes, 'sds': read_secret, 'ecds': read_extension_config}

@@ -35,7 +35,7 @@ WORDS = {
 WORDS_OF_ENVOY = {
     10: 'a config source isn\'t exactly one of the five kinds, or its timeout is negative',
     12: 'a host has no usable address',
-    14: 'the listener has no usable address, or is on UDP',
+    14: 'the listener has no usable address',
     15: 'a live listener of another name has this address and port',
     16: 'the listener has no filter chain, or a range of addresses in a chain\'s match isn\'t one',
     17: 'a filter chain has several connection managers or TCP proxies, or an API listener has no connection manager',
@@ -44,6 +44,8 @@ WORDS_OF_ENVOY = {
     22: 'a route hasn\'t exactly one action, or its target exactly one cluster specifier; or its status is out of range',
     26: 'two filter chains could take the same connection',
     27: 'a server name of a chain\'s match is empty, or has a * but for a leading *.',
+    28: 'a secret hasn\'t exactly one of tlsCertificate, sessionTicketKeys, validationContext and genericSecret',
+    29: 'an extension has no typedConfig, or that one no @type',
 }
 
 ADVICE = {
@@ -81,9 +83,9 @@ WHOSE = [
 WHOSE_OF_ENVOY = [
     (10, r'negative', UNKNOWN), (10, r'', ENVOY),
     (12, r'portValue is missing', PROFILE), (12, r'makes an address', UNKNOWN), (12, r'', ENVOY),
-    (14, r'UDP|portValue is missing', PROFILE), (14, r'makes an address', UNKNOWN), (14, r'', ENVOY),
+    (14, r'portValue is missing', PROFILE), (14, r'makes an address', UNKNOWN), (14, r'', ENVOY),
     (16, r'', ENVOY), (17, r'', ENVOY), (18, r'', ENVOY), (21, r'', ENVOY), (22, r'', ENVOY),
-    (26, r'', ENVOY), (27, r'empty', UNKNOWN), (27, r'', ENVOY),
+    (26, r'', ENVOY), (27, r'empty', UNKNOWN), (27, r'', ENVOY), (28, r'has 0 of', UNKNOWN), (28, r'', ENVOY), (29, r'', ENVOY),
 ]
 WHOSE_OF_ENVOY += [case for case in WHOSE if case[0] not in {rule for rule, _, _ in WHOSE_OF_ENVOY}]
 

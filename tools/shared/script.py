@@ -11,7 +11,7 @@ from .profiles import ENVOY, OWN
 from .progress import Progress
 from .resources import read_message
 from .shown import quoted, value_shown
-from .urls import KINDS
+from .urls import BY_NAME, kinds_read
 from .whole import Whole
 
 MAX_INPUT = 67108864
@@ -47,6 +47,10 @@ class Reading:
         self.profile = profile
         if profile == ENVOY:
             self.operations = {**self.operations, 'accept': (ACCEPT, {**ASK, **ASK_OF_ENVOY})}
+            typed = {'type': lambda value: type_words(value, kinds_read(profile))}
+            for op in ('fetchTimeout', 'ttlExpired'):
+                wanted, optional = self.operations[op]
+                self.operations[op] = {**wanted, **typed}, optional
 
     def line_at(self, at):
         return self.lines[at - 2] if 2 <= at <= len(self.lines) + 1 else None
@@ -229,10 +233,10 @@ def bool_words(value):
     return [] if isinstance(value, bool) else [f'is {value_shown(value)} and not true or false']
 
 
-def type_words(value):
-    if isinstance(value, str) and value in KINDS.values():
+def type_words(value, kinds=kinds_read(OWN)):
+    if isinstance(value, str) and value in kinds:
         return []
-    return [f'is {value_shown(value)} and not one of "cds", "eds", "lds", "rds"']
+    return [f'is {value_shown(value)} and not one of ' + ', '.join(f'"{kind}"' for kind in kinds)]
 
 
 def object_words(value):
@@ -320,7 +324,7 @@ def read_operation(reading, number, tree):
     for name, words in [*wanted.items(), *optional.items()]:
         if name in tree:
             complaints += [(name, text) for text in words(tree[name])]
-    if op == 'fetchTimeout' and tree.get('type') in ('eds', 'rds') and 'name' not in tree:
+    if op == 'fetchTimeout' and tree.get('type') in BY_NAME and 'name' not in tree:
         complaints.append(('name', f'is missing: a timeout of {tree["type"]} is that of one name'))
     if op == 'fetchTimeout' and tree.get('type') in ('cds', 'lds') and 'name' in tree:
         complaints.append(('name', f'is too much: a timeout of {tree["type"]} is that of the whole type'))

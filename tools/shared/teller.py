@@ -10,10 +10,12 @@ from . import rules
 from .choices import Choice
 from .envoy_waits import EnvoyWaits
 from .guarded import SECRET, told_secrets
+from .journal import MAKES
 from .shown import named, quoted, shown
 from .spelling import spelled
-from .urls import KINDS, WORD, WORDS
-from .words import cluster_words, content_words, counted, few, listener_words, more_asked
+from .urls import BY_NAME, KINDS, WORD, WORDS, kinds_read
+from .whole_sidecar import is_read
+from .words import cluster_words, content_words, counted, few, in_place_words, listener_words, more_asked
 
 MOST_RESOURCES = 200
 MOST_CHANGES = 100
@@ -25,7 +27,8 @@ ACTIVE = {'listeners': 'the wait for the first clusters is over: listeners are a
 LOST = {'noListener': 'no listener', 'noChain': 'no filter chain takes it'}
 OPEN_ENDS = {'undecided': 'undecided', 'elsewhere': 'goes elsewhere'}
 ENDS = {'noRoute': 'no route', 'redirect': 'a redirect', 'noCluster': 'its cluster isn\'t there',
-        'noEndpoint': 'its cluster has no host that may be chosen'}
+        'noEndpoint': 'its cluster has no host that may be chosen', 'noSecret': 'no handshake'}
+NEWS = ('noRoute', 'noCluster', 'noEndpoint', 'noSecret', 'undecided')
 
 
 def choice_of(machine, members, worker, answer):
@@ -96,9 +99,9 @@ class Teller:
     def is_news(self, row, held):
         """Whether the head stands in a short account though nothing that is told below it does."""
         if row.op == 'settle':
-            return bool(row.answer['closed']) or row.answer['version'] != held
+            return bool(row.answer['closed'] or row.answer.get('moved')) or row.answer['version'] != held
         if row.op == 'accept':
-            return not isinstance(row.answer, dict) or row.answer['result'] in ('noRoute', 'noCluster', 'noEndpoint', 'undecided')
+            return not isinstance(row.answer, dict) or row.answer['result'] in NEWS
         return row.answer != 'unchanged' and row.op != 'close' and not (row.op == 'reap' and not row.answer['reaped'])
 
     # What happened
@@ -148,10 +151,12 @@ class Teller:
 
     def worker_title(self, row, answer, members):
         if row.op == 'settle':
-            closed = ', '.join(map(str, answer['closed'][:20]))
+            closed, moved = (few(map(str, answer.get(name, ())), MOST_NAMES) for name in ('closed', 'moved'))
             forced = ' (its 256th accept or close since the last settle)' if row.step else ''
+            gone = ' and whose filter chain doesn\'t stay' if is_read(self.reading.profile) else ''
             return f'settles{forced}: holds picture {answer["version"]}' + (
-                f'; closes connections {closed}, whose listener\'s drain timeout came' if closed else '')
+                f'; connections {moved} go on, since their filter chains stay' if moved else '') + (
+                f'; closes connections {closed}, whose listener\'s drain timeout came{gone}' if closed else '')
         if row.op == 'close':
             return f'connection {members["conn"]} ' + ('closes' if answer == 'done' else 'isn\'t open')
         where = f'{named(members["address"])}:{members["port"]}'
@@ -173,7 +178,8 @@ class Teller:
                     f'generation {answer["cluster"]}, {listener}')
         if answer['result'] == 'local':
             return f'{asked}: answered with status {answer["status"]}, {listener}'
-        return f'{asked}: {ENDS[answer["result"]]}, {listener}{why}'
+        cluster = f' with cluster generation {answer["cluster"]}' if 'cluster' in answer else ''
+        return f'{asked}: {ENDS[answer["result"]]}{cluster}, {listener}{why}'
 
     def resources(self, line, verdicts, first, before):
         response, (live, watched) = line.response, before
@@ -190,10 +196,10 @@ class Teller:
                 refused += 1
                 self.refused(text, line, index, verdict, refused <= MOST_RESOURCES)
             elif index - refused < MOST_RESOURCES:
-                self.page.line(text + self.taken(response.kind, item, verdict, number, live), 'good' if verdict == 'new' else None)
+                self.page.line(text + self.taken(response.kind, item, verdict, number, live), 'good' if verdict in MAKES else None)
             else:
                 left += 1
-            number += verdict == 'new'
+            number += verdict in MAKES
         self.more(left, 'resources more')
         self.more(refused - MOST_RESOURCES, 'resources more that were refused', news=True)
 
@@ -205,6 +211,12 @@ class Teller:
         if verdict == 'new':
             words = (cluster_words if kind == 'cds' else listener_words)(item.content) if item.content else ''
             return f'new: {WORD[kind]} generation {number}' + (f': {words}' if words else '')
+        if verdict == 'inPlace':
+            row = self.machine.rows.get(number)
+            return f'in place: listener generation {number}' + (f', {in_place_words(row)}' if row and row.base else '')
+        if verdict == 'back':
+            row = self.machine.newest(kind, item.name)
+            return f'back: as generation {row.number if row else "before"}, which serves; the update that warmed is dropped, the version is kept'
         if verdict == 'same':
             row = live.get(item.name) or self.machine.newest(kind, item.name)
             return 'same: ' + (f'as generation {row.number}' if row else 'as before') + ', only the version is kept'
@@ -227,8 +239,9 @@ class Teller:
             self.page.line(f'    {rules.ADVICE[rule]}')
 
     def removal(self, kind, name, live, watched):
-        if kind in ('eds', 'rds'):
-            return ('removed: who waits for it waits no longer; hosts or routes that it had stay' if name in watched
+        if kind in BY_NAME:
+            words = {'sds': 'nobody is told, and its value stays', 'ecds': 'who waits for it waits no longer; its value stays'}
+            return (f'removed: {words.get(kind, "who waits for it waits no longer; hosts or routes that it had stay")}' if name in watched
                     else 'removed: ignored, nothing depends on it')
         return 'removed' if live.get(name) else 'removed: ignored, it isn\'t there'
 
@@ -261,7 +274,7 @@ class Teller:
                 if 'errorDetail' in request:
                     self.page.line(f'sends an error for nonce {quoted(request["responseNonce"])}: {quoted(request["errorDetail"]["message"], 200)}{held}')
                 continue
-            names = self.names(request['resourceNames']) if 'resourceNames' in request else 'none' if kind in ('eds', 'rds') else None
+            names = self.names(request['resourceNames']) if 'resourceNames' in request else 'none' if kind in BY_NAME else None
             node = f', as node {quoted(request["node"]["id"])}' if 'node' in request else ''
             self.page.line((f'asks for {WORDS[kind]} {names}' if names else f'asks for all {WORDS[kind]}') + node + held)
 
@@ -299,7 +312,9 @@ class Teller:
                 words = f'serves {lacks}' if lacks else 'serves from the next picture on'
                 self.page.line(f'{row.words()} {words}', 'bad' if lacks else 'good', news=True)
             else:
-                self.page.line(f'{row.words()} {words}', news=True)
+                after = self.machine.newest(row.kind, row.name) if row.status == 'draining' else None
+                stays = f'; what stays of it goes on in generation {after.number}' if after and after.base == row.number else ''
+                self.page.line(f'{row.words()} {words}{stays}', news=True)
         self.more(len(rows) - MOST_CHANGES, 'generations more that serve, drain or are dropped', news=True)
 
     def waiting(self):
@@ -332,7 +347,7 @@ class Teller:
         if row.op == 'connect' or not self.machine.open:
             return
         added, gone = self.machine.watch_changes()
-        for kind in ('eds', 'rds'):
+        for kind in (kind for kind in kinds_read(self.reading.profile) if kind in BY_NAME):
             found = [request for request in row.answer.get('requests', [])
                      if KINDS[request['typeUrl']] == kind and 'responseNonce' not in request]
             wanted, unwanted = (sorted(name for of, name in names if of == kind) for names in (added, gone))

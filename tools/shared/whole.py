@@ -2,7 +2,7 @@
 from .fields import WRONG, Reader
 from .profiles import OWN
 from .resources import read_message
-from .urls import KINDS
+from .urls import kind_of
 
 
 class Whole:
@@ -23,8 +23,8 @@ class Whole:
         if not isinstance(value, dict):
             return None, [(path, 'isn\'t an object')]
         reader = Reader()
-        url, kind = reader.text(value, 'type_url', path), None
-        kind = KINDS.get(url) if url is not WRONG else None
+        url = reader.text(value, 'type_url', path)
+        kind = kind_of(url, profile)
         version = reader.text(value, 'version_info', path) if kind else None
         bodies = reader.elements(value, 'resources', path, 'anything', object) if kind else []
         nonce = reader.text(value, 'nonce', path)

@@ -4,6 +4,7 @@ import ipaddress
 from .chain_matches import SAME_MACHINE
 from .routes import ELSEWHERE
 from .shown import named, quoted
+from .whole_sidecar import is_read
 
 MOST = 8
 
@@ -65,7 +66,7 @@ def listener_words(content):
 
 def chains_of(content):
     """The filter chains of a listener, the default chain last."""
-    return [*content['chains'], *([content['default']] if content['default'] else [])]
+    return [*content.get('chains', ()), *([content['default']] if content.get('default') else [])]
 
 
 def serves_words(serves):
@@ -97,6 +98,12 @@ def match_words(match):
     return ', '.join(parts + ([f'source ports {few(map(str, match.source_ports))}'] if match.source_ports else []))
 
 
+def chain_words(chain):
+    """A filter chain by its place, its name, and what it asks for."""
+    asked = match_words(chain['match'])
+    return str(chain['label']) + (f' ({asked})' if asked else '')
+
+
 def range_words(one):
     """(the first address, the length) of a range."""
     family, length, bits = one
@@ -104,10 +111,15 @@ def range_words(one):
     return kind(bits << (kind(0).max_prefixlen - length)), length
 
 
+def redirected_words(members):
+    """Where the connection of an accept was redirected to, and who makes it, in words, as far as they are told."""
+    return [f'{words} {named(members[name]["address"], 60)}:{members[name]["port"]}' for name, words in
+            (('redirectedTo', 'redirected to'), ('source', 'from')) if members.get(name)]
+
+
 def more_asked(members):
     """What an accept asks for beside host and path, in words."""
-    parts = [f'{words} {named(members[name]["address"], 60)}:{members[name]["port"]}' for name, words in
-             (('redirectedTo', 'redirected to'), ('source', 'from')) if members.get(name)]
+    parts = redirected_words(members)
     parts += [f'server name {quoted(members["serverName"], 60)}'] if members.get('serverName') else []
     parts += ['over TLS'] if members.get('tls') else []
     parts += [f'alpn {few(quoted(protocol, 40) for protocol in members["alpn"])}'] if members.get('alpn') else []
@@ -129,8 +141,23 @@ def cluster_words(content):
     return asked + (', health checked' if content.get('checked') else '')
 
 
+def lacked(profile):
+    """What generations of scripts of a profile may lack while they serve, in words."""
+    return 'hosts, routes, secrets or extensions' if is_read(profile) else 'hosts or routes'
+
+
+def in_place_words(row):
+    """What stays of a listener that is in place of another generation, what is new and what is gone, in words."""
+    kept, own = row.chains_by_origin()
+    parts = [f'{counted(len(kept), "filter chain")} {"stays" if len(kept) == 1 else "stay"}'] if kept else ['no filter chain stays']
+    parts += [f'new: {few(own, 3)}'] if own else []
+    return f'in place of generation {row.base}: ' + '; '.join(parts + ([f'gone: {few(row.left, 3)}'] if row.left else []))
+
+
 def content_words(kind, content):
     """What a resource brings."""
+    if kind in ('sds', 'ecds'):
+        return {'sds': 'a secret', 'ecds': 'an extension'}[kind]
     if kind == 'eds':
         return hosts_words(content or ())
     if kind == 'rds':

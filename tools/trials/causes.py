@@ -176,9 +176,12 @@ def facts_of(before, after):
 def untried(check, before, folder):
     """Filter chains to which no connection came are told, and don't count."""
     status, out, _ = called(tool('diff'), *before, *before)
+    check(status == 0 and 'untried' not in out, f'diff of a sidecar with itself: {status} {out}')
+    gateway = side(folder, 'gateway', json.loads(content(f'{CAPTURES}/istio_gateway.json')))
+    status, out, _ = called(tool('diff'), *gateway, *gateway)
     told = [line for line in out.splitlines() if line.startswith('untried')]
-    check(status == 0 and len(told) == 1 and "7 filter chains to which no connection came: filter chain 2 'virtualInbound-catchall-http' of 'virtualInbound'" in told[0],
-          f'diff of a sidecar with itself: {status} {out}')
+    check(status == 0 and len(told) == 1 and "1 filter chain to which no connection came: filter chain 1 of 'udp_0.0.0.0_8443'" in told[0],
+          f'diff of a gateway with itself: {status} {out}')
     found = facts_of(before, (f'{folder}/chains_gone.script', f'{folder}/chains_gone.journal'))
     moved = [one['words'] for one in found if one['class'] == 'CHANGED' and 'what it took is taken by' in one['words']]
     check(len(moved) == 2 and moved[0].startswith("filter chain '0.0.0.0_9080': filter_chains[4] is gone; what it took is taken by filter chain 3"), f'diff tells not who takes what a chain took: {moved}')

@@ -92,7 +92,7 @@ CHANGES = [
     (another_host, (3, 'UNJUDGED', 'cds', PARTNER, 'api.other.example'), (3, None, 'cds', PARTNER, 'api.other.example'),
      (3, 'CHANGED', 'cds', PARTNER, 'hosts new: api.other.example:443')),
     (without_listener, (3, 'CHANGED', 'lds', 'virtualInbound', 'is gone; it was refused by V16 (profile)'), (1, 'CHANGED', 'lds', 'virtualInbound', 'is gone'),
-     (3, 'CHANGED', 'lds', 'virtualInbound', 'is gone')),
+     (1, 'REGRESSION', 'lds', 'virtualInbound', 'is gone')),
 ]
 
 

@@ -13,6 +13,7 @@ from shared.profiles import ENVOY
 from shared.replayed import replayed_whole
 from shared.resources import read_item
 from shared.urls import URLS
+from shared.whole_sidecar import is_read
 from trials import TOP, content, ran
 
 CHANGES = 150
@@ -82,7 +83,7 @@ class Tls(Expansion):
         super().__init__(data, 'tls')
 
     def kept(self, resource, item, body):
-        names = references(body) if item.content is not None and self.finds_hosts(body) else []
+        names = references(body) if item.content is not None and self.finds_hosts(body) and not is_read(self.profile) else []
         return (item.content, names) if names else None
 
     def finds_hosts(self, body):
@@ -107,7 +108,7 @@ class Tls(Expansion):
         response, given = line.response, set()
         if not response or not self.is_open:
             return given
-        self.told |= told_secrets(line)
+        self.told |= set() if is_read(self.profile) else told_secrets(line)
         if response.kind == 'eds':
             names = [item.name for item in response.items]
             for resource, item in zip(member(line.members['message'], 'resources') or [], response.items):
@@ -131,7 +132,7 @@ class Dns(Expansion):
         if self.profile == ENVOY and not self.has_sockets_alone(body):
             return None
         static = read_item('cds', URLS['cds'], {**resource, 'resource': {**body, 'type': 'STATIC'}}, item.name, item.version, '', self.profile)
-        return (static.content,) if static.content is not None else None
+        return ({name: value for name, value in static.content.items() if name not in ('secrets', 'matched')},) if static.content is not None else None
 
     def has_sockets_alone(self, body):
         """Whether a cluster that is good has no type of its own, and no host at another address than a socket's."""

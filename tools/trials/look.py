@@ -209,8 +209,9 @@ def of_responses(check, folder, looked):
         status, out, errors = looked(f'{CAPTURES}/{name}')
         check(status == 0 and b'(profile)' not in out, f'look at {name}: {status} {out} {errors}')
         check(b'Stands in, and for what: ' in out, f'look at {name} says nothing of stand-ins')
-        unreached = "    listener 'virtualInbound': filter chain 4 '0.0.0.0_9080' asks for port 9080, and connections of a script come at 15006"
-        check(any(line.startswith(unreached) for line in out.decode().splitlines()) == (name == 'istio_sidecar.json'), f'look at {name} says otherwise of filter chains: {out}')
+        check(b'Filter chains that no connection tried' not in out, f'look at {name} has filter chains that are untried: {out}')
+        redirected = [line for line in content(f'{folder}/out/script.jsonl').splitlines() if b'"redirectedTo"' in line]
+        check(bool(redirected) == (name == 'istio_sidecar.json'), f'look at {name} tries redirected connections: {redirected}')
 
 
 def opened(check, folder, looked):

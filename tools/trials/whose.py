@@ -30,12 +30,15 @@ CASES_OF_ENVOY = [
     (10, 'cds', [('edsConfig', 'has 2 of ads, self, path, pathConfigSource and apiConfigSource: exactly one is wanted')], rules.ENVOY),
     (10, 'cds', [('edsConfig.initialFetchTimeout', 'is negative')], rules.UNKNOWN),
     (12, 'eds', [('address.socketAddress.portValue', 'is missing')], rules.PROFILE),
-    (14, 'lds', [('address.socketAddress.protocol', 'is UDP')], rules.PROFILE),
+    (14, 'lds', [('address.socketAddress.portValue', 'is missing')], rules.PROFILE),
     (14, 'lds', [('address', 'is missing')], rules.ENVOY),
     (16, 'lds', [('filterChains', 'has 0 chains, and there is no defaultFilterChain')], rules.ENVOY),
     (21, 'rds', [('match.headers[0]', 'has 2 tests: one is the most')], rules.ENVOY),
     (26, 'lds', [('filterChains[1].filterChainMatch', 'fits what that of filterChains[0] fits as well')], rules.ENVOY),
     (27, 'lds', [('filterChainMatch.serverNames', 'has an empty name')], rules.UNKNOWN),
+    (28, 'sds', [('resource', 'has 0 of tlsCertificate, sessionTicketKeys, validationContext and genericSecret: exactly one is wanted')], rules.UNKNOWN),
+    (28, 'sds', [('resource', 'has 2 of tlsCertificate, sessionTicketKeys, validationContext and genericSecret: exactly one is wanted')], rules.ENVOY),
+    (29, 'ecds', [('resource.typedConfig', 'is missing')], rules.ENVOY),
 ]
 
 

@@ -6,7 +6,7 @@ from .. import rules
 from ..shown import shown
 from ..teller import LOST, OPEN_ENDS
 from ..urls import WORD
-from ..words import counted
+from ..words import counted, lacked
 from .view import number_of
 
 SIGNS = {rules.ENVOY: '◆', rules.PROFILE: '◇', rules.UNKNOWN: '?'}
@@ -67,7 +67,7 @@ def never_served(view):
     if not count and not empty and not passed:
         return Card('Never came to serve', 0, 'Every generation came to serve.', items, bool(view.left))
     summary = (f'Still wait: {len(waits)}; dropped, since an update or a removal came first: {len(dropped)}; '
-               f'serve without hosts or routes: {len(empty)}, for a while: {len(passed)}.')
+               f'serve without {lacked(view.history.reading.profile)}: {len(empty)}, for a while: {len(passed)}.')
     return Card('Never came to serve', count, summary, items, bool(waits or empty))
 
 
@@ -136,6 +136,9 @@ def draining(view):
     items += [f'nothing keeps {free} of them: the next reap destroys them'] if free else []
     gone = sorted((life for life in lives if life.end), key=lambda life: (life.drained - life.stop, life.number))
     items += [drained_words(view, life) for life in gone[:20]]
+    moved = [connection for connection in view.connections() if connection.moves]
+    summary += f' {counted(len(moved), "connection")} went on, since filter chains stay.' if moved else ''
+    items += [f'{link(life)}: {text(life.in_place, 300)}' for life in view.all_lives() if life.in_place]
     return Card('Draining', len(now), summary, items, False)
 
 

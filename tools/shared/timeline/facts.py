@@ -1,5 +1,6 @@
 """The facts of a history as one object: what tools/timeline --json prints. Places are lines of the script, a quarter more for each step after
 one; docs/TIMELINE.md lists the members. Not proved."""
+from ..facts import in_place
 from ..teller import LOST
 
 
@@ -33,13 +34,14 @@ def told(view):
 def generation(history, life):
     found = {'generation': life.number, 'type': life.kind, 'name': life.name, 'version': life.version, 'from': life.born, 'to': life.stop, 'end': life.end,
              'spans': [{'state': state, 'from': start, 'to': stop, 'words': words} for state, start, stop, words in life.spans],
-             'keptBy': [{'words': words, 'to': until} for words, until in history.keepers(life)]}
+             'keptBy': [{'words': words, 'to': until} for words, until in history.keepers(life)], **in_place(life.row)}
     return {name: value for name, value in found.items() if value not in (None, [])}
 
 
 def connection(found):
     members = {'worker': found.worker, 'connection': found.conn, 'from': found.x, 'to': found.closed, 'counted': found.counted, 'result': found.result,
-               'listener': found.listener, 'cluster': found.cluster, 'target': found.target, 'chain': found.chain or None, 'why': found.why or None}
+               'listener': found.listener, 'cluster': found.cluster, 'target': found.target, 'chain': found.chain or None, 'why': found.why or None,
+               'moved': [{'at': x, 'listener': number} for x, number in found.moves] or None}
     return {name: value for name, value in members.items() if value is not None}
 
 

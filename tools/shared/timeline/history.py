@@ -9,9 +9,10 @@ from .. import rules
 from ..pictures import follower
 from ..shown import named, quoted
 from ..teller import ENDS, LOST, OPEN_ENDS, Teller, choice_of, refusal_words
-from ..urls import WORD, WORDS
-from ..words import listener_targets
+from ..urls import BY_NAME, WORD, WORDS
+from ..words import in_place_words, listener_targets
 
+NOT_SERVED = ('noRoute', 'noCluster', 'noEndpoint', 'noSecret')
 SIGNALS = ('health', 'drainTimeout', 'fetchTimeout', 'ttlExpired')
 
 
@@ -22,6 +23,7 @@ class Life:
         self.row, self.number, self.kind, self.name, self.version = row, row.number, row.kind, row.name, row.version
         self.born, self.spans, self.end, self.stop = x, [], None, None
         self.drained, self.expired, self.connections, self.bases, self.kept = None, None, [], set(), None
+        self.in_place = in_place_words(row) if row.base is not None else ''
 
     def go(self, state, x, words=''):
         """Enters a state, or the same state with other words."""
@@ -53,9 +55,15 @@ class Connection:
         self.chain, self.why = choice.chain, choice.why
         self.listener, self.cluster, self.target = answer['listener'], answer.get('cluster'), target
         self.closed, self.counted, self.forced = None, None, False
+        self.moves, self.left = [], {}  # (when, the listener) of each move, and when it left a listener
 
     def not_served(self):
-        return self.result in ('noRoute', 'noCluster', 'noEndpoint')
+        return self.result in NOT_SERVED
+
+    def goes_on(self, x, number):
+        """It goes on on another listener."""
+        self.left[self.listener], self.listener = x, number
+        self.moves.append((x, number))
 
     def words(self):
         return f'w{self.worker}\'s connection {self.conn}'
@@ -193,7 +201,7 @@ class History:
         response, kind = line.response, line.response.kind
         for name in response.removed:
             words = f'line {at}: {WORD[kind]} {quoted(name)} removed'
-            if kind in ('eds', 'rds'):
+            if kind in BY_NAME:
                 self.mark_dependents((kind, name), x, 'removed', words)
             elif (kind, name) in self.bands:
                 self.band(kind, name).marks.append((x, 'removed', words))
@@ -201,7 +209,9 @@ class History:
             if verdict[0] == 'V':
                 self.refuse(x, at, line, index, verdict)
             elif verdict == 'kept':
-                self.mark_dependents((kind, item.name), x, 'arrival', f'line {at}: {WORDS[kind]} {quoted(item.name)} came')
+                self.mark_dependents((kind, item.name), x, 'arrival', f'line {at}: {WORD[kind]} {quoted(item.name)} came')
+            elif verdict == 'back':
+                self.band(kind, item.name).marks.append((x, 'arrival', f'line {at}: {WORD[kind]} {quoted(item.name)} is back as it serves'))
         self.responses.append((x, any(verdict[0] == 'V' for verdict in verdicts)))
 
     def refuse(self, x, at, line, index, verdict):
@@ -252,11 +262,21 @@ class History:
         elif row.op == 'settle':
             for found in self.closing.pop(worker, []):
                 found.counted = x
+            for conn in row.answer.get('moved', ()):
+                if (worker, conn) in self.open:
+                    self.move(x, self.open[worker, conn], self.machine.taken.get((worker, conn)))
             for conn in row.answer['closed']:
                 if (worker, conn) in self.open:
                     found = self.open.pop((worker, conn))
                     found.closed, found.counted, found.forced = x, x, True
             self.settles[worker].append((x, row.answer['version']))
+
+    def move(self, x, found, taken):
+        """A connection goes on on the listener that the machine has it on now."""
+        if taken and taken[0] != found.listener:
+            found.goes_on(x, taken[0])
+            if taken[0] in self.lives:
+                self.lives[taken[0]].connections.append(found)
 
     def accept(self, x, row, members, worker):
         answer, choice = row.answer, choice_of(self.machine, members, worker, row.answer)
@@ -297,7 +317,7 @@ class History:
             found += [(f'w{worker} holds a picture that shows it', until) for worker, until in self.holders(row)]
         if self.machine.waits_for_timeout(row) or life.expired is not None:
             found.append(('its drain timeout', life.expired))
-        found += [(connection.words(), connection.counted) for connection in life.connections]
+        found += [(connection.words(), connection.left.get(life.number, connection.counted)) for connection in life.connections]
         found = [(words, until) for words, until in found if until is None or until > life.drained]
         return sorted(found, key=lambda keeper: (keeper[1] is None, keeper[1] or 0, keeper[0]))
 

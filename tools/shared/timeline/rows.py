@@ -241,6 +241,7 @@ class BandDrawer:
             spans[4:-4] = [f'{len(spans) - 8} changes more']
         stop = number_of(life.stop or 0)
         end = {'dropped': f'; dropped at line {stop}, it never served', 'reaped': f'; reaped at line {stop}', None: ''}[life.end]
+        end += f'; {life.in_place}' if life.in_place else ''
         return f'{life.title()}, version {named(life.version, 40)}: {"; ".join(spans)}{end}{self.envoy_words(life)}{self.kept_by(life)}'
 
     def envoy_words(self, life):
@@ -326,6 +327,7 @@ class BandDrawer:
     def connection_title(self, connection):
         words = f'line {number_of(connection.x)}: {self.connection_words(connection)}, listener g{connection.listener}'
         words += f', {connection.chain}' * bool(connection.chain) + f', since {connection.why}' * bool(connection.why)
+        words += ''.join(f'; goes on on listener g{number} from line {number_of(x)}, its filter chain stays' for x, number in connection.moves)
         if connection.closed is not None:
             words += f'; closes at line {number_of(connection.closed)}'
         if connection.forced:

@@ -9,6 +9,8 @@ ROUTES = 'envoy.config.route.v3.RouteConfiguration'
 MANAGER = 'envoy.extensions.filters.network.http_connection_manager.v3.HttpConnectionManager'
 ROUTER = 'envoy.extensions.filters.http.router.v3.Router'
 STATIC, LOGICAL_DNS, EDS = 0, 2, 3
+TLS = 'envoy.extensions.transport_sockets.tls.v3.'
+SECRET = TLS + 'Secret'
 
 
 def made(full, members):
@@ -39,6 +41,26 @@ def assignment(name, *ports):
 
 def cluster(name, service=''):
     return made(CLUSTER, {'name': name, 'type': EDS, 'eds_cluster_config': {'eds_config': {'ads': {}}, 'service_name': service}})
+
+
+def with_secret(name, asked):
+    """A static cluster that asks for a secret."""
+    context = {'common_tls_context': {'tls_certificate_sds_secret_configs': [{'name': asked, 'sds_config': {'ads': {}}}]}}
+    return made(CLUSTER, {'name': name, 'type': STATIC, 'transport_socket': {'name': 'tls', 'typed_config': packed(TLS + 'UpstreamTlsContext', context)}})
+
+
+def with_extension(name, asked):
+    """A listener that asks for an extension."""
+    one = {'name': asked, 'config_discovery': {'config_source': {'ads': {}}, 'type_urls': ['t']}}
+    config = packed(MANAGER, {'route_config': {}, 'http_filters': [one]})
+    return made(LISTENER, {'name': name, 'address': socket(80), 'filter_chains': [{'filters': [{'name': 'http', 'typed_config': config}]}]})
+
+
+def secret(name, inside):
+    """A secret; what stands in its certificate isn't known to the table."""
+    full, message = made(SECRET, {'name': name, 'tls_certificate': {}})
+    message.tls_certificate.MergeFromString(b'\x12' + bytes([len(inside)]) + inside)
+    return full, message
 
 
 def cluster_without_source(name):

@@ -1,4 +1,5 @@
 """Decoding, splitting and comparing, on messages made here."""
+import base64
 import contextlib
 import io
 import os
@@ -15,6 +16,8 @@ from recording.replies import Replies
 from shared import script
 from shared.statuses import WrongInput
 from shared.urls import TYPE, URLS
+
+from trials import content, of_sidecar
 
 from . import bodies
 from .processes import lines_of
@@ -37,6 +40,17 @@ PRINTED = [
     ('envoy.config.core.v3.SocketAddress', {'port_value': 0}, b'', {'portValue': 0}),
     ('envoy.config.core.v3.SocketAddress', {'protocol': 1}, b'', {'protocol': 'UDP'}),
     ('envoy.config.core.v3.ConfigSource', {'path': ''}, b'', {'path': ''}),
+    ('envoy.config.route.v3.HeaderMatcher', {'name': 'a', 'range_match': {'start': -1, 'end': 5}, 'invert_match': True}, b'',
+     {'name': 'a', 'rangeMatch': {'start': '-1', 'end': '5'}, 'invertMatch': True}),
+    ('envoy.config.route.v3.HeaderMatcher', {'name': 'a', 'present_match': False}, b'', {'name': 'a', 'presentMatch': False}),
+    ('envoy.config.route.v3.QueryParameterMatcher', {'name': 'q', 'string_match': {'prefix': 'x', 'ignore_case': True}}, b'',
+     {'name': 'q', 'stringMatch': {'prefix': 'x', 'ignoreCase': True}}),
+    ('envoy.config.listener.v3.FilterChainMatch', {'prefix_ranges': [{'address_prefix': '10.0.0.0', 'prefix_len': {'value': 8}}], 'source_type': 2,
+                                                   'source_ports': [80]}, b'',
+     {'prefixRanges': [{'addressPrefix': '10.0.0.0', 'prefixLen': 8}], 'sourceType': 'EXTERNAL', 'sourcePorts': [80]}),
+    ('envoy.config.core.v3.Address', {'envoy_internal_address': {'server_listener_name': 'l'}}, b'', {'envoyInternalAddress': {'serverListenerName': 'l'}}),
+    ('envoy.config.listener.v3.Listener', {'use_original_dst': {'value': True}, 'internal_listener': {}}, b'', {'useOriginalDst': True, 'internalListener': {}}),
+    (bodies.SECRET, {'name': 's', 'tls_certificate': {}}, b'', {'name': 's', 'tlsCertificate': {}}),
     ('envoy.config.core.v3.ConfigSource', {'ads': {}, 'initial_fetch_timeout': {}}, b'', {'ads': {}, 'initialFetchTimeout': '0s'}),
     ('envoy.config.route.v3.RouteMatch', {'prefix': '', 'case_sensitive': {}}, b'', {'prefix': '', 'caseSensitive': False}),
     ('envoy.config.route.v3.RouteMatch', {'safe_regex': {'regex': 'x'}}, b'', {'safeRegex': {'regex': 'x'}}),
@@ -72,6 +86,7 @@ def run(check):
         split(check, folder)
         costs(check, folder)
         wrapped(check, folder)
+        of_secrets(check, folder)
     comparisons(check)
 
 
@@ -158,6 +173,35 @@ def wrapped(check, folder):
     check([(item['name'], item['version'], item['resource']['name']) for item in first['resources']] == [('a', '1', 'a'), ('b', '1', 'b')], f'{first}')
     check(second.get('removedResources') == ['b'] and 'removedResources' not in first, f'{second}')
     check('taken out of' in str(recording.notes.counted), f'{recording.notes.counted}')
+
+
+def of_secrets(check, folder):
+    """Where the program reads secrets and extensions they are asked for, and recorded with their insides or without; else they aren't asked for."""
+    whole = {STATE_OF_THE_WORLD: DISCOVERY + 'DiscoveryResponse', DELTA: DISCOVERY + 'DeltaDiscoveryResponse'}
+    for protocol, is_on, hides in ((DELTA, True, False), (DELTA, True, True), (STATE_OF_THE_WORLD, True, True), (DELTA, False, False)):
+        with of_sidecar(is_on):
+            name = f'secrets-{protocol.split()[0]}-{is_on}-{hides}'
+            replies = Replies(protocol)
+            recording = Recording(folder, name, protocol, replies, hides=hides)
+            recording.connect('n')
+            asked = replies.requests()
+            for kind, body in (('cds', bodies.with_secret('a', 's')), ('lds', bodies.with_extension('l', 'x')), ('sds', bodies.secret('s', b'INSIDE'))):
+                more = {'version_info': '1', 'resources': [bodies.any_of(*body)]} if protocol == STATE_OF_THE_WORLD else {
+                    'resources': [{'name': body[1].name, 'version': '1', 'resource': bodies.any_of(*body)}]}
+                recording.response(CLASSES[whole[protocol]](type_url=URLS[kind], nonce=kind, **more).SerializeToString())
+                asked += replies.requests()
+            recording.close()
+        names = {request['typeUrl']: names for request in asked
+                 for names in [request.get('resourceNamesSubscribe') or request.get('resourceNames')] if names}
+        wanted = {URLS['sds']: ['s'], URLS['ecds']: ['x']} if is_on else {}
+        check(names == wanted, f'{name}: what is asked for is {asked}')
+        files = [file for file in os.listdir(folder) if file.startswith(f'{name}.')]
+        written = b''.join(content(f'{folder}/{file}') for file in files)
+        inside = base64.b64encode(b'INSIDE')
+        check((inside in written) != hides and b'"tlsCertificate"' in written, f'{name}: a secret is recorded as {written}')
+        check(all(os.stat(f'{folder}/{file}').st_mode & 0o777 == 0o600 for file in files), f'{name}: others may read {files}')
+        reading = script.read_script(content(recording.script.path))
+        check(not reading.faults, f'{name}: {reading.faults and reading.faults[0].complaints}')
 
 
 # (what the program says, what the client sent, the sum): messages as (type, answer, nonce, version, names)
