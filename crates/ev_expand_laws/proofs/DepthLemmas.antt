@@ -17,7 +17,7 @@ use Rattle.ev_tree.specs.declared.outcome.Found.TheVariants.{Absent, Wrong, Give
 use Rattle.ev_tree.specs.Spelling.{camel_of}
 use Rattle.ev_tree.specs.Scalars.{list_in, elements_of}
 use Rattle.ev_tree.specs.Forms.{is_object, inside, listed, present_member, value_or_absent, either_spelling, field_of, in_form, value_or_wrong, object_in, objects_in, object_of, objects_of}
-use Rattle.ev_wire.specs.Requests.{type_url}
+use Rattle.ev_types.specs.Kinds.{type_url}
 use Rattle.ev_wire.specs.Responses.{entries_of}
 use Rattle.ev_expand.specs.Editing.{members_without, without, with_value}
 use Rattle.ev_expand.specs.Fronts.{event_of, message_of}

@@ -12,8 +12,9 @@ use Rattle.ev_tree.specs.Spelling.{camel_of}
 use Rattle.ev_tree.specs.Scalars.{list_in}
 use Rattle.ev_tree.specs.Forms.{is_object, is_text, is_wrong, given_or, listed, text_in, field_of, in_form, value_or_wrong, objects_in, texts_in, text_of, objects_of, texts_of}
 use Rattle.ev_tree.proofs.Elements.{elements_of-items_of}
-use Rattle.ev_wire.specs.Requests.{type_url}
-use Rattle.ev_wire.specs.Responses.{entry_name, is_entry, item_of, kind_with, response_kind, nonce_of, entries_of, removed_of, has_head, has_lists, has_lists_of, parts_of, given_if, response_of}
+use Rattle.ev_types.specs.Kinds.{type_url}
+use Rattle.ev_wire.specs.Kinds.{kind_with}
+use Rattle.ev_wire.specs.Responses.{entry_name, is_entry, item_of, response_kind, nonce_of, entries_of, removed_of, has_head, has_lists, has_lists_of, parts_of, given_if, response_of}
 use Rattle.ev_expand.specs.Guarding.{private_name}
 use Rattle.ev_expand.specs.Following.{DueParts, endpoints_entry, entry_due, name_without, name_due, with_list}
 use Rattle.ev_expand_laws.specs.Waiting.{name_with, bare_name, name_left, following_response}

@@ -23,7 +23,7 @@ use Rattle.ev_tree.specs.Spans.{is_not_positive}
 use Rattle.ev_tree.specs.Broken.{none_broken, least_of}
 use Rattle.ev_cluster_json.specs.Clusters.{cluster_reading, has_custom_type}
 use Rattle.ev_cluster_json.proofs.RowsMade.{not_false}
-use Rattle.ev_wire.specs.Requests.{type_url}
+use Rattle.ev_types.specs.Kinds.{type_url}
 use Rattle.ev_wire.specs.Bodies.{is_heartbeat, is_positive, is_of_type, breaks_v1, breaks_v2, differs, breaks_v3, own_broken, content_with, content_of, body_with, resource_of, body_of}
 use Rattle.ev_wire.specs.Responses.{entry_name, ttl_of, item_of}
 use Rattle.ev_expand.specs.Editing.{with_value}

@@ -17,7 +17,8 @@ use Rattle.ev_tree.specs.Spelling.{camel_of}
 use Rattle.ev_tree.specs.Scalars.{list_in}
 use Rattle.ev_tree.specs.Forms.{is_object, is_wrong, given_or, listed, text_in, field_of, in_form, value_or_wrong, objects_in, text_of, objects_of, texts_of}
 use Rattle.ev_tree.proofs.Elements.{elements_of-items_of}
-use Rattle.ev_wire.specs.Responses.{is_entry, item_of, kind_with, response_kind, nonce_of, entries_of, removed_of, has_head, has_lists, has_lists_of, is_response, parts_of, given_if, response_of}
+use Rattle.ev_wire.specs.Kinds.{kind_with}
+use Rattle.ev_wire.specs.Responses.{is_entry, item_of, response_kind, nonce_of, entries_of, removed_of, has_head, has_lists, has_lists_of, is_response, parts_of, given_if, response_of}
 use Rattle.ev_script.specs.LineForms.{line_at}
 use Rattle.ev_script.specs.Lines.{line_of}
 use Rattle.ev_expand.specs.Editing.{with_value}

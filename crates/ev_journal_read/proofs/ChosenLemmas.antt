@@ -13,7 +13,8 @@ use Rattle.ev_types.specs.declared.events.Op.{Op}
 use Rattle.ev_types.specs.declared.events.Answer.{Answer}
 use Rattle.ev_types.specs.declared.events.Answer.TheVariants.{Ignored, Done, Moved, Replied, Version, Unchanged, Reaped, InUse, NoListener, NoChain, Undecided, Elsewhere, NoRoute, Redirect, NoCluster, NoEndpoint, Local, Served, NotOpen, Settled}
 use Rattle.ev_types.specs.declared.journals.Row.{Row}
-use Rattle.ev_wire.specs.Requests.{request_tree, type_url, with_nonce, with_names, with_node, with_versions, with_error}
+use Rattle.ev_types.specs.Kinds.{type_url}
+use Rattle.ev_wire.specs.Requests.{request_tree, with_nonce, with_names, with_node, with_versions, with_error}
 use Rattle.ev_journal.specs.Rendering.{answer_tree, row_object, requests_tree, verdict_tree}
 use Rattle.ev_journal.specs.Rows.{is_answered_with, operations_with, IsRequest, IsAnswer, IsRow, row_text, chosen_nonce, chosen_versions, chosen_request, chosen_answer, chosen_row}
 use Rattle.ev_journal_read.proofs.EachLemmas.{All-first, All-rest}

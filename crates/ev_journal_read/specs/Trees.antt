@@ -22,7 +22,8 @@ use Rattle.ev_script.specs.Members.{whole_within, name_of, member_of, member_or}
 use Rattle.ev_journal_read.specs.declared.requests.RequestTexts.{RequestTexts}
 use Rattle.ev_journal_read.specs.declared.requests.RequestLists.{RequestLists}
 use Rattle.ev_journal_read.specs.declared.rows.RowHead.{RowHead}
-use Rattle.ev_journal_read.specs.Words.{actor_named, op_named, verdict_named, answer_named, unserved_named, kind_named}
+use Rattle.ev_types.specs.Kinds.{kind_of_url}
+use Rattle.ev_journal_read.specs.Words.{actor_named, op_named, verdict_named, answer_named, unserved_named}
 
 -- ---- numbers
 
@@ -90,7 +91,7 @@ names_at key tree = member_or [] (list_of name_of) key tree
 
 -- the kind of a request, by its type URL
 abbrev pub kind_of : Data → Option Kind
-kind_of tree = option_and_then kind_named (member_of as_str (codes "typeUrl") tree)
+kind_of tree = option_and_then kind_of_url (member_of as_str (codes "typeUrl") tree)
 
 -- a request's node, nonce and error together
 abbrev pub texts_with : Option (List ℕ) → Option (List ℕ) → Option (List ℕ) → RequestTexts

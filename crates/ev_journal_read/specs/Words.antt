@@ -1,8 +1,6 @@
 -- The words of a row, read back.
 use Rattle.std.specs.Prelude.{ℕ, ◌==◌, List, [], ◌∷◌, if◌then◌else◌, nat_lt, codes, Option, None, Some, option_map, option_and_then}
 use Rattle.std.specs.Str.{bytes_eq}
-use Rattle.ev_types.specs.declared.contents.Kind.{Kind}
-use Rattle.ev_types.specs.declared.contents.Kind.TheVariants.{Cds, Eds, Lds, Rds}
 use Rattle.ev_types.specs.declared.events.Actor.{Actor}
 use Rattle.ev_types.specs.declared.events.Actor.TheVariants as actor
 use Rattle.ev_types.specs.declared.events.Op.{Op}
@@ -12,7 +10,6 @@ use Rattle.ev_types.specs.declared.events.Verdict.TheVariants.{New, Same, Kept, 
 use Rattle.ev_types.specs.declared.events.Answer.{Answer}
 use Rattle.ev_types.specs.declared.events.Answer.TheVariants.{Ignored, Done, Unchanged, InUse, NoListener, NoChain, Undecided, NoRoute, Redirect, NoCluster, NoEndpoint, NotOpen}
 use Rattle.ev_tree.specs.Scalars.{u32_text}
-use Rattle.ev_wire.specs.Requests.{type_url}
 
 -- the number after a letter
 abbrev pub number_behind : ℕ → List ℕ → Option ℕ
@@ -79,13 +76,4 @@ unserved_named word listener =
     else if bytes_eq word (codes "redirect") then Some (Redirect listener)
     else if bytes_eq word (codes "noCluster") then Some (NoCluster listener)
     else if bytes_eq word (codes "noEndpoint") then Some (NoEndpoint listener)
-    else None
-
--- a kind of resource by its type URL
-abbrev pub kind_named : List ℕ → Option Kind
-kind_named url =
-    if bytes_eq url (type_url Cds) then Some Cds
-    else if bytes_eq url (type_url Eds) then Some Eds
-    else if bytes_eq url (type_url Lds) then Some Lds
-    else if bytes_eq url (type_url Rds) then Some Rds
     else None

@@ -2,10 +2,10 @@ ghost use Rattle.std.specs.Prelude.{◌≡◌, ◌<◌};
 ghost use Rattle.std.specs.Char.{is_ascii_digit};
 ghost use Rattle.std.specs.List.{list_all};
 ghost use Rattle.ev_tree.specs.Scalars.{is_numeral, u32_text};
-ghost use Rattle.ev_journal_read.specs.Words.{number_behind, actor_named, op_named, rule_of, verdict_named, answer_named, unserved_named, kind_named};
+ghost use Rattle.ev_journal_read.specs.Words.{number_behind, actor_named, op_named, rule_of, verdict_named, answer_named, unserved_named};
 
 use ev_tree::MAX_U32_DIGITS;
-use ev_types::{Actor, Answer, Gen, Kind, Op, Verdict};
+use ev_types::{Actor, Answer, Gen, Op, Verdict};
 
 // The number that 1 to 10 digits write, if it is below 2^32.
 #[tactic(auto, unfolding(ev_tree::specs::Scalars::u32_text))]
@@ -126,19 +126,6 @@ pub(crate) fn unserved_named(word: &str, listener: Gen) -> Option<Answer>
         "redirect" => Some(Answer::Redirect { listener }),
         "noCluster" => Some(Answer::NoCluster { listener }),
         "noEndpoint" => Some(Answer::NoEndpoint { listener }),
-        _ => None,
-    }
-}
-
-// A kind of resource by its type URL.
-pub(crate) fn kind_named(url: &str) -> Option<Kind>
-    ensures { result ≡ kind_named url.now }
-{
-    match url {
-        "type.googleapis.com/envoy.config.cluster.v3.Cluster" => Some(Kind::Cds),
-        "type.googleapis.com/envoy.config.endpoint.v3.ClusterLoadAssignment" => Some(Kind::Eds),
-        "type.googleapis.com/envoy.config.listener.v3.Listener" => Some(Kind::Lds),
-        "type.googleapis.com/envoy.config.route.v3.RouteConfiguration" => Some(Kind::Rds),
         _ => None,
     }
 }

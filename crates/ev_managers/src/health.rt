@@ -26,7 +26,6 @@ impl Managers {
         ensures stands { OnOk result (Follow self.old self.new (with_result cluster.now host.now healthy)) }
         ensures ignored { IfOk result (λ meant. AnswerFor self.old meant (means_something cluster.now host.now)) }
     {
-        let meant = self.clusters.note(alloc, cluster, host, healthy, steps)?;
-        Ok(meant)
+        self.core.note(alloc, cluster, host, healthy, steps)
     }
 }

@@ -51,7 +51,6 @@ pub(crate) fn promote<L: Ledger>(
 ) -> Result<(), AllocError>
     requires { IsKept manager.old }
     ensures kept { OnOk result (IsKept manager.new) }
-    ensures kind { OnOk result (manager.new.state.kind ≡ manager.old.state.kind) }
     ensures made { OnOk result (manager.new.state.table.made ≡ manager.old.state.table.made) }
     ensures told { OnOk result (TellsPromoted manager.old.state manager.new.state moved.old moved.new) }
     ensures stands { OnOk result (Follows manager.old.state manager.new.state promoted) }

@@ -8,7 +8,8 @@ use Rattle.ev_model.specs.declared.pictures.Picture.{Picture}
 use Rattle.ev_model.specs.declared.pictures.ServedCluster.{ServedCluster}
 use Rattle.ev_model.specs.declared.pictures.ServedListener.{ServedListener}
 use Rattle.ev_model.specs.declared.pictures.Shown.{Shown}
-use Rattle.ev_snapshot.specs.Changes.{IsInOrder, IsOrdered, clusters_with, listeners_with, next_picture, picture_after, put_cluster, put_clusters, put_listener, put_listeners, shown_with, without}
+use Rattle.ev_layers.specs.Rows.{IsInOrder}
+use Rattle.ev_snapshot.specs.Changes.{IsOrdered, clusters_with, listeners_with, next_picture, picture_after, put_cluster, put_clusters, put_listener, put_listeners, shown_with, without}
 use Rattle.ev_snapshot.specs.Kept.{clusters_keep, listeners_keep}
 use Rattle.ev_snapshot.specs.declared.changes.Changes.{Changes}
 use Rattle.ev_snapshot.specs.declared.changes.ClusterChange.{ClusterChange}

@@ -1,17 +1,16 @@
 -- Changes that keep what each name that they touch had keep all.
-use Rattle.std.proofs.Common.{◌≡◌, ◌∙◌, ℕ, ◌==◌, ◌||◌, ◌&&◌, ◌+◌, ◌<◌, suc, not, Bool, true, false, cond, List, [], ◌∷◌, filter, find, map, drop, length, get_or, Option, Some, None, refl, sym, ap, subst, true≢false, arith}
-use Rattle.std.proofs.Math.Seq.{drop-cons}
+use Rattle.std.proofs.Common.{◌≡◌, ◌∙◌, ℕ, ◌==◌, ◌||◌, ◌&&◌, not, Bool, true, false, cond, List, [], ◌∷◌, filter, find, map, Option, Some, None, refl, sym, ap, subst, true≢false}
 use Rattle.std.specs.Bool.{Decides}
 use Rattle.std.specs.List.{AllByRecursion, list_any, list_all}
 use Rattle.std.specs.Str.{bytes_eq}
 use Rattle.ev_types.specs.Same.{bytes_decide, numbers_decide}
 use Rattle.ev_model.specs.Picture.{has_number}
 use Rattle.ev_model.specs.Versions.{is_before}
-use Rattle.ev_snapshot.specs.Changes.{IsInOrder, IsPairwise, put_in, without}
-use Rattle.ev_snapshot.specs.Kept.{found_same, keeps, keeps_name, keeps_name_of, keeps_number, keeps_served}
-use Rattle.ev_snapshot.specs.Rows.{named, numbered, without_name, without_number}
-use Rattle.ev_snapshot.proofs.Order.{found_passes, one_list, same_name}
-use Rattle.ev_snapshot.proofs.Steps.{find_put, find_without, kept_order, no_name_left, no_number_left, other_way, put_both, put_order}
+use Rattle.ev_layers.specs.Rows.{IsInOrder, IsPairwise, put_in, named, numbered, without_name, without_number}
+use Rattle.ev_layers.specs.Kept.{found_same, keeps, keeps_name, keeps_name_of, keeps_number, keeps_served}
+use Rattle.ev_layers.proofs.Order.{found_passes, one_list, same_name}
+use Rattle.ev_layers.proofs.Steps.{find_put, find_without, kept_order, no_name_left, no_number_left, other_way, put_both, put_order}
+use Rattle.ev_snapshot.specs.Changes.{without}
 
 both_true : (a b : Bool) → a && b ≡ true → (a ≡ true) × (b ≡ true)
 both_true true b h = (refl, h)
@@ -231,11 +230,3 @@ module _ {C X : Type 0} (number : X → ℕ) (name : X → List ℕ) (changed : 
   pub without_none : (xs : List X) → without number (map changed []) xs ≡ xs
   without_none [] = refl
   without_none (x ∷ xs) = ap (λ ys. x ∷ ys) (without_none xs)
-
--- what is at a place is the first of what is left from there on
-pub drop_at : {A : Type 0} (xs : List A) (i : ℕ) (x : A) → i < length xs → x ≡ get_or xs i x → drop i xs ≡ x ∷ drop (i + 1) xs
-drop_at xs i x within is =
-    drop-cons xs i x within ∙ ap (λ n. get_or xs i x ∷ drop n xs) (next i) ∙ ap (λ (y : _). y ∷ drop (i + 1) xs) (sym is)
-  where
-    next : (j : ℕ) → suc j ≡ j + 1
-    next j = omega arith

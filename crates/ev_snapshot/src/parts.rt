@@ -4,11 +4,10 @@ ghost use Rattle.ev_snapshot.specs.Changes.{clusters_with, clusters_without, lis
 ghost use Rattle.ev_snapshot.specs.Kept.{all_keep, clusters_keep, listeners_keep, served_cluster_keeps, served_listener_keeps};
 
 use crate::changes::{Changes, ClusterChange, ListenerChange};
-use crate::listeners::Listeners;
-use crate::routed::RoutedListener;
-use crate::rows::Rows;
 use ev_hosts::ShownCluster;
 use ev_keys::Keys;
+use ev_layers::Rows;
+use ev_listeners::{Listeners, RoutedListener};
 use ev_model::ServedListener;
 use ev_types::{Shared, TryCopy};
 use std::alloc::{AllocError, Global};

@@ -9,7 +9,8 @@ use Rattle.ev_types.specs.declared.events.Event.TheVariants.{Response}
 use Rattle.ev_types.specs.declared.events.Profile.{Profile}
 use Rattle.ev_script.specs.declared.forms.Settings.{Settings}
 use Rattle.ev_tree.specs.Forms.{given_or, text_of}
-use Rattle.ev_wire.specs.Responses.{kind_with, response_kind, nonce_of, has_head, response_of}
+use Rattle.ev_wire.specs.Kinds.{kind_with}
+use Rattle.ev_wire.specs.Responses.{response_kind, nonce_of, has_head, response_of}
 use Rattle.ev_script.specs.Members.{has_only, member_of, is_op}
 use Rattle.ev_script.specs.LineForms.{with_only, line_at}
 use Rattle.ev_script.specs.Lines.{line_of}

@@ -22,7 +22,6 @@ use Rattle.ev_model.specs.Signals.{ended_status, with_end, forget_version}
 use Rattle.ev_model.specs.Tidy.{status_by}
 use Rattle.ev_model.specs.Verdicts.{is_removed}
 use Rattle.ev_generations.specs.Tables.{row_in}
-use Rattle.ev_indexes.specs.Worlds.{rows_of_kind}
 use Rattle.ev_state.specs.Ages.{IsLater, AreLater}
 
 abbrev AreNew : ℕ → List GenRow → Type 0
@@ -58,28 +57,6 @@ later-statused made f stays (row ∷ rows) = (record { same = refl; over = stays
 later-more : (made : ℕ) (rows : List GenRow) (new : GenRow) → made < new.number → AreLater made rows (rows ++ new ∷ [])
 later-more made [] new behind = (behind, tt)
 later-more made (row ∷ rows) new behind = (itself row, later-more made rows new behind)
-
--- of one kind alone
-new_kind : (kind : Kind) (made : ℕ) (rows : List GenRow) → AreNew made rows → AreNew made (rows_of_kind kind rows)
-new_kind kind made [] new = tt
-new_kind kind made (r ∷ rs) new = by (kind_same r.kind kind) (new_kind kind made rs new.1)
-  where
-    by : (b : Bool) → AreNew made (rows_of_kind kind rs) → AreNew made (cond b (r ∷ rows_of_kind kind rs) (rows_of_kind kind rs))
-    by true more = (new.0, more)
-    by false more = more
-
-pub later-kind : (kind : Kind) (made : ℕ) (a b : List GenRow) → AreLater made a b → AreLater made (rows_of_kind kind a) (rows_of_kind kind b)
-later-kind kind made [] b x = new_kind kind made b x
-later-kind kind made (r ∷ rs) [] x = absurd x
-later-kind kind made (r ∷ rs) (s ∷ ss) x =
-    by (kind_same r.kind kind) (kind_same s.kind kind) (ap (λ (t : GenRow). kind_same t.kind kind) x.0.same) (later-kind kind made rs ss x.1)
-  where
-    by : (t u : Bool) → u ≡ t → AreLater made (rows_of_kind kind rs) (rows_of_kind kind ss)
-        → AreLater made (cond t (r ∷ rows_of_kind kind rs) (rows_of_kind kind rs)) (cond u (s ∷ rows_of_kind kind ss) (rows_of_kind kind ss))
-    by true true e more = (x.0, more)
-    by false false e more = more
-    by true false e more = absurd (false≢true e)
-    by false true e more = absurd (false≢true (sym e))
 
 -- a generation is found as before
 pub record Found (rows : List GenRow) (number : ℕ) (P : GenRow → Type 0) : Type 0 where

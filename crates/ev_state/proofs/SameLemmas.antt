@@ -28,7 +28,6 @@ use Rattle.ev_model.specs.Warming.{value_by, rows_in, discovered, assignment_by,
 use Rattle.ev_model.specs.Watching.{discovery_dependencies, is_dependency, has_dependency, Dependency}
 use Rattle.ev_generations.specs.Tables.{row_in}
 use Rattle.ev_indexes.specs.Due.{is_one_of}
-use Rattle.ev_indexes.specs.Worlds.{needs_of}
 use Rattle.ev_indexes.specs.Shown.{cluster_shown, first_of, listener_shown}
 use Rattle.ev_indexes.specs.Needs.{serve_need, listener_places, needs_at}
 use Rattle.ev_state.specs.Changed.{HaveChanged}
@@ -144,11 +143,11 @@ eligible_same before after row [] same = refl
 eligible_same before after row (h ∷ hosts) same =
     λ i. cond (h.usable && (not (is_checked row.content) || same.0 i)) (h ∷ eligible_same before after row hosts same.1 i) (eligible_same before after row hosts same.1 i)
 
--- the generations of the kind that serve are the same, but for these numbers, and so is what came for what they depend on
+-- the generations of the kind that serve are the same, but for these numbers, and so is what came of each kind for what they depend on
 pub record AreAlike (kind : Kind) (changed : List ℕ) (before after : World) : Type 0 where
   pub rows : (number : ℕ) → is_one_of changed number ≡ false → serving kind (row_in number after.rows) ≡ serving kind (row_in number before.rows)
   pub values : (number : ℕ) (row : GenRow) → is_one_of changed number ≡ false → serving kind (row_in number before.rows) ≡ Some row
-      → SameNeeds (needs_of kind) before.arrivals after.arrivals row.content
+      → (needed : Kind) → SameNeeds needed before.arrivals after.arrivals row.content
 
 -- and so are the results of the clusters that serve
 pub record AreSame (changed : List ℕ) (before after : World) : Type 0 where
@@ -178,7 +177,7 @@ same-changed changed before after same = record {
         → option_map (served_cluster after.arrivals after.results) found ≡ option_map (served_cluster before.arrivals before.results) found
     cluster n other None at = refl
     cluster n other (Some row) at =
-        let assigned = assignment_same before.arrivals after.arrivals row.content (same.clusters.values n row other at) in
+        let assigned = assignment_same before.arrivals after.arrivals row.content (same.clusters.values n row other at Eds) in
         let chosen = ap (filter (is_eligible_by after.results row)) assigned
         ∙ eligible_same before.results after.results row (assignment_by before.arrivals row.content) (same.results n row other at) in
         λ i. Some (record { number = row.number; name = row.name; hosts = chosen i; elsewhere = is_elsewhere row.content })
@@ -186,7 +185,7 @@ same-changed changed before after same = record {
     listener : (n : ℕ) → is_one_of changed n ≡ false → (found : Option GenRow) → serving Lds (row_in n before.rows) ≡ found
         → option_and_then (first_served after.arrivals) found ≡ option_and_then (first_served before.arrivals) found
     listener n other None at = refl
-    listener n other (Some row) at = ap first_of (listener_same before.arrivals after.arrivals row row.content (same.listeners.values n row other at))
+    listener n other (Some row) at = ap first_of (listener_same before.arrivals after.arrivals row row.content (same.listeners.values n row other at Rds))
 
 -- the same, where more numbers may have changed
 pub changed-more : (xs zs : List ℕ) (before after : World) → ((n : ℕ) → is_one_of zs n ≡ false → is_one_of xs n ≡ false) → HaveChanged xs before after → HaveChanged zs before after

@@ -23,7 +23,7 @@ impl<'a> Model for Before<'a> {
 
     ghost Value = { BeforeParts };
 
-    ghost view = { λ b. record { clusters = b.managers.now.clusters.state; listeners = b.managers.now.listeners.state; subscription = b.subscription.now } };
+    ghost view = { λ b. record { managers = b.managers.now.core.state; subscription = b.subscription.now } };
 
     ghost invariant = { λ b. AreManagersKept b.managers.now };
 }
@@ -33,8 +33,7 @@ impl<'a> Before<'a> {
     pub(crate) fn new(managers: &'a Managers, subscription: &'a Subscription) -> Before<'a>
         requires kept { AreManagersKept managers.now }
         ensures { result ≡ record {
-          clusters = managers.now.clusters.state;
-          listeners = managers.now.listeners.state;
+          managers = managers.now.core.state;
           subscription = subscription.now;
         } }
     {
@@ -51,11 +50,7 @@ impl<'a> Known for Before<'a> {
     ghost answers = { answers_before };
 
     fn newest(&self, kind: Kind, name: &str) -> Option<LiveRow<'_>> {
-        match kind {
-            Kind::Cds => self.managers.clusters.state.newest(name),
-            Kind::Lds => self.managers.listeners.state.newest(name),
-            Kind::Eds | Kind::Rds => None,
-        }
+        self.managers.core.state.newest(kind, name)
     }
 
     fn holders(
@@ -63,7 +58,7 @@ impl<'a> Known for Before<'a> {
         alloc: Global,
         address: &SocketAddress,
     ) -> Result<Vec<LiveRow<'_>>, AllocError> {
-        self.managers.listeners.state.holders(alloc, address)
+        self.managers.core.state.holders(alloc, address)
     }
 
     fn is_watched(&self, kind: Kind, name: &str) -> bool {

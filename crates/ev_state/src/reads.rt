@@ -17,7 +17,7 @@ impl State {
     pub fn made(&self) -> u32
         ensures { (world : World) → ManagesAt self.now world → result ≡ world.made }
     {
-        self.managers.made
+        self.managers.made()
     }
 
     /// How far the proxy has booted.
@@ -27,14 +27,11 @@ impl State {
         self.targets.phase()
     }
 
-    /// The generation of this number. It costs a look-up among clusters, and one among listeners where no cluster has the number.
+    /// The generation of this number. It costs a look-up.
     pub fn row(&self, number: Gen) -> Option<&GenRow>
         ensures { (world : World) → ManagesAt self.now world → option_copied result ≡ row_in number world.rows }
     {
-        match self.managers.clusters.state.table.get(number) {
-            Some(row) => Some(row),
-            None => self.managers.listeners.state.table.get(number),
-        }
+        self.managers.core.state.table.get(number)
     }
 
     /// What a picture shows of the cluster of this number now: where it is active, its hosts that may be chosen. It costs a look-up of
@@ -46,7 +43,7 @@ impl State {
         ensures { IfOk result (λ served. (world : World) → ManagesAt self.now world
             → served ≡ cluster_at world number) }
     {
-        let served = self.managers.clusters.state.cluster(alloc, number)?;
+        let served = self.managers.core.state.cluster(alloc, number)?;
         Ok(served)
     }
 
@@ -59,7 +56,7 @@ impl State {
     {
         match self.targets.phase() {
             Phase::Serving => {
-                let served = self.managers.listeners.state.listener(alloc, number)?;
+                let served = self.managers.core.state.listener(alloc, number)?;
                 Ok(served)
             }
             Phase::Clusters | Phase::Listeners => Ok(None),

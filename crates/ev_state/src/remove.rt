@@ -10,7 +10,7 @@ ghost use Rattle.ev_state.specs.States.{ManagesAt, over_in, without_over};
 use crate::state::State;
 use ev_generations::Steps;
 use ev_managers::Moved;
-use ev_types::{Gen, GenRow, Kind};
+use ev_types::{Gen, GenRow};
 use std::alloc::{AllocError, Global};
 use std::sync::ledger::Ledger;
 
@@ -29,7 +29,7 @@ impl State {
         ensures changed { IfOk result (λ moved. (world : World) → ManagesAt self.old world
             → HaveChanged moved.changed world (tidy world)) }
     {
-        let made = self.managers.made;
+        let made = self.managers.made();
         let mut moved = Moved::none(alloc);
         self.tidy(alloc, made, &mut moved, steps)?;
         Ok(moved)
@@ -49,11 +49,8 @@ impl State {
         ensures shown { (world : World) → ManagesAt self.old world
             → HaveChanged [] world (record world { rows = without_over number world.rows }) }
     {
-        if has_ended(self.managers.clusters.state.table.get(number)) {
-            return Some(self.managers.remove(Kind::Cds, number));
-        }
-        if has_ended(self.managers.listeners.state.table.get(number)) {
-            return Some(self.managers.remove(Kind::Lds, number));
+        if has_ended(self.managers.core.state.table.get(number)) {
+            return Some(self.managers.remove(number));
         }
         None
     }

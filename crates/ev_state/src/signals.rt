@@ -22,11 +22,11 @@ impl State {
         requires kept { AreManagersKept self.old.managers }
         ensures { IfOk result (λ told. MovesOn self.old self.new moved told.0 told.1) }
     {
-        let made = self.managers.made;
+        let made = self.managers.made();
         let asked = self.tidy(alloc, made, &mut moved, steps)?;
         let requests = self
             .subscription
-            .requests_after(alloc, None, asked.endpoints, asked.routes, asked.left)?;
+            .requests_after(alloc, None, asked.before, asked.behind, asked.left)?;
         Ok((Answer::Moved { requests }, moved))
     }
 
@@ -44,8 +44,8 @@ impl State {
         requires forgotten { AreForgotten self.old.managers }
         ensures { IfOk result (λ told. StepBy (health cluster.now host.now healthy) self.old self.new told.0 told.1) }
     {
-        let clusters = &self.managers.clusters.state;
-        let same = clusters.is_as_healthy(cluster, host, healthy);
+        let known = &self.managers.core.state;
+        let same = known.is_as_healthy(cluster, host, healthy);
         if !self.managers.health(alloc, cluster, host, healthy, steps)? {
             return Ok((Answer::Ignored, Moved::none(alloc)));
         }

@@ -9,6 +9,7 @@
 #![tactic(auto)]
 
 mod arrivals;
+mod chains;
 mod changes;
 mod forgetting;
 mod health;

@@ -27,7 +27,7 @@ impl Manager {
         self.state.table.remove(number)
     }
 
-    /// The number that was drawn last here, or the one up to which numbers had been drawn elsewhere by then: no row has a greater one.
+    /// How many numbers were drawn for generations: no row has a greater one.
     pub fn made(&self) -> u32
         ensures { result ≡ self.now.state.table.made }
     {
