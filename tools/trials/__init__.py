@@ -11,8 +11,6 @@ import subprocess
 import tempfile
 import traceback
 
-from shared import whole_sidecar
-
 TOP = os.path.dirname(os.path.dirname(os.path.dirname(os.path.realpath(__file__))))
 
 
@@ -85,16 +83,6 @@ def refuses_words(check, tool, lines_of, *more):
     for words in ([], ['--all', 'replay'], ['--numbers', '0', 'replay'], ['--program', '/no/such', 'replay'], *more):
         status = lines_of(*words)[0]
         check(status == 2, f'{tool} {words}: status {status}')
-
-
-@contextlib.contextmanager
-def of_sidecar(is_read=True):
-    """While the block lasts the tools of this process read secrets and extensions, as tools/shared/whole_sidecar.py says; or they don't."""
-    before, whole_sidecar.READS_SECRETS = whole_sidecar.READS_SECRETS, is_read
-    try:
-        yield
-    finally:
-        whole_sidecar.READS_SECRETS = before
 
 
 def ran(*words, data=b'', **how):

@@ -75,9 +75,9 @@ with_entries entries parts = record parts { journal = parts.journal ++ entries }
 abbrev pub with_entry : Entry → JournalParts → JournalParts
 with_entry entry parts = with_entries (entry ∷ []) parts
 
--- the worker takes over that its settle after its batch closed these connections, and this picture
-abbrev pub IsToldBehind : WorkerParts → List ℕ → Picture → JournalParts → Type 0
-IsToldBehind worker closed picture parts = IsToldBy worker.number closed picture (world_behind worker parts)
+-- the worker takes over that its settle after its batch closed these connections and moved these, and this picture
+abbrev pub IsToldBehind : WorkerParts → List ℕ → List ℕ → Picture → JournalParts → Type 0
+IsToldBehind worker closed moved picture parts = IsToldBy worker.number closed moved picture (world_behind worker parts)
 
 -- with the worker's batch and its settle
 abbrev pub with_settled : WorkerParts → ℕ → ℕ → JournalParts → JournalParts

@@ -41,7 +41,7 @@ pub trait Journaled {
         requires within { worker.now.number < (shows self.old).workers }
         requires works { WorksIn worker.now (world_now (shows self.old)) }
         ensures entries { OnOk result (shows self.new ≡ with_settled worker.now at step (shows self.old)) }
-        ensures told { IfOk result (λ settled. IsToldBehind worker.now settled.closed
+        ensures told { IfOk result (λ settled. IsToldBehind worker.now settled.closed settled.moved
             (arc_value settled.snapshot) (shows self.old)) }
         ensures err { OnErr result (shows self.new ≡ shows self.old) }
         ensures deferred { deferred self.new ≡ deferred self.old };

@@ -32,7 +32,7 @@ pub record IsSotwJournal (script : ScriptParts) (journal : List Entry) : Type 0 
 pub record IsSotwText (trees : ScriptTrees) (text : List ℕ) : Type 0 where
   pub journal : List Entry
   pub replayed : IsSotwJournal (delta_script trees) journal
-  pub rendered : text ≡ sotw_text (delta_script trees).workers (map (stated_in (lines_in trees)) journal)
+  pub rendered : text ≡ sotw_text (delta_script trees).workers (map (stated_in trees.header.profile (lines_in trees)) journal)
   pub worlds : RunsAreSameWorld trees
 
 -- the bytes are a script of the state of the world, and the text answers it
@@ -53,7 +53,7 @@ pub record GrowsTooLarge (bytes : List ℕ) (line number : ℕ) : Type 0 where
 pub record IsDelta (trees : ScriptTrees) (delta : Delta) : Type 0 where
   pub fits : FitsInput (written_of trees)
   pub script : script_of false delta.text.items ≡ Some (delta_script trees)
-  pub versions : delta.versions.items ≡ versions_in (lines_in trees)
+  pub versions : delta.versions.items ≡ versions_in trees.header.profile (lines_in trees)
 
 -- that text, or why there is none
 abbrev pub IsDeltaAnswer : ScriptTrees → Result Delta ScriptFault → Type 0

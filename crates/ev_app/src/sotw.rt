@@ -104,7 +104,8 @@ fn sotw_text(
     script: &Script,
 ) -> Result<Vec<u8>, AllocError>
     ensures { IfOk result (λ text. (input : Input) (trees : ScriptTrees) → IsTreesAnswer sotw_lines input (Ok trees)
-        → script.now ≡ delta_script trees → versions.now ≡ versions_in (lines_in trees) → IsSotwText trees text.items) }
+        → script.now ≡ delta_script trees → versions.now ≡ versions_in trees.header.profile (lines_in trees)
+        → IsSotwText trees text.items) }
 {
     // the journal is a run of its script; each run has the laws, and one of such a script is the same world
     runs_have_the_laws();

@@ -7,8 +7,9 @@ use Rattle.std.proofs.lemmas.Bool.Decides.{nat_tests}
 use Rattle.serde_json.specs.Data.{Data}
 use Rattle.ev_model.specs.World.{OpenMember}
 use Rattle.ev_model.specs.Picture.{has_number}
-use Rattle.ev_model.specs.Connections.{closed, is_closing, is_member, is_open, left_open, member_on}
-use Rattle.ev_ledger.specs.Members.{is_open_at, member_before, with_member}
+use Rattle.ev_model.specs.Connections.{closed, is_member, is_open}
+use Rattle.ev_ledger.specs.Members.{is_open_at, member_before, member_on, with_member}
+use Rattle.ev_chains.specs.Closing.{is_closing, left_open, on_chain}
 use Rattle.ev_ledger.proofs.OrderLemmas.{any_put}
 use Rattle.ev_ledger.proofs.PlaceLemmas.{closed_leaves}
 use Rattle.ev_chains.specs.declared.chains.ChainAnswer.{ChainAnswer}
@@ -84,9 +85,9 @@ own_member : (conn number other chain : ℕ) → (((0 == 0) && (other == conn)) 
 own_member conn number other chain = refl
 
 with_on : (state : ChainState) (conn number other chain : ℕ)
-    → is_open_at number 0 conn (with_member (member_on 0 other chain None) state.opened) ≡ (((other == conn) && (chain == number)) || (is_open_at number 0 conn state.opened && true))
+    → is_open_at number 0 conn (with_member (member_on 0 other (on_chain chain)) state.opened) ≡ (((other == conn) && (chain == number)) || (is_open_at number 0 conn state.opened && true))
 with_on state conn number other chain =
-    any_put member_before (λ (m : OpenMember). is_member 0 conn m && (m.listener == number)) (member_on 0 other chain None) state.opened
+    any_put member_before (λ (m : OpenMember). is_member 0 conn m && (m.listener == number)) (member_on 0 other (on_chain chain)) state.opened
     ∙ by (is_open_at number 0 conn state.opened)
   where
     by : (b : Bool) → (((other == conn) && (chain == number)) || b) ≡ (((other == conn) && (chain == number)) || (b && true))

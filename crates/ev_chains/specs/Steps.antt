@@ -3,8 +3,9 @@
 use Rattle.std.specs.Prelude.{ℕ, Bool, if◌then◌else◌, List, [], ◌∷◌, Option, Some, None}
 use Rattle.serde_json.specs.Data.{Data}
 use Rattle.ev_model.specs.Publishing.{ascending}
-use Rattle.ev_model.specs.Connections.{is_open, closed, closed_by, left_open, member_on}
-use Rattle.ev_ledger.specs.Members.{with_member}
+use Rattle.ev_model.specs.Connections.{is_open, closed}
+use Rattle.ev_ledger.specs.Members.{member_on, with_member}
+use Rattle.ev_chains.specs.Closing.{closed_by, left_open, on_chain}
 use Rattle.ev_chains.specs.declared.changes.Changed.{Changed}
 use Rattle.ev_chains.specs.declared.chains.ChainAnswer.{ChainAnswer}
 use Rattle.ev_chains.specs.declared.chains.ChainAnswer.TheVariants.{InUse, NoChain, Chain}
@@ -43,7 +44,7 @@ listener_by None tree state = (accepted (chains_in tree) state, Updated (changed
 -- the chain that takes a connection, by its number
 abbrev pub accept_by : Option ℕ → ℕ → ChainState → ChainState × ChainAnswer
 accept_by None conn state = (state, NoChain)
-accept_by (Some number) conn state = (record state { opened = with_member (member_on 0 conn number None) state.opened }, Chain number)
+accept_by (Some number) conn state = (record state { opened = with_member (member_on 0 conn (on_chain number)) state.opened }, Chain number)
 
 -- a connection of a number that is open is not accepted
 abbrev pub accept : ℕ → List ℕ → ℕ → ChainState → ChainState × ChainAnswer

@@ -8,7 +8,7 @@ ghost use Rattle.ev_chains.specs.State.{opening, accepted, listener_reading};
 ghost use Rattle.ev_chains.specs.Steps.{accept, close, drain, drained_by, reap, reaped_by};
 
 use crate::changes::{Changed, ascending, numbers_above, part_rows, plain_numbers};
-use crate::closing::{close_all, closing_conns, has_open};
+use crate::closing::{close_all, closing_conns, has_open, on_chain};
 use crate::draining::{Draining, push_all};
 use crate::listed::Listed;
 use crate::next::{Next, read_next};
@@ -125,7 +125,7 @@ impl Chains {
         }
         match self.serving.choose(alloc, server, port)? {
             Some(number) => {
-                self.ledger.open(0, conn, number, None)?;
+                self.ledger.open(0, conn, on_chain(number))?;
                 Ok(ChainAnswer::Chain(number.number()))
             }
             None => Ok(ChainAnswer::NoChain),
@@ -139,9 +139,9 @@ impl Chains {
     {
         let on = self.ledger.on(0, conn);
         let was_open = self.ledger.close(0, conn);
-        if let Some(place) = on {
-            if !has_open(&self.ledger, place.0) {
-                self.draining.end(place.0);
+        if let Some(on) = on {
+            if !has_open(&self.ledger, on.listener) {
+                self.draining.end(on.listener);
             }
         }
         was_open

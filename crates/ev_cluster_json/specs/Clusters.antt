@@ -18,6 +18,7 @@ use Rattle.ev_tree.specs.Floats.{body_text_of}
 use Rattle.ev_tree.specs.Sources.{source_broken_in, source_is_limited}
 use Rattle.ev_cluster_json.specs.declared.parts.TheConstants.{STATIC, LOGICAL_DNS, EDS}
 use Rattle.ev_cluster_json.specs.Assignments.{rows_of, assignment_broken}
+use Rattle.ev_cluster_json.specs.Sockets.{cluster_secrets}
 
 -- ---- the parts of a cluster
 
@@ -123,7 +124,8 @@ load_assignment_broken profile tree = either_broken (assignment_broken profile (
 unfoldable pub cluster_broken : Profile → Data → BrokenRules
 cluster_broken profile tree =
     either_broken (cluster_own_broken profile tree)
-    (either_broken (eds_broken profile (asks_hosts profile tree) tree) (broken_where (holds_hosts profile tree) (load_assignment_broken profile tree)))
+    (either_broken (eds_broken profile (asks_hosts profile tree) tree)
+    (either_broken (broken_where (holds_hosts profile tree) (load_assignment_broken profile tree)) (cluster_secrets profile tree).broken))
 
 -- ---- the value
 
@@ -140,6 +142,8 @@ cluster_of profile tree = record {
   name = name_of tree;
   discovery = discovery_of profile tree;
   checked = is_checked tree;
+  secrets = (cluster_secrets profile tree).own;
+  secrets_by_match = (cluster_secrets profile tree).by_match;
   body_text = body_text_of profile tree;
 }
 

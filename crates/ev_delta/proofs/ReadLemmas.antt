@@ -10,7 +10,8 @@ use Rattle.ev_tree.specs.declared.outcome.Found.TheVariants.{Absent, Given}
 use Rattle.ev_tree.specs.Forms.{is_object, is_text, field_of, text_of, objects_of, texts_of, objects_in, texts_in, in_form, value_or_wrong, listed, text_in, is_wrong, given_or}
 use Rattle.ev_tree.specs.Scalars.{list_in, elements_of}
 use Rattle.ev_tree.specs.Spelling.{camel_of}
-use Rattle.ev_wire.specs.Responses.{kind_with, item_of, is_entry, response_kind, nonce_of, entries_of, removed_of, has_head, has_lists, has_lists_of, parts_of, given_if, response_of}
+use Rattle.ev_wire.specs.Kinds.{kind_with}
+use Rattle.ev_wire.specs.Responses.{item_of, is_entry, response_kind, nonce_of, entries_of, removed_of, has_head, has_lists, has_lists_of, parts_of, given_if, response_of}
 use Rattle.ev_delta.specs.Discovery.{resource_name}
 use Rattle.ev_delta.specs.Delta.{item_tree, items_of_kind, message_tree}
 use Rattle.ev_delta.specs.Told.{item_told, told_with, DeltasAreRead}
@@ -131,9 +132,9 @@ told_name profile kind version resource = ap (given_or []) (item_name kind versi
 
 -- ---- the message
 
-kind_is : (url nonce : List ℕ) (items removed : List Data) → response_kind (message_tree url nonce items removed) ≡ kind_with url
+kind_is : (profile : Profile) (url nonce : List ℕ) (items removed : List Data) → response_kind profile (message_tree url nonce items removed) ≡ kind_with profile url
 unfolding response_kind
-kind_is url nonce items removed = ap (λ (f : Found (List ℕ)). kind_with (given_or [] f)) (url_found url nonce items removed)
+kind_is profile url nonce items removed = ap (λ (f : Found (List ℕ)). kind_with profile (given_or [] f)) (url_found url nonce items removed)
 
 nonce_is : (url nonce : List ℕ) (items removed : List Data) → nonce_of (message_tree url nonce items removed) ≡ nonce
 unfolding nonce_of
@@ -175,18 +176,18 @@ given_true : {A : Type 0} (test : Bool) (a : A) → test ≡ true → given_if t
 given_true test a is = ap (λ (b : Bool). given_if b a) is
 
 -- by the kind of the response
-read_as : (profile : Profile) (kind : Option Kind) (url nonce version : List ℕ) (resources : List Data) (removed : List (List ℕ)) → kind_with url ≡ kind → 1 ≤ length nonce
+read_as : (profile : Profile) (kind : Option Kind) (url nonce version : List ℕ) (resources : List Data) (removed : List (List ℕ)) → kind_with profile url ≡ kind → 1 ≤ length nonce
     → response_of profile (message_tree url nonce (items_of_kind kind version resources) (map string removed))
     ≡ Some (told_with profile kind (record { kind = kind; url = url; nonce = nonce; version = version; resources = resources }) removed)
 unfolding response_of
 read_as profile None url nonce version resources removed is some =
     let tree : Data = message_tree url nonce [] (map string removed) in
-    let kind : response_kind tree ≡ None = kind_is url nonce [] (map string removed) ∙ is in
+    let kind : response_kind profile tree ≡ None = kind_is profile url nonce [] (map string removed) ∙ is in
     (λ i. given_if (head_is url nonce [] (map string removed) some i && has_lists_of (kind i) tree) (parts_of profile (kind i) (nonce_is url nonce [] (map string removed) i) tree))
 read_as profile (Some k) url nonce version resources removed is some =
     let items : List Data = map (item_tree k version) resources in
     let tree : Data = message_tree url nonce items (map string removed) in
-    let kind : response_kind tree ≡ Some k = kind_is url nonce items (map string removed) ∙ is in
+    let kind : response_kind profile tree ≡ Some k = kind_is profile url nonce items (map string removed) ∙ is in
     (λ i. given_if (head_is url nonce items (map string removed) some i && has_lists_of (kind i) tree) (parts_of profile (kind i) (nonce_is url nonce items (map string removed) i) tree))
     ∙ (λ i. given_if (lists_are url nonce items removed (items_objects k version resources) (items_entries k version resources) i) (parts_of profile (Some k) nonce tree))
     ∙ (λ i. Some (record {

@@ -4,9 +4,10 @@ use Rattle.std.specs.Prelude.{ℕ, ◌&&◌, List, [], map, Bool, true, not, Opt
 use Rattle.serde_json.specs.Data.{Data}
 use Rattle.serde_json.specs.View.{view}
 use Rattle.ev_types.specs.declared.contents.Kind.{Kind}
+use Rattle.ev_types.specs.declared.events.Profile.{Profile}
 use Rattle.ev_model.specs.Watching.{sorted_names}
 use Rattle.ev_tree.specs.Forms.{is_wrong, given_or, listed, text_of, list_of}
-use Rattle.ev_wire.specs.Bodies.{name_field}
+use Rattle.ev_wire.specs.Kinds.{name_field}
 use Rattle.ev_wire.specs.Responses.{response_kind, nonce_of, has_head, given_if}
 use Rattle.ev_delta.specs.declared.discovery.Discovery.{Discovery}
 
@@ -27,13 +28,13 @@ abbrev pub has_parts_of : Option Kind → Data → Bool
 has_parts_of None tree = true
 has_parts_of (Some kind) tree = has_parts tree
 
-abbrev pub is_discovery : Data → Bool
-is_discovery tree = has_head tree && has_parts_of (response_kind tree) tree
+abbrev pub is_discovery : Profile → Data → Bool
+is_discovery profile tree = has_head tree && has_parts_of (response_kind profile tree) tree
 
 -- what a tree has as such a response
-abbrev pub parts_in : Data → DiscoveryParts
-parts_in tree = record {
-  kind = response_kind tree;
+abbrev pub parts_in : Profile → Data → DiscoveryParts
+parts_in profile tree = record {
+  kind = response_kind profile tree;
   url = given_or [] (text_of (codes "type_url") tree);
   nonce = nonce_of tree;
   version = given_or [] (text_of (codes "version_info") tree);
@@ -41,8 +42,8 @@ parts_in tree = record {
 }
 
 -- the response that a tree is, or none where it isn't one
-abbrev pub discovery_of : Data → Option DiscoveryParts
-discovery_of tree = given_if (is_discovery tree) (parts_in tree)
+abbrev pub discovery_of : Profile → Data → Option DiscoveryParts
+discovery_of profile tree = given_if (is_discovery profile tree) (parts_in profile tree)
 
 -- a resource's own name: the empty one where it has none
 abbrev pub resource_name : Kind → Data → List ℕ

@@ -4,7 +4,8 @@ use Rattle.serde_json.specs.Data.{Data, string}
 use Rattle.ev_types.specs.declared.contents.Kind.{Kind}
 use Rattle.ev_types.specs.declared.events.Profile.{Profile}
 use Rattle.ev_types.specs.Items.{ItemParts, ResponseParts}
-use Rattle.ev_wire.specs.Responses.{kind_with, item_of, response_of}
+use Rattle.ev_wire.specs.Kinds.{kind_with}
+use Rattle.ev_wire.specs.Responses.{item_of, response_of}
 use Rattle.ev_delta.specs.Discovery.{DiscoveryParts, resource_name}
 use Rattle.ev_delta.specs.Delta.{item_tree, delta_message}
 
@@ -25,9 +26,9 @@ told_with profile (Some kind) response removed = record {
 abbrev pub response_told : Profile → DiscoveryParts → List (List ℕ) → ResponseParts
 response_told profile response removed = told_with profile response.kind response removed
 
--- what every response of the state of the world keeps: its type is that of its URL, and it has a nonce
-pub record IsDiscovery (response : DiscoveryParts) : Type 0 where
-  pub kind : kind_with response.url ≡ response.kind
+-- what every response of the state of the world keeps in a profile: its type is that of its URL, and it has a nonce
+pub record IsDiscovery (profile : Profile) (response : DiscoveryParts) : Type 0 where
+  pub kind : kind_with profile response.url ≡ response.kind
   pub nonce : 1 ≤ length response.nonce
 
 -- the message made of a response is read in a profile as this response, whose items have the names of the resources
@@ -37,4 +38,4 @@ pub record IsReadAs (profile : Profile) (response : DiscoveryParts) (removed : L
 
 abbrev pub DeltasAreRead : Type 0
 DeltasAreRead =
-    (profile : Profile) (response : DiscoveryParts) (removed : List (List ℕ)) → IsDiscovery response → IsReadAs profile response removed
+    (profile : Profile) (response : DiscoveryParts) (removed : List (List ℕ)) → IsDiscovery profile response → IsReadAs profile response removed

@@ -3,14 +3,14 @@ ghost use Rattle.serde_json.specs.View.{view};
 ghost use Rattle.ev_tree.specs.Forms.{given_or, text_of};
 ghost use Rattle.ev_delta.specs.Discovery.{seen, has_parts, has_parts_of, is_discovery, discovery_of, resource_name, names_in};
 
-use crate::kinds::{kind_with, name_field};
 use ev_names::NameSet;
 use ev_tree::member;
-use ev_types::Kind;
+use ev_types::{Kind, Profile};
+use ev_wire::{kind_with, name_field};
 use serde_json::Value;
 use std::alloc::{AllocError, Global};
 
-/// A response of the state of the world. Where its type is none of the four, its version and its resources say nothing.
+/// A response of the state of the world. Where its type isn't read, its version and its resources say nothing.
 #[derive(Clone, Copy)]
 pub struct Discovery<'a> {
     /// The type, or `None` for one that isn't read.
@@ -23,16 +23,20 @@ pub struct Discovery<'a> {
 }
 
 /// The response of the state of the world that a message is, or none where it isn't one: `version_info`, `type_url` and
-/// `nonce` are texts, the nonce of at least one byte, and `resources` is a list of any values. Of a type that is none of
-/// the four the type and the nonce alone are read.
+/// `nonce` are texts, the nonce of at least one byte, and `resources` is a list of any values. Of a type that
+/// the profile doesn't read the type and the nonce alone are read.
 ///
 /// # Errors
 /// `AllocError` where there is no memory for it.
 #[tactic(auto, unfolding(ev_wire::specs::Responses::response_kind, ev_wire::specs::Responses::nonce_of))]
-pub fn read_discovery(alloc: Global, message: &Value) -> Result<Option<Discovery<'_>>, AllocError>
-    ensures { IfOk result (λ found. option_map seen found ≡ discovery_of (view message.now)) }
+pub fn read_discovery(
+    alloc: Global,
+    profile: Profile,
+    message: &Value,
+) -> Result<Option<Discovery<'_>>, AllocError>
+    ensures { IfOk result (λ found. option_map seen found ≡ discovery_of profile (view message.now)) }
 {
-    if !is_discovery(alloc, message)? {
+    if !is_discovery(alloc, profile, message)? {
         return Ok(None);
     }
     let url = text_at(alloc, message, "type_url")?;
@@ -40,7 +44,7 @@ pub fn read_discovery(alloc: Global, message: &Value) -> Result<Option<Discovery
     let version = text_at(alloc, message, "version_info")?;
     let resources = member::list(alloc, Some(message), "resources")?;
     Ok(Some(Discovery {
-        kind: kind_with(url),
+        kind: kind_with(profile, url),
         url,
         nonce,
         version,
@@ -50,12 +54,12 @@ pub fn read_discovery(alloc: Global, message: &Value) -> Result<Option<Discovery
 
 // Whether a message is a response of the state of the world.
 #[tactic(auto, unfolding(ev_wire::specs::Responses::has_head, ev_wire::specs::Responses::response_kind, ev_wire::specs::Responses::nonce_of))]
-fn is_discovery(alloc: Global, message: &Value) -> Result<bool, AllocError>
-    ensures { IfOk result (λ is. is ≡ is_discovery (view message.now)) }
+fn is_discovery(alloc: Global, profile: Profile, message: &Value) -> Result<bool, AllocError>
+    ensures { IfOk result (λ is. is ≡ is_discovery profile (view message.now)) }
 {
     let url = member::text(alloc, Some(message), "type_url")?;
     let nonce = text_at(alloc, message, "nonce")?;
-    let kind = kind_with(member::text_or_empty(url));
+    let kind = kind_with(profile, member::text_or_empty(url));
     let has_parts = has_parts_of(alloc, kind, message)?;
     Ok(message.is_object() & !url.is_wrong() & !(nonce.len() == 0) & has_parts)
 }

@@ -10,11 +10,9 @@
 #![tactic(auto)]
 
 mod discovery;
-mod kinds;
 mod laws;
 mod message;
 
 pub use discovery::{Discovery, read_discovery};
-pub use kinds::type_url;
 pub use laws::deltas_are_read;
 pub use message::delta_message;

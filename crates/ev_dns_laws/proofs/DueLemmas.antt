@@ -1,4 +1,5 @@
--- Where a template is complete and a stream is open it was due at some line, and nothing of it has changed after the last such line.
+-- Where a template is complete and a stream is open it was due at some line, and nothing of it has changed after the
+-- last such line.
 use Rattle.std.proofs.Common.{◌≡◌, ◌∙◌, ◌⊎◌, inl, inr, ℕ, zero, suc, ◌+◌, ◌<◌, ◌≤◌, Bool, true, false, ◌&&◌, ◌||◌, not, List, [], ◌∷◌, ◌++◌, length, take, Some, option_map, refl, sym, ap, subst, arith}
 use Rattle.ev_types.specs.declared.events.Profile.{Profile}
 use Rattle.std.specs.Prelude.{slice_get}

@@ -30,7 +30,7 @@ use Rattle.ev_tree.specs.Spelling.{camel_of}
 use Rattle.ev_cluster_json.specs.declared.groups.TheConstants.{MAX_PRIORITY}
 use Rattle.ev_cluster_json.specs.Assignments.{assignment_broken, assignment_reading, endpoint_of, group_broken, group_rows, groups_of, host_broken, hosts_of, is_usable, is_usable_status, priority_of, row_of, rows_of, weight_of}
 use Rattle.ev_wire.specs.Bodies.{body_of, body_with, breaks_v3, content_of, content_with, is_of_type, own_broken, resource_of}
-use Rattle.ev_wire.specs.Requests.{type_url}
+use Rattle.ev_types.specs.Kinds.{type_url}
 use Rattle.ev_wire.specs.Responses.{entry_name, item_of, ttl_of}
 use Rattle.ev_expand.specs.Following.{endpoints_body, endpoints_entry}
 use Rattle.ev_expand_laws.proofs.LineLemmas.{objects_given}

@@ -1,8 +1,9 @@
 -- Templates are of their keys' clusters.
-use Rattle.std.proofs.Common.{◌≡◌, inr, ℕ, Bool, true, false, not, ◌&&◌, cond, List, [], Some, None, refl, sym, ap}
+use Rattle.std.proofs.Common.{◌≡◌, inr, Bool, true, false, not, ◌&&◌, cond, [], Some, None, refl, sym, ap}
 use Rattle.std.proofs.lemmas.Bool.{false≢true}
 use Rattle.serde_json.specs.Data.{Data}
-use Rattle.ev_types.specs.declared.contents.Content.TheVariants.{Cluster as a_cluster, Assignment as an_assignment, Listener as a_listener, Routes as routes}
+use Rattle.ev_types.specs.declared.clusters.Cluster.{Cluster}
+use Rattle.ev_types.specs.declared.contents.Content.TheVariants.{Cluster as a_cluster}
 use Rattle.ev_types.specs.declared.contents.Body.{Body}
 use Rattle.ev_types.specs.declared.contents.Body.TheVariants.{Good, Bad, Beat}
 use Rattle.ev_types.specs.declared.events.Profile.{Profile}
@@ -10,7 +11,7 @@ use Rattle.ev_model_laws.proofs.OperationLists.{IsIn, any_at}
 use Rattle.ev_cluster_json.specs.Clusters.{has_custom_type}
 use Rattle.ev_expand.specs.declared.keys.Key.{Key}
 use Rattle.ev_expand.specs.Guarding.{Guarded, body_in, clusters_in, guarded_in}
-use Rattle.ev_expand.specs.Keys.{key_decides, key_same, key_with}
+use Rattle.ev_expand.specs.Keys.{key_decides, key_same, key_with, typed_cluster}
 use Rattle.ev_expand_laws.specs.Waiting.{GuardsClusters, IsClusterWith}
 use Rattle.ev_expand_laws.proofs.GuardLemmas.{guarded_there}
 use Rattle.ev_expand_laws.proofs.ListLemmas.{some_same}
@@ -19,18 +20,17 @@ use Rattle.ev_dns.specs.Templates.{body_key, by_names, has_sockets, is_strict_dn
 
 -- ---- templates
 
--- the body is the cluster of the key, but for the text of the body
+-- the body is the cluster of the key, but for its secrets and the text of the body
 record IsOfKey (body : Body) (key : Key) : Type 0 where
-  text : List ℕ
-  is : body ≡ Good (a_cluster (record key.cluster { body_text = text }))
+  own : Cluster
+  is : body ≡ Good (a_cluster own)
+  same : typed_cluster own ≡ key.cluster
 
 key_cluster : (body : Body) (key : Key) → body_key body ≡ Some key → IsOfKey body key
 key_cluster (Good (a_cluster cluster)) key h =
     let same : key_with cluster [] ≡ key = some_same h in
-    record { text = cluster.body_text; is = ap (λ (k : Key). Good (a_cluster (record k.cluster { body_text = cluster.body_text }))) same }
-key_cluster (Good (an_assignment rows)) key h = absurd (cc)
-key_cluster (Good (a_listener listener)) key h = absurd (cc)
-key_cluster (Good (routes table)) key h = absurd (cc)
+    record { own = cluster; is = refl; same = ap (λ (k : Key). k.cluster) same }
+key_cluster (Good content) key h = absurd (cc)
 key_cluster (Bad rule) key h = absurd (cc)
 key_cluster Beat key h = absurd (cc)
 
@@ -49,11 +49,11 @@ no_custom true true sockets h = sym h
 no_custom true false sockets h = refl
 no_custom false custom sockets h = absurd (false≢true h)
 
--- a template is with the type STATIC the cluster of its key, but for the text of its body
+-- a template is with the type STATIC the cluster of its key, but for its secrets and the text of its body
 pub template_reads : (profile : Profile) (entry : Data) (key : Key) → (by_names profile).key_of entry ≡ Some key → IsClusterWith profile entry key.cluster (static_body (body_in entry))
 template_reads profile entry key is =
     let of : IsOfKey (read_static profile entry) key = (template_body (is_template (body_in entry)) (read_static profile entry) key is).of in
-    (of.text, of.is)
+    record { own = of.own; reads = of.is; same = of.same }
 
 pub guards_clusters : (profile : Profile) → GuardsClusters (by_names profile)
 guards_clusters profile entry key is = record {

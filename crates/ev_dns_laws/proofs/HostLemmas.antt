@@ -202,7 +202,7 @@ unfolding cluster_broken discovery_of
 discovered_good profile tree none =
     let light = ap (λ (b : BrokenRules). b.v13) none in
     static_good profile (holds_hosts profile tree) tree _
-    (no_rows (asks_hosts profile tree) (service_of tree) (source_is_limited (eds_source_of tree)) (is_envoy profile)) (right_false _ _ (right_false _ _ light))
+    (no_rows (asks_hosts profile tree) (service_of tree) (source_is_limited (eds_source_of tree)) (is_envoy profile)) (left_false _ _ (right_false _ _ (right_false _ _ light)))
 
 read_good : (profile : Profile) (tree : Data) (cluster : Cluster) → content_of profile Cds tree ≡ Ok (a_cluster cluster) → ByRecursion IsGoodRow (rows_in cluster.discovery)
 unfolding content_of
@@ -214,9 +214,9 @@ read_good profile tree cluster h =
 template_good : (profile : Profile) (entry : Data) (key : Key) → (by_names profile).key_of entry ≡ Some key → ByRecursion IsGoodRow (template_rows key)
 template_good profile entry key is =
     let read = template_reads profile entry key is in
-    let cluster : Cluster = record key.cluster { body_text = read.0 } in
-    read_good profile (static_body (body_in entry)) cluster
-    (good_content profile Cds (entry_name entry) (ttl_of entry) (static_body (body_in entry)) (a_cluster cluster) read.1)
+    subst (λ (c : Cluster). ByRecursion IsGoodRow (rows_in c.discovery)) read.same
+    (read_good profile (static_body (body_in entry)) read.own
+    (good_content profile Cds (entry_name entry) (ttl_of entry) (static_body (body_in entry)) (a_cluster read.own) read.reads))
 
 -- ---- addresses
 

@@ -13,7 +13,7 @@ use Rattle.ev_types.specs.declared.contents.Body.{Body}
 use Rattle.ev_types.specs.declared.contents.Body.TheVariants.{Good}
 use Rattle.ev_types.specs.declared.contents.Content.{Content}
 use Rattle.ev_types.specs.declared.events.Verdict.{Verdict}
-use Rattle.ev_types.specs.declared.events.Verdict.TheVariants.{New, Same, Kept, Unasked, Renewed, Refused}
+use Rattle.ev_types.specs.declared.events.Verdict.TheVariants.{New, InPlace, Back, Same, Kept, Unasked, Renewed, Refused}
 use Rattle.ev_types.specs.declared.limits.TheConstants.{ITEM_LIMIT}
 use Rattle.ev_types.specs.declared.rows.KeptVersion.{KeptVersion}
 use Rattle.ev_types.specs.declared.rows.Live.{Live}
@@ -42,6 +42,8 @@ use Rattle.ev_dns_laws.proofs.TextLemmas.{due_response}
 -- endpoints make no generation
 lives_same : (verdict : Verdict) (name : List ℕ) (body : Body) (lives : List Live) → fits Eds verdict ≡ true → lives_after Eds verdict name body lives ≡ lives
 lives_same New name body lives h = absurd (false≢true h)
+lives_same InPlace name body lives h = absurd (false≢true h)
+lives_same Back name body lives h = absurd (false≢true h)
 lives_same Same name body lives h = refl
 lives_same Kept name body lives h = refl
 lives_same Unasked name body lives h = refl

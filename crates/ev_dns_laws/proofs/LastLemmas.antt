@@ -1,4 +1,5 @@
--- After the last line that a line of the input gave, a watched place is reported exactly where its template is complete.
+-- After the last line that a line of the input gave, a watched place is reported exactly where its template is
+-- complete.
 use Rattle.std.proofs.Common.{◌≡◌, ◌∙◌, ◌⊎◌, inl, inr, ℕ, zero, suc, ◌+◌, ◌<◌, ◌≤◌, ◌==◌, Bool, true, false, cond, not, ◌&&◌, ◌||◌, nat_le, nat_lt, List, [], ◌∷◌, length, map, filter, flat_map, take, filter_map, decimal, Option, Some, None, codes, refl, sym, ap, subst, arith}
 use Rattle.std.specs.Prelude.{slice_get, unwrap_or}
 use Rattle.std.specs.List.{cons_option, last_or, list_any}

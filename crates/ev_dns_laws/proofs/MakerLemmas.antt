@@ -1,7 +1,8 @@
 -- What makes a generation that depends on endpoints is a response of clusters, by a cluster that asks for them.
-use Rattle.std.proofs.Common.{◌≡◌, ◌∙◌, inl, inr, ℕ, Bool, true, false, cond, not, List, [], ◌∷◌, flat_map, Option, Some, None, codes, refl, ap, subst}
+use Rattle.std.proofs.Common.{◌≡◌, ◌∙◌, inl, inr, ℕ, Bool, true, false, cond, not, ◌&&◌, ◌⊎◌, List, [], ◌∷◌, ◌++◌, flat_map, Option, Some, None, codes, refl, sym, ap, subst}
 use Rattle.std.specs.Prelude.{Result, Ok, Err}
 use Rattle.std.specs.List.{list_any, zip}
+use Rattle.std.specs.Str.{bytes_eq}
 use Rattle.std.proofs.lemmas.Bool.{false≢true}
 use Rattle.serde_json.specs.Data.{Data}
 use Rattle.ev_types.specs.Items.{ItemParts, ResponseParts}
@@ -10,9 +11,9 @@ use Rattle.ev_types.specs.declared.clusters.Cluster.{Cluster}
 use Rattle.ev_types.specs.declared.clusters.Discovery.{Discovery}
 use Rattle.ev_types.specs.declared.clusters.Discovery.TheVariants.{Static, Eds as by_name, Elsewhere}
 use Rattle.ev_types.specs.declared.contents.Kind.{Kind}
-use Rattle.ev_types.specs.declared.contents.Kind.TheVariants.{Cds, Eds, Lds, Rds}
+use Rattle.ev_types.specs.declared.contents.Kind.TheVariants.{Cds, Eds, Lds, Rds, Sds, Ecds}
 use Rattle.ev_types.specs.declared.contents.Content.{Content}
-use Rattle.ev_types.specs.declared.contents.Content.TheVariants.{Cluster as a_cluster, Assignment as an_assignment, Listener as a_listener, Routes as routes}
+use Rattle.ev_types.specs.declared.contents.Content.TheVariants.{Cluster as a_cluster, Assignment as an_assignment, Listener as a_listener, Routes as routes, Secret as a_secret, Extension as an_extension}
 use Rattle.ev_types.specs.declared.contents.Body.{Body}
 use Rattle.ev_types.specs.declared.contents.Body.TheVariants.{Good, Bad, Beat}
 use Rattle.ev_types.specs.declared.events.Answer.{Answer}
@@ -20,22 +21,25 @@ use Rattle.ev_types.specs.declared.events.Answer.TheVariants.{Replied}
 use Rattle.ev_types.specs.declared.events.Event.{Event}
 use Rattle.ev_types.specs.declared.events.Event.TheVariants.{Response}
 use Rattle.ev_types.specs.declared.events.Verdict.{Verdict}
-use Rattle.ev_types.specs.declared.events.Verdict.TheVariants.{New, Same, Kept, Unasked, Renewed, Refused}
+use Rattle.ev_types.specs.declared.events.Verdict.TheVariants.{New, InPlace}
 use Rattle.ev_types.specs.declared.listeners.Serve.{Serve}
 use Rattle.ev_types.specs.declared.listeners.Serve.TheVariants.{Rds as by_rds, Inline, Tcp, Other}
 use Rattle.ev_types.specs.declared.events.Profile.{Profile}
+use Rattle.ev_types.specs.declared.listeners.FilterChain.{FilterChain}
 use Rattle.ev_types.specs.declared.listeners.Listener.{Listener}
+use Rattle.ev_types.specs.declared.references.Reference.{Reference}
+use Rattle.ev_types.specs.Kinds.{kind_same}
 use Rattle.ev_model.specs.Entries.{MadeRow, made_by, made_in, made_in_response}
-use Rattle.ev_model.specs.Watching.{Dependency, dependency_same, discovery_dependencies, each_once, has_dependency, is_dependency, serve_dependencies, serves_of}
+use Rattle.ev_model.specs.Watching.{Dependency, chain_dependencies, chains_of, cluster_dependencies, cluster_secrets, dependency_same, discovery_dependencies, each_once, has_dependency, is_dependency, listener_dependencies, referred, serve_dependencies}
 use Rattle.ev_model_laws.proofs.AnyLemmas.{any_only}
-use Rattle.ev_model_laws.proofs.OperationLists.{IsIn, any_at, in_filter}
+use Rattle.ev_model_laws.proofs.OperationLists.{IsIn, any_at, in_filter, in_parts}
 use Rattle.ev_stream_laws.specs.Watches.{waits_for}
 use Rattle.ev_wire.specs.Bodies.{body_of, body_with, breaks_v1, content_of, content_with, is_heartbeat, own_broken, resource_of}
 use Rattle.ev_tree.specs.Broken.{least_of}
 use Rattle.ev_tree.specs.Forms.{field_of, inside}
 use Rattle.ev_tree.specs.declared.outcome.Found.{Found}
 use Rattle.ev_wire.specs.Responses.{entry_name, item_of, ttl_of}
-use Rattle.ev_expand_laws.proofs.ListLemmas.{in_any, in_flat}
+use Rattle.ev_expand_laws.proofs.ListLemmas.{in_any, in_flat, in_map}
 
 -- a cluster that asks for its endpoints by this name
 pub record IsAsking (name : List ℕ) (content : Content) : Type 0 where
@@ -65,27 +69,58 @@ serve_asks name (Inline table) h = false≢true h
 serve_asks name (Tcp target) h = false≢true h
 serve_asks name Other h = false≢true h
 
--- none of these serves does
-serves_ask : (name : List ℕ) (serves : List Serve) (d : Dependency) → IsIn d (flat_map serve_dependencies serves) → is_dependency Eds name d ≡ true → ⊥
-serves_ask name serves d is depends =
-    let serve = in_flat serve_dependencies serves d is in
-    serve_asks name serve.0 (any_at (is_dependency Eds name) d (serve_dependencies serve.0) serve.2 depends)
+-- what is of another kind than endpoints isn't asked for
+other_kind : (kind : Kind) (name : List ℕ) (d : Dependency) → d.kind ≡ kind → kind_same kind Eds ≡ false → is_dependency Eds name d ≡ true → ⊥
+other_kind kind name d of other depends =
+    false≢true (sym (ap (λ k. kind_same k Eds && bytes_eq d.name name) of ∙ ap (λ b. b && bytes_eq d.name name) other) ∙ depends)
+
+referred_kind : (kind : Kind) (references : List Reference) (d : Dependency) → IsIn d (referred kind references) → d.kind ≡ kind
+referred_kind kind references d is =
+    sym (ap (λ (e : Dependency). e.kind)
+    (in_map (λ (r : Reference). record { kind = kind; name = r.name; limited = r.limited; fresh = false }) references d is).2)
 
 in_once : (d : Dependency) (ds : List Dependency) → IsIn d (each_once ds) → IsIn d ds
 in_once d [] is = absurd is
 in_once d (first ∷ ds) (inl e) = inl e
 in_once d (first ∷ ds) (inr is) = inr (in_once d ds (in_filter (λ (other : Dependency). not (dependency_same first other)) d (each_once ds) is).0)
 
-listener_asks : (name : List ℕ) (listener : Listener) → list_any (is_dependency Eds name) (each_once (flat_map serve_dependencies (serves_of listener))) ≡ true → ⊥
-listener_asks name listener h =
-    let one = in_any (is_dependency Eds name) (each_once (flat_map serve_dependencies (serves_of listener))) h in
-    serves_ask name (serves_of listener) one.0 (in_once one.0 (flat_map serve_dependencies (serves_of listener)) one.1) one.2
+cluster_asks : (name : List ℕ) (cluster : Cluster) (d : Dependency) → is_dependency Eds name d ≡ true
+    → IsIn d (discovery_dependencies cluster.discovery) ⊎ IsIn d (referred Sds (cluster_secrets cluster)) → IsAsking name (a_cluster cluster)
+cluster_asks name cluster d depends (inl is) =
+    discovery_asks name cluster cluster.discovery refl (any_at (is_dependency Eds name) d (discovery_dependencies cluster.discovery) is depends)
+cluster_asks name cluster d depends (inr is) =
+    absurd (other_kind Sds name d (referred_kind Sds (cluster_secrets cluster) d is) refl depends)
+
+-- no chain does
+chain_asks : (name : List ℕ) (chain : FilterChain) (d : Dependency) → IsIn d (chain_dependencies chain) → is_dependency Eds name d ≡ true → ⊥
+chain_asks name chain d is depends =
+    by (in_parts d (serve_dependencies chain.serve) (referred Sds chain.secrets ++ referred Ecds chain.extensions) is)
+  where
+    by_reference : IsIn d (referred Sds chain.secrets) ⊎ IsIn d (referred Ecds chain.extensions) → ⊥
+    by_reference (inl own) = other_kind Sds name d (referred_kind Sds chain.secrets d own) refl depends
+    by_reference (inr own) = other_kind Ecds name d (referred_kind Ecds chain.extensions d own) refl depends
+
+    by : IsIn d (serve_dependencies chain.serve) ⊎ IsIn d (referred Sds chain.secrets ++ referred Ecds chain.extensions) → ⊥
+    by (inl own) = serve_asks name chain.serve (any_at (is_dependency Eds name) d (serve_dependencies chain.serve) own depends)
+    by (inr own) = by_reference (in_parts d (referred Sds chain.secrets) (referred Ecds chain.extensions) own)
+
+listener_asks : (name : List ℕ) (listener : Listener) (d : Dependency) → is_dependency Eds name d ≡ true
+    → IsIn d (flat_map chain_dependencies (chains_of listener)) ⊎ IsIn d (referred Ecds listener.extensions) → ⊥
+listener_asks name listener d depends (inl is) =
+    let chain = in_flat chain_dependencies (chains_of listener) d is in
+    chain_asks name chain.0 d chain.2 depends
+listener_asks name listener d depends (inr is) = other_kind Ecds name d (referred_kind Ecds listener.extensions d is) refl depends
 
 pub content_asks : (name : List ℕ) (content : Content) → has_dependency Eds name content ≡ true → IsAsking name content
-content_asks name (a_cluster cluster) h = discovery_asks name cluster cluster.discovery refl h
-content_asks name (an_assignment rows) h = absurd (false≢true h)
-content_asks name (a_listener listener) h = absurd (listener_asks name listener h)
-content_asks name (routes table) h = absurd (false≢true h)
+content_asks name (a_cluster cluster) h =
+    let one = in_any (is_dependency Eds name) (each_once (cluster_dependencies cluster)) h in
+    cluster_asks name cluster one.0 one.2
+    (in_parts one.0 (discovery_dependencies cluster.discovery) (referred Sds (cluster_secrets cluster)) (in_once one.0 (cluster_dependencies cluster) one.1))
+content_asks name (a_listener listener) h =
+    let one = in_any (is_dependency Eds name) (each_once (listener_dependencies listener)) h in
+    absurd (listener_asks name listener one.0 one.2
+    (in_parts one.0 (flat_map chain_dependencies (chains_of listener)) (referred Ecds listener.extensions) (in_once one.0 (listener_dependencies listener) one.1)))
+content_asks name content h = absurd (false≢true h)
 
 -- ---- what an event makes
 
@@ -110,13 +145,9 @@ zip_in (x ∷ xs) (y ∷ ys) p (inr is) = inr (zip_in xs ys p is)
 made_good : (kind : Kind) (verdict : Verdict) (name : List ℕ) (body : Body) (row : MadeRow) → IsIn row (made_by kind verdict name body) → body ≡ Good row.content
 made_good kind New name (Good content) row (inl e) = ap (λ (r : MadeRow). Good r.content) e
 made_good kind New name (Good content) row (inr none) = absurd none
-made_good kind New name (Bad rule) row is = absurd is
-made_good kind New name Beat row is = absurd is
-made_good kind Same name body row is = absurd is
-made_good kind Kept name body row is = absurd is
-made_good kind Unasked name body row is = absurd is
-made_good kind Renewed name body row is = absurd is
-made_good kind (Refused rule) name body row is = absurd is
+made_good kind InPlace name (Good content) row (inl e) = ap (λ (r : MadeRow). Good r.content) e
+made_good kind InPlace name (Good content) row (inr none) = absurd none
+made_good kind verdict name body row is = absurd is
 
 response_makes : (name : List ℕ) (response : ResponseParts) (kind : Option Kind) (verdicts : List Verdict) → response.kind ≡ kind
     → list_any (waits_for Eds name) (made_in_response kind response verdicts) ≡ true → IsMaker name (Response response)
@@ -150,15 +181,11 @@ maker_of name event answer h = absurd (false≢true h)
 -- a cluster is read of clusters alone
 abbrev IsOfKind : Kind → Content → Type 0
 IsOfKind kind (a_cluster cluster) = kind ≡ Cds
-IsOfKind kind (an_assignment rows) = Unit {0}
-IsOfKind kind (a_listener listener) = Unit {0}
-IsOfKind kind (routes table) = Unit {0}
+IsOfKind kind content = Unit {0}
 
 of_clusters : (content : Content) → IsOfKind Cds content
 of_clusters (a_cluster cluster) = refl
-of_clusters (an_assignment rows) = tt
-of_clusters (a_listener listener) = tt
-of_clusters (routes table) = tt
+of_clusters content = tt
 
 with_content : {A : Type 0} (kind : Kind) (make : A → Content) (read : Result A ℕ) (content : Content) → ((value : A) → IsOfKind kind (make value))
     → content_with make read ≡ Ok content → IsOfKind kind content
@@ -171,6 +198,8 @@ content_kind profile Cds body content is = of_clusters content
 content_kind profile Eds body content is = with_content Eds an_assignment _ content (λ value. tt) is
 content_kind profile Lds body content is = with_content Lds a_listener _ content (λ value. tt) is
 content_kind profile Rds body content is = with_content Rds routes _ content (λ value. tt) is
+content_kind profile Sds body content is = with_content Sds (λ good. a_secret) _ content (λ value. tt) is
+content_kind profile Ecds body content is = with_content Ecds (λ good. an_extension) _ content (λ value. tt) is
 
 good_with : (kind : Kind) (rule : Option ℕ) (read : Result Content ℕ) (content : Content) → ((c : Content) → read ≡ Ok c → IsOfKind kind c)
     → body_with rule read ≡ Good content → IsOfKind kind content

@@ -162,7 +162,8 @@ module _ (profile : Profile) (lines : List Data) (unused : first_use profile (co
       by : (entry : Data) → item_of profile Eds entry ≡ maker.item → ⊥
       by entry reads = differ (asking_kind profile name Eds entry maker.content (ap (λ (i : ItemParts). i.body) reads ∙ maker.good) maker.asks)
 
-  -- an entry that makes a generation which depends on the place's endpoints is what a line with a guarded resource of its key becomes
+  -- an entry that makes a generation which depends on the place's endpoints is what a line with a guarded resource of
+  -- its key becomes
   pub record Guards (entry : Entry) (by : IsBy profile lines entry) : Type 0 where
     pub own : IsOwn profile by.front by.inner by.tree
     pub guarded : has_guarded profile by.front.line g.key ≡ true

@@ -37,8 +37,8 @@ world_behind format trees journal k =
 abbrev pub last_number : Profile → List Data → ℕ
 last_number profile lines = length (given_lines (dns_rules profile) lines) + 1
 
--- The entry at place k is one of the stream, by the last line that a line of the input gave. The lines of an input are counted
--- from 0, after its header.
+-- The entry at place k is one of the stream, by the last line that a line of the input gave. The lines of an input
+-- are counted from 0, after its header.
 pub record IsLastEntry (profile : Profile) (journal : List Entry) (k : ℕ) (lines : List Data) (index : ℕ) : Type 0 where
   pub entry : Entry
   pub there : slice_get journal k ≡ Some entry
@@ -50,8 +50,8 @@ pub record IsLastEntry (profile : Profile) (journal : List Entry) (k : ℕ) (lin
 abbrev pub name_of_place : ℕ → List ℕ
 name_of_place place = private_name (codes "dns/") place
 
--- The endpoints of a place have come exactly where its template is complete by these lines, and are then its hosts. This holds for
--- each live generation that depends on them: where its wait is fresh they have come since it was made.
+-- The endpoints of a place have come exactly where its template is complete by these lines, and are then its hosts.
+-- This holds for each live generation that depends on them: where its wait is fresh they have come since it was made.
 pub record HasLastAnswers (world : World) (lines : List Data) (place : ℕ) (key : Key) : Type 0 where
   pub told : is_told world Eds (name_of_place place) ≡ is_complete lines key
   pub words : (live : Live) (d : Dependency)

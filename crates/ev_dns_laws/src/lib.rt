@@ -1,10 +1,11 @@
-//! The command `dns`: of the trees of a script's lines and resolutions the text of a script in which clusters wait for the
-//! addresses of their hosts, and the law that what its runs know of them is what the last answers say.
+//! The command `dns`: of the trees of a script's lines and resolutions the text of a script in which clusters wait
+//! for the addresses of their hosts, and the law that what its runs know of them is what the last answers say.
 //!
 //! # Choices
 //!
-//! - The text is made by `ev_dns`; that it is a script is the law of `ev_expand_laws`, whose premises are proved here: what is
-//!   written of the trees that were read is a line of a script, and endpoints of hosts nest by a constant.
+//! - The text is made by `ev_dns`; that it is a script is the law of `ev_expand_laws`, whose premises are proved
+//!   here: what is written of the trees that were read is a line of a script, and endpoints of hosts nest by a
+//!   constant.
 #![tactic(auto)]
 
 ghost use Rattle.std.specs.Prelude.{◌≡◌, false, Some, Ok, IfOk, OnOk};
@@ -30,9 +31,9 @@ use std::alloc::Global;
 /// resolutions. It is a script without fault, within the bounds of scripts.
 ///
 /// # Errors
-/// `Private` exactly for the first line that uses a name that begins with `dns/` for endpoints. `Large` where there is none,
-/// exactly for the line with whose output the text goes above a limit of inputs. `OutOfMemory` where memory runs out, and for 2^32
-/// lines and more.
+/// `Private` exactly for the first line that uses a name that begins with `dns/` for endpoints. `Large` where there
+/// is none, exactly for the line with whose output the text goes above a limit of inputs. `OutOfMemory` where memory
+/// runs out, and for 2^32 lines and more.
 pub fn resolve(alloc: Global, trees: &ScriptTrees) -> Result<Vec<u8>, ExpandError>
     requires read { (input : Input) × IsTreesAnswer dns_lines input (Ok trees.now) }
     ensures expanded { IsExpanded (dns_rules trees.now.header.profile) (view trees.now.head)

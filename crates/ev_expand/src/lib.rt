@@ -1,12 +1,13 @@
-//! What the commands that make scripts of scripts share: a resource of clusters that is guarded waits for endpoints by a private
-//! name, and a line with them follows each line at which they are due.
+//! What the commands that make scripts of scripts share: a resource of clusters that is guarded waits for endpoints
+//! by a private name, and a line with them follows each line at which they are due.
 //!
-//! - What a command guards, which numbers are due and what their endpoints are is said by a type (`Expansion`), which takes one
-//!   line after another; all else is written here once.
-//! - Each line's length, and the number of lines and bytes, is looked at when the line is written. A line that doesn't fit is an
-//!   answer and no error: the text stays as it was, within the limits. But private names are looked for in all lines first.
-//! - A key is a cluster as it was read, its name included, with the names that it refers to. It is found by a look-up that feeds
-//!   all of it, so many contents under one name are no slower than as many names.
+//! - What a command guards, which numbers are due and what their endpoints are is said by a type (`Expansion`), which
+//!   takes one line after another; all else is written here once.
+//! - Each line's length, and the number of lines and bytes, is looked at when the line is written. A line that
+//!   doesn't fit is an answer and no error: the text stays as it was, within the limits. But private names are looked
+//!   for in all lines first.
+//! - A key is a cluster as it was read, its name included, with the names that it refers to. It is found by a look-up
+//!   that feeds all of it, so many contents under one name are no slower than as many names.
 #![tactic(auto)]
 
 mod editing;

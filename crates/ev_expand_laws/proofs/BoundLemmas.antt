@@ -12,7 +12,7 @@ use Rattle.ev_types.specs.Items.{ResponseParts}
 use Rattle.ev_types.specs.Scripts.{IsScript, items_in, items_of}
 use Rattle.ev_types.specs.Texts.{IsName}
 use Rattle.ev_types.specs.declared.contents.Kind.{Kind}
-use Rattle.ev_types.specs.declared.contents.Kind.TheVariants.{Cds, Eds, Lds, Rds}
+use Rattle.ev_types.specs.Kinds.{is_by_name}
 use Rattle.ev_types.specs.declared.limits.TheConstants.{MAX_NAME_LENGTH, MAX_WORKERS}
 use Rattle.ev_types.specs.declared.events.Actor.{Actor}
 use Rattle.ev_types.specs.declared.events.Actor.TheVariants.{Stream, Health as health, Timer, Main, Worker}
@@ -34,7 +34,7 @@ use Rattle.ev_script.specs.Script.{script_made}
 use Rattle.ev_script.specs.ReadScript.{AreNumbered}
 use Rattle.ev_script.specs.StreamLines.{response_line}
 use Rattle.ev_script.specs.HealthLines.{health_line}
-use Rattle.ev_script.specs.TimerLines.{timeout_of, timeout_line, drain_line, expired_line}
+use Rattle.ev_script.specs.TimerLines.{named_timeout, whole_timeout, timeout_of, timeout_line, drain_line, expired_line}
 use Rattle.ev_script.specs.WorkerLines.{worker_in, worker_line, accept_line, close_line, settle_line}
 use Rattle.ev_script.proofs.KeptLemmas.{kept_line}
 use Rattle.ev_script.proofs.ScriptLemmas.{script_kept}
@@ -135,8 +135,8 @@ IsFew n response = length response.items ≤ n
 response_few : (profile : Profile) (tree : Data) → IfSome (response_of profile tree) (IsFew (elements tree))
 unfolding response_of
 response_few profile tree =
-    tested (IsFew (elements tree)) (is_response tree) (Some (parts_of profile (response_kind tree) (nonce_of tree) tree))
-    (parts_few profile (response_kind tree) (nonce_of tree) tree)
+    tested (IsFew (elements tree)) (is_response profile tree) (Some (parts_of profile (response_kind profile tree) (nonce_of tree) tree))
+    (parts_few profile (response_kind profile tree) (nonce_of tree) tree)
 
 inner_few : (n : ℕ) (tree : Data) (found : Option ResponseParts) → elements tree ≤ n → IfSome found (IsFew (elements tree)) → IfSome found (IsFew n)
 inner_few n tree None less h = tt
@@ -165,21 +165,21 @@ module _ (profile : Profile) (tree : Data) where
       mapped (λ x. Unit {0}) (BringsAtMost (elements tree)) (λ healthy. Health cluster host healthy) (member_of as_bool (codes "healthy") tree) (anything (member_of as_bool (codes "healthy") tree)) (λ healthy _. omega arith)))))
 
   timeout_few : (kind : Kind) → IfSome (timeout_of kind tree) (BringsAtMost (elements tree))
-  timeout_few Cds = tested (BringsAtMost (elements tree)) _ (Some (FetchTimeout (record { kind = Cds; name = None }))) (omega arith)
-  timeout_few Eds = tested (BringsAtMost (elements tree)) _ _ (mapped (λ x. Unit {0}) (BringsAtMost (elements tree)) (λ name. FetchTimeout (record { kind = Eds; name = Some name })) (member_of name_of (codes "name") tree) (anything (member_of name_of (codes "name") tree)) (λ name _. omega arith))
-  timeout_few Lds = tested (BringsAtMost (elements tree)) _ (Some (FetchTimeout (record { kind = Lds; name = None }))) (omega arith)
-  timeout_few Rds = tested (BringsAtMost (elements tree)) _ _ (mapped (λ x. Unit {0}) (BringsAtMost (elements tree)) (λ name. FetchTimeout (record { kind = Rds; name = Some name })) (member_of name_of (codes "name") tree) (anything (member_of name_of (codes "name") tree)) (λ name _. omega arith))
+  timeout_few kind =
+      either (BringsAtMost (elements tree)) (is_by_name kind) (named_timeout kind tree) (whole_timeout kind tree)
+      (tested (BringsAtMost (elements tree)) _ _ (mapped (λ x. Unit {0}) (BringsAtMost (elements tree)) (λ name. FetchTimeout (record { kind = kind; name = Some name })) (member_of name_of (codes "name") tree) (anything (member_of name_of (codes "name") tree)) (λ name _. omega arith)))
+      (tested (BringsAtMost (elements tree)) _ (Some (FetchTimeout (record { kind = kind; name = None }))) (omega arith))
 
-  timeouts_few : (at : ℕ) → IfSome (timeout_line at tree) (HasItems (elements tree))
-  timeouts_few at = line_with (elements tree) at Timer _ (chained (λ x. Unit {0}) (BringsAtMost (elements tree)) (λ kind. timeout_of kind tree) (kind_in tree) (anything (kind_in tree)) (λ kind _. timeout_few kind))
+  timeouts_few : (at : ℕ) → IfSome (timeout_line profile at tree) (HasItems (elements tree))
+  timeouts_few at = line_with (elements tree) at Timer _ (chained (λ x. Unit {0}) (BringsAtMost (elements tree)) (λ kind. timeout_of kind tree) (kind_in profile tree) (anything (kind_in profile tree)) (λ kind _. timeout_few kind))
 
   drain_few : (at : ℕ) → IfSome (drain_line at tree) (HasItems (elements tree))
   drain_few at = tested (HasItems (elements tree)) _ _ (line_with (elements tree) at Timer _ (mapped (λ x. Unit {0}) (BringsAtMost (elements tree)) (λ name. DrainTimeout name) (member_of name_of (codes "listener") tree) (anything (member_of name_of (codes "listener") tree)) (λ name _. omega arith)))
 
-  expired_few : (at : ℕ) → IfSome (expired_line at tree) (HasItems (elements tree))
+  expired_few : (at : ℕ) → IfSome (expired_line profile at tree) (HasItems (elements tree))
   expired_few at =
       tested (HasItems (elements tree)) _ _ (line_with (elements tree) at Timer _
-      (chained (λ x. Unit {0}) (BringsAtMost (elements tree)) _ (kind_in tree) (anything (kind_in tree)) (λ kind _.
+      (chained (λ x. Unit {0}) (BringsAtMost (elements tree)) _ (kind_in profile tree) (anything (kind_in profile tree)) (λ kind _.
       mapped (λ x. Unit {0}) (BringsAtMost (elements tree)) (λ name. TtlExpired kind name) (member_of name_of (codes "name") tree) (anything (member_of name_of (codes "name") tree)) (λ name _. omega arith))))
 
   worker_few : (at : ℕ) (event : Option Event) → IfSome event (BringsAtMost (elements tree)) → IfSome (worker_line at event tree) (HasItems (elements tree))

@@ -1,4 +1,5 @@
--- What is guarded in an input is less than the script that is written may have resources, so private names tell places apart.
+-- What is guarded in an input is less than the script that is written may have resources, so private names tell
+-- places apart.
 use Rattle.std.proofs.Common.{◌≡◌, ◌∙◌, ℕ, ◌+◌, ◌<◌, ◌≤◌, Bool, true, false, cond, not, List, [], ◌∷◌, ◌++◌, length, filter_map, flat_map, decimal, Option, Some, None, option_map, is_some, refl, sym, ap, arith, length-append, append_assoc}
 use Rattle.std.specs.Prelude.{option_to_list}
 use Rattle.std.specs.List.{cons_option, list_any}

@@ -10,14 +10,14 @@ use Rattle.serde_json.specs.Data.{Data, null, boolean, number, string, array, ob
 use Rattle.serde_json.specs.Find.{get, get_member}
 use Rattle.serde_json.specs.View.{items_of}
 use Rattle.ev_types.specs.declared.contents.Kind.{Kind}
-use Rattle.ev_types.specs.declared.contents.Kind.TheVariants.{Cds, Eds, Lds, Rds}
+use Rattle.ev_types.specs.declared.contents.Kind.TheVariants.{Cds, Eds}
 use Rattle.ev_types.specs.declared.events.Profile.{Profile}
 use Rattle.ev_tree.specs.declared.outcome.Found.{Found}
 use Rattle.ev_tree.specs.declared.outcome.Found.TheVariants.{Absent, Wrong, Given}
 use Rattle.ev_tree.specs.Spelling.{camel_of}
 use Rattle.ev_tree.specs.Scalars.{list_in, elements_of}
 use Rattle.ev_tree.specs.Forms.{is_object, inside, listed, present_member, value_or_absent, either_spelling, field_of, in_form, value_or_wrong, object_in, objects_in, object_of, objects_of}
-use Rattle.ev_wire.specs.Requests.{type_url}
+use Rattle.ev_types.specs.Kinds.{type_url}
 use Rattle.ev_wire.specs.Responses.{entries_of}
 use Rattle.ev_expand.specs.Editing.{members_without, without, with_value}
 use Rattle.ev_expand.specs.Fronts.{event_of, message_of}
@@ -230,9 +230,7 @@ response_depth message = omega arith
 listed_within : (kind : Option Kind) (message : Data) (n : ℕ) → depth message ≤ n + 2 → AreWithin n (listed_as kind message)
 listed_within None message n h = none_within n
 listed_within (Some Cds) message n h = entries_within message n h
-listed_within (Some Eds) message n h = none_within n
-listed_within (Some Lds) message n h = none_within n
-listed_within (Some Rds) message n h = none_within n
+listed_within (Some kind) message n h = none_within n
 
 -- the resources of clusters of a line are less deep than it by three
 pub clusters_within : (profile : Profile) (line : Data) (n : ℕ) → depth line ≤ n + 3 → AreWithin n (clusters_in profile line)

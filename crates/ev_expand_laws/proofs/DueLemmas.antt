@@ -1,4 +1,5 @@
--- The places that are due at a line, by any rules: the names in the line that follows are theirs, and what they guard is due.
+-- The places that are due at a line, by any rules: the names in the line that follows are theirs, and what they guard
+-- is due.
 use Rattle.std.proofs.Common.{◌≡◌, ◌∙◌, inl, inr, ℕ, suc, ◌+◌, ◌<◌, true, List, [], ◌∷◌, ◌++◌, length, take, filter, filter_map, flat_map, Option, Some, None, option_map, sym, ap, subst, arith}
 use Rattle.std.specs.Prelude.{slice_get, drop}
 use Rattle.std.specs.List.{enumerate_from, list_any}

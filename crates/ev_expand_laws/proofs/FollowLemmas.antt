@@ -12,8 +12,9 @@ use Rattle.ev_tree.specs.Spelling.{camel_of}
 use Rattle.ev_tree.specs.Scalars.{list_in}
 use Rattle.ev_tree.specs.Forms.{is_object, is_text, is_wrong, given_or, listed, text_in, field_of, in_form, value_or_wrong, objects_in, texts_in, text_of, objects_of, texts_of}
 use Rattle.ev_tree.proofs.Elements.{elements_of-items_of}
-use Rattle.ev_wire.specs.Requests.{type_url}
-use Rattle.ev_wire.specs.Responses.{entry_name, is_entry, item_of, kind_with, response_kind, nonce_of, entries_of, removed_of, has_head, has_lists, has_lists_of, parts_of, given_if, response_of}
+use Rattle.ev_types.specs.Kinds.{type_url}
+use Rattle.ev_wire.specs.Kinds.{kind_with}
+use Rattle.ev_wire.specs.Responses.{entry_name, is_entry, item_of, response_kind, nonce_of, entries_of, removed_of, has_head, has_lists, has_lists_of, parts_of, given_if, response_of}
 use Rattle.ev_expand.specs.Guarding.{private_name}
 use Rattle.ev_expand.specs.Following.{DueParts, endpoints_entry, entry_due, name_without, name_due, with_list}
 use Rattle.ev_expand_laws.specs.Waiting.{name_with, bare_name, name_left, following_response}
@@ -180,9 +181,9 @@ names_given profile prefix version (d ∷ due) =
 
 -- ---- the response
 
-type_is : (nonce : List ℕ) (items removed : List Data) → response_kind (message_of_lists nonce items removed) ≡ Some Eds
+type_is : (profile : Profile) (nonce : List ℕ) (items removed : List Data) → response_kind profile (message_of_lists nonce items removed) ≡ Some Eds
 unfolding response_kind
-type_is nonce items removed = ap (λ (f : Found (List ℕ)). kind_with (given_or [] f)) (type_found nonce items removed)
+type_is profile nonce items removed = ap (λ (f : Found (List ℕ)). kind_with profile (given_or [] f)) (type_found nonce items removed)
 
 nonce_is : (nonce : List ℕ) (items removed : List Data) → nonce_of (message_of_lists nonce items removed) ≡ nonce
 unfolding nonce_of
@@ -224,7 +225,7 @@ lists_read : (profile : Profile) (nonce : List ℕ) (items : List Data) (removed
 unfolding response_of
 lists_read profile nonce items removed some objects entries =
     let tree : Data = message_of_lists nonce items (map string removed) in
-    let kind : response_kind tree ≡ Some Eds = type_is nonce items (map string removed) in
+    let kind : response_kind profile tree ≡ Some Eds = type_is profile nonce items (map string removed) in
     (λ i. given_if (head_is nonce items (map string removed) some i && has_lists_of (kind i) tree) (parts_of profile (kind i) (nonce_is nonce items (map string removed) i) tree))
     ∙ (λ i. given_if (lists_are nonce items removed objects entries i) (parts_of profile (Some Eds) nonce tree))
     ∙ (λ i. Some (record {

@@ -1,5 +1,5 @@
 -- A resource whose body waits is read as the cluster that waits.
-use Rattle.std.proofs.Common.{◌≡◌, ◌∙◌, ℕ, zero, suc, ◌+◌, ◌≤◌, Bool, true, false, true≢false, not, ◌&&◌, nat_lt, ◌==◌, ◌/◌, ◌%◌, cond, List, [], ◌∷◌, length, Option, Some, None, Result, Ok, Err, codes, decimal, refl, sym, ap, arith, length-append}
+use Rattle.std.proofs.Common.{◌≡◌, ◌∙◌, ℕ, zero, suc, ◌+◌, ◌≤◌, Bool, true, false, true≢false, not, ◌&&◌, nat_lt, ◌==◌, ◌/◌, ◌%◌, cond, List, [], ◌∷◌, length, Option, Some, None, Result, Ok, Err, codes, decimal, refl, sym, ap, subst, arith, length-append}
 use Rattle.std.specs.Prelude.{unwrap_or}
 use Rattle.std.specs.Str.{bytes_eq}
 use Rattle.std.proofs.lemmas.Bool.Decides.{nat_tests}
@@ -23,7 +23,7 @@ use Rattle.ev_tree.specs.Spans.{is_not_positive}
 use Rattle.ev_tree.specs.Broken.{none_broken, least_of}
 use Rattle.ev_cluster_json.specs.Clusters.{cluster_reading, has_custom_type}
 use Rattle.ev_cluster_json.proofs.RowsMade.{not_false}
-use Rattle.ev_wire.specs.Requests.{type_url}
+use Rattle.ev_types.specs.Kinds.{type_url}
 use Rattle.ev_wire.specs.Bodies.{is_heartbeat, is_positive, is_of_type, breaks_v1, breaks_v2, differs, breaks_v3, own_broken, content_with, content_of, body_with, resource_of, body_of}
 use Rattle.ev_wire.specs.Responses.{entry_name, ttl_of, item_of}
 use Rattle.ev_expand.specs.Editing.{with_value}
@@ -258,13 +258,14 @@ pub item_waits : (profile : Profile) (prefix : List ℕ) (place : ℕ) (entry tr
 item_waits profile prefix place entry tree cluster short keeps none good =
     let service : List ℕ = private_name prefix place in
     let body : Data = body_in entry in
-    let own : Cluster = record cluster { body_text = good.0 } in
-    let is : IsGood profile (entry_name entry) (ttl_of entry) tree own = good_by profile (entry_name entry) (ttl_of entry) tree own good.1 in
+    let own : Cluster = good.own in
+    let is : IsGood profile (entry_name entry) (ttl_of entry) tree own = good_by profile (entry_name entry) (ttl_of entry) tree own good.reads in
     let object : is_object body ≡ true = sym keeps.object ∙ typed_object tree is.typed in
     let waits : KeepsFields tree (waiting_body service body) = keeps_both body tree (waiting_body service body) keeps (waiting_keeps service body) in
     let made : IsGood profile (entry_name entry) (ttl_of entry) (waiting_body service body) (waiting_cluster profile service body cluster) =
-    waits_good profile (entry_name entry) service (ttl_of entry) body tree own waits object (kept_custom body tree keeps ∙ none) (some_name prefix place)
-    (short_name prefix place short) is in
+    subst (λ (c : Cluster). IsGood profile (entry_name entry) (ttl_of entry) (waiting_body service body) (waiting_cluster profile service body c)) good.same
+    (waits_good profile (entry_name entry) service (ttl_of entry) body tree own waits object (kept_custom body tree keeps ∙ none) (some_name prefix place)
+    (short_name prefix place short) is) in
     item_with profile (waiting_body service body) entry (a_cluster (waiting_cluster profile service body cluster)) (entry_object entry object)
     ((waiting_keeps service body).object ∙ object)
     (by_good profile (entry_name entry) (ttl_of entry) (waiting_body service body) (waiting_cluster profile service body cluster) made)

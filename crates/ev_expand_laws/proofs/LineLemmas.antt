@@ -6,7 +6,7 @@ use Rattle.serde_json.specs.Data.{Data, array}
 use Rattle.serde_json.specs.View.{items_of}
 use Rattle.ev_types.specs.Items.{ResponseParts}
 use Rattle.ev_types.specs.declared.contents.Kind.{Kind}
-use Rattle.ev_types.specs.declared.contents.Kind.TheVariants.{Cds, Eds, Lds, Rds}
+use Rattle.ev_types.specs.declared.contents.Kind.TheVariants.{Cds}
 use Rattle.ev_types.specs.declared.events.Actor.TheVariants.{Stream}
 use Rattle.ev_types.specs.declared.events.Event.{Event}
 use Rattle.ev_types.specs.declared.events.Event.TheVariants.{Response}
@@ -17,7 +17,8 @@ use Rattle.ev_tree.specs.Spelling.{camel_of}
 use Rattle.ev_tree.specs.Scalars.{list_in}
 use Rattle.ev_tree.specs.Forms.{is_object, is_wrong, given_or, listed, text_in, field_of, in_form, value_or_wrong, objects_in, text_of, objects_of, texts_of}
 use Rattle.ev_tree.proofs.Elements.{elements_of-items_of}
-use Rattle.ev_wire.specs.Responses.{is_entry, item_of, kind_with, response_kind, nonce_of, entries_of, removed_of, has_head, has_lists, has_lists_of, is_response, parts_of, given_if, response_of}
+use Rattle.ev_wire.specs.Kinds.{kind_with}
+use Rattle.ev_wire.specs.Responses.{is_entry, item_of, response_kind, nonce_of, entries_of, removed_of, has_head, has_lists, has_lists_of, is_response, parts_of, given_if, response_of}
 use Rattle.ev_script.specs.LineForms.{line_at}
 use Rattle.ev_script.specs.Lines.{line_of}
 use Rattle.ev_expand.specs.Editing.{with_value}
@@ -109,9 +110,9 @@ type_with : (entries : List Data) (message : Data) → text_of (codes "type_url"
 type_with entries message =
     text_by (codes "type_url") message (message_with entries message) (field_with_other (codes "type_url") (codes "resources") (array (items_of entries)) message keeps_type_url)
 
-kind_same : (entries : List Data) (message : Data) → response_kind (message_with entries message) ≡ response_kind message
+kind_same : (profile : Profile) (entries : List Data) (message : Data) → response_kind profile (message_with entries message) ≡ response_kind profile message
 unfolding response_kind
-kind_same entries message = ap (λ (f : Found (List ℕ)). kind_with (given_or [] f)) (type_with entries message)
+kind_same profile entries message = ap (λ (f : Found (List ℕ)). kind_with profile (given_or [] f)) (type_with entries message)
 
 nonce_same : (entries : List Data) (message : Data) → nonce_of (message_with entries message) ≡ nonce_of message
 unfolding nonce_of
@@ -175,19 +176,19 @@ parts_kind : (profile : Profile) (kind : Option Kind) (nonce : List ℕ) (messag
 parts_kind profile None nonce message = refl
 parts_kind profile (Some kind) nonce message = refl
 
--- a response of this kind
-pub record IsOfKind (kind : Kind) (message : Data) : Type 0 where
+-- a response of this kind, as a profile reads it
+pub record IsOfKind (profile : Profile) (kind : Kind) (message : Data) : Type 0 where
   pub head : has_head message ≡ true
   pub lists : has_lists message ≡ true
-  pub typed : response_kind message ≡ Some kind
+  pub typed : response_kind profile message ≡ Some kind
 
 pub of_kind : (profile : Profile) (kind : Kind) (message : Data) (response : ResponseParts) → response_of profile message ≡ Some response → response.kind ≡ Some kind
-    → IsOfKind kind message × (parts_of profile (Some kind) (nonce_of message) message ≡ response)
+    → IsOfKind profile kind message × (parts_of profile (Some kind) (nonce_of message) message ≡ response)
 unfolding response_of
 of_kind profile kind message response e h =
-    let given = given_some (is_response message) (parts_of profile (response_kind message) (nonce_of message) message) response e in
-    let same : response_kind message ≡ Some kind =
-    sym (parts_kind profile (response_kind message) (nonce_of message) message) ∙ ap (λ (r : ResponseParts). r.kind) given.1 ∙ h in (
+    let given = given_some (is_response profile message) (parts_of profile (response_kind profile message) (nonce_of message) message) response e in
+    let same : response_kind profile message ≡ Some kind =
+    sym (parts_kind profile (response_kind profile message) (nonce_of message) message) ∙ ap (λ (r : ResponseParts). r.kind) given.1 ∙ h in (
       record {
         head = and_first (has_head message) _ given.0;
         lists = sym (ap (λ (k : Option Kind). has_lists_of k message) same) ∙ and_last (has_head message) _ given.0;
@@ -197,12 +198,12 @@ of_kind profile kind message response e h =
     )
 
 -- a message with other resources is read as the response with these
-response_with : (profile : Profile) (kind : Kind) (entries : List Data) (message : Data) → IsOfKind kind message → list_all is_object entries ≡ true → list_all is_entry entries ≡ true
+response_with : (profile : Profile) (kind : Kind) (entries : List Data) (message : Data) → IsOfKind profile kind message → list_all is_object entries ≡ true → list_all is_entry entries ≡ true
     → response_of profile (message_with entries message) ≡ Some (record (parts_of profile (Some kind) (nonce_of message) message) { items = map (item_of profile kind) entries })
 unfolding response_of
 response_with profile kind entries message is objects items =
     let made : Data = message_with entries message in
-    let same : response_kind made ≡ Some kind = kind_same entries message ∙ is.typed in
+    let same : response_kind profile made ≡ Some kind = kind_same profile entries message ∙ is.typed in
     let object : is_object message ≡ true = head_object message is.head in
     (λ i. given_if ((head_same entries message ∙ is.head) i && has_lists_of (same i) made) (parts_of profile (same i) (nonce_same entries message i) made))
     ∙ (λ i. given_if (lists_with entries message object is.lists objects items i) (parts_of profile (Some kind) (nonce_of message) made))
@@ -234,9 +235,7 @@ line_made profile at message = refl
 clusters_kind : (test : Data → Bool) (kind : Option Kind) (message : Data) → list_any test (listed_as kind message) ≡ true → kind ≡ Some Cds
 clusters_kind test None message h = absurd (true≢false (sym h))
 clusters_kind test (Some Cds) message h = refl
-clusters_kind test (Some Eds) message h = absurd (true≢false (sym h))
-clusters_kind test (Some Lds) message h = absurd (true≢false (sym h))
-clusters_kind test (Some Rds) message h = absurd (true≢false (sym h))
+clusters_kind test (Some kind) message h = absurd (true≢false (sym h))
 
 -- the event is a response of clusters
 pub record IsOfClusters (event : Option Event) : Type 0 where

@@ -17,7 +17,7 @@ use Rattle.ev_types.specs.declared.events.Entry.{Entry}
 use Rattle.ev_types.specs.declared.events.Event.{Event}
 use Rattle.ev_types.specs.declared.events.Event.TheVariants.{Response, FetchTimeout}
 use Rattle.ev_types.specs.declared.events.Verdict.{Verdict}
-use Rattle.ev_types.specs.declared.events.Verdict.TheVariants.{New, Same, Kept, Unasked, Renewed, Refused}
+use Rattle.ev_types.specs.declared.events.Verdict.TheVariants.{Kept, Refused}
 use Rattle.ev_model.specs.Entries.{MadeRow, answers_wait, entries_for, entries_since, has_ended_wait, made_in, has_word_on, is_response_of, is_word_on, made_of, tells_of_name, times_out}
 use Rattle.ev_model.specs.Laws.{Told, WasWarm}
 use Rattle.ev_model.specs.Verdicts.{is_among, is_removed}
@@ -39,10 +39,7 @@ NamesEndpoints name event = ⊥
 word_named : (name : List ℕ) (verdict : Verdict) (item : ItemParts) → is_word_on name verdict item ≡ true → bytes_eq item.name name ≡ true
 word_named name Kept item h = h
 word_named name (Refused rule) item h = h
-word_named name New item h = absurd (false≢true h)
-word_named name Same item h = absurd (false≢true h)
-word_named name Unasked item h = absurd (false≢true h)
-word_named name Renewed item h = absurd (false≢true h)
+word_named name verdict item h = absurd (false≢true h)
 
 words_named : (name : List ℕ) (verdicts : List Verdict) (items : List ItemParts) → has_word_on name verdicts items ≡ true
     → list_any (λ (item : ItemParts). bytes_eq item.name name) items ≡ true

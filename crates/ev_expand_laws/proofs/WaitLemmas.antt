@@ -25,6 +25,11 @@ use Rattle.ev_tree.proofs.Unions.{least_none}
 use Rattle.ev_cluster_json.specs.declared.parts.TheConstants.{STATIC, LOGICAL_DNS, EDS}
 use Rattle.ev_cluster_json.specs.Assignments.{rows_of}
 use Rattle.ev_cluster_json.specs.Clusters.{name_of, type_of, is_static, is_eds, has_custom_type, is_in_cluster, is_by_eds, holds_hosts, asks_hosts, eds_of, eds_source_of, service_name_of, service_with, service_of, load_assignment_of, is_checked, cluster_own_broken, eds_broken, load_assignment_broken, cluster_broken, discovery_of, cluster_of, cluster_reading}
+use Rattle.ev_cluster_json.specs.declared.sockets.ClusterSecrets.{ClusterSecrets}
+use Rattle.ev_cluster_json.specs.Sockets.{matches_of, match_secrets, given_where, cluster_secrets}
+use Rattle.ev_secret_json.specs.declared.referring.References.{References}
+use Rattle.ev_secret_json.specs.References.{joined, each_joined, wrong_form}
+use Rattle.ev_secret_json.specs.TransportSockets.{socket_secrets, transport_secrets}
 use Rattle.ev_cluster_json.proofs.RowsMade.{left_false, right_false, not_false}
 use Rattle.ev_expand.specs.Editing.{without, with_value}
 use Rattle.ev_expand.specs.Guarding.{waiting_config, stripped_body, waiting_body}
@@ -97,6 +102,26 @@ keeps_health_checks = record {
   other_assignment = record { plain = refl; camel = refl };
 }
 
+keeps_socket : IsKept (codes "transport_socket")
+unfolding camel_of
+keeps_socket = record {
+  config = record { plain = refl; camel = refl };
+  type = record { plain = refl; camel = refl };
+  other_config = record { plain = refl; camel = refl };
+  assignment = record { plain = refl; camel = refl };
+  other_assignment = record { plain = refl; camel = refl };
+}
+
+keeps_matches : IsKept (codes "transport_socket_matches")
+unfolding camel_of
+keeps_matches = record {
+  config = record { plain = refl; camel = refl };
+  type = record { plain = refl; camel = refl };
+  other_config = record { plain = refl; camel = refl };
+  assignment = record { plain = refl; camel = refl };
+  other_assignment = record { plain = refl; camel = refl };
+}
+
 -- another tree has the same fields of those that a body keeps
 pub record KeepsFields (tree made : Data) : Type 0 where
   pub object : is_object made ≡ is_object tree
@@ -133,6 +158,26 @@ kept_checked : (tree made : Data) → KeepsFields tree made → is_checked made 
 unfolding is_checked
 kept_checked tree made keeps =
     ap (λ (found : Found (List Data)). not (length (listed found) == 0)) (objects_by (codes "health_checks") tree made (keeps.fields (codes "health_checks") keeps_health_checks))
+
+kept_secrets : (profile : Profile) (tree made : Data) → KeepsFields tree made → cluster_secrets profile made ≡ cluster_secrets profile tree
+unfolding cluster_secrets transport_secrets match_secrets matches_of
+kept_secrets Own tree made keeps = refl
+kept_secrets Envoy tree made keeps =
+    let socket : object_of (codes "transport_socket") made ≡ object_of (codes "transport_socket") tree =
+    object_by (codes "transport_socket") tree made (keeps.fields (codes "transport_socket") keeps_socket) in
+    let matches : objects_of (codes "transport_socket_matches") made ≡ objects_of (codes "transport_socket_matches") tree =
+    objects_by (codes "transport_socket_matches") tree made (keeps.fields (codes "transport_socket_matches") keeps_matches) in
+    λ i. secrets_by (socket i) (matches i)
+  where
+    secrets_by : Found Data → Found (List Data) → ClusterSecrets
+    secrets_by socket matches =
+        let own : References = joined (socket_secrets (inside socket)) (wrong_form (is_wrong socket)) in
+        let others : References = each_joined transport_secrets (listed matches) in
+        record {
+          own = own.list;
+          by_match = given_where (not (length (listed matches) == 0)) others.list;
+          broken = either_broken own.broken (either_broken others.broken (record none_broken { v6 = is_wrong matches }));
+        }
 
 -- ---- a body that waits
 
@@ -262,6 +307,8 @@ waits_cluster profile name body tree is none keeps some = λ i. record {
   name = kept_name tree (waiting_body name body) keeps i;
   discovery = waits_discovery profile name body is none some i;
   checked = kept_checked tree (waiting_body name body) keeps i;
+  secrets = (kept_secrets profile body (waiting_body name body) (waiting_keeps name body) i).own;
+  secrets_by_match = (kept_secrets profile body (waiting_body name body) (waiting_keeps name body) i).by_match;
   body_text = body_text_of profile (waiting_body name body);
 }
 
@@ -290,6 +337,43 @@ clear_sound profile tree clear none =
       positive = left_false _ _ (ap (λ (b : BrokenRules). b.v11) clear);
       checks = right_false _ _ v6;
     }
+
+-- where two parts together break nothing the second breaks nothing
+none_right : (a b : BrokenRules) → either_broken a b ≡ none_broken → b ≡ none_broken
+none_right a b none = λ i. record {
+  v1 = right_false a.v1 b.v1 (ap (λ (r : BrokenRules). r.v1) none) i;
+  v2 = right_false a.v2 b.v2 (ap (λ (r : BrokenRules). r.v2) none) i;
+  v3 = right_false a.v3 b.v3 (ap (λ (r : BrokenRules). r.v3) none) i;
+  v6 = right_false a.v6 b.v6 (ap (λ (r : BrokenRules). r.v6) none) i;
+  v7 = right_false a.v7 b.v7 (ap (λ (r : BrokenRules). r.v7) none) i;
+  v8 = right_false a.v8 b.v8 (ap (λ (r : BrokenRules). r.v8) none) i;
+  v9 = right_false a.v9 b.v9 (ap (λ (r : BrokenRules). r.v9) none) i;
+  v10 = right_false a.v10 b.v10 (ap (λ (r : BrokenRules). r.v10) none) i;
+  v11 = right_false a.v11 b.v11 (ap (λ (r : BrokenRules). r.v11) none) i;
+  v12 = right_false a.v12 b.v12 (ap (λ (r : BrokenRules). r.v12) none) i;
+  v13 = right_false a.v13 b.v13 (ap (λ (r : BrokenRules). r.v13) none) i;
+  v14 = right_false a.v14 b.v14 (ap (λ (r : BrokenRules). r.v14) none) i;
+  v16 = right_false a.v16 b.v16 (ap (λ (r : BrokenRules). r.v16) none) i;
+  v17 = right_false a.v17 b.v17 (ap (λ (r : BrokenRules). r.v17) none) i;
+  v18 = right_false a.v18 b.v18 (ap (λ (r : BrokenRules). r.v18) none) i;
+  v19 = right_false a.v19 b.v19 (ap (λ (r : BrokenRules). r.v19) none) i;
+  v20 = right_false a.v20 b.v20 (ap (λ (r : BrokenRules). r.v20) none) i;
+  v21 = right_false a.v21 b.v21 (ap (λ (r : BrokenRules). r.v21) none) i;
+  v22 = right_false a.v22 b.v22 (ap (λ (r : BrokenRules). r.v22) none) i;
+  v23 = right_false a.v23 b.v23 (ap (λ (r : BrokenRules). r.v23) none) i;
+  v24 = right_false a.v24 b.v24 (ap (λ (r : BrokenRules). r.v24) none) i;
+  v25 = right_false a.v25 b.v25 (ap (λ (r : BrokenRules). r.v25) none) i;
+  v26 = right_false a.v26 b.v26 (ap (λ (r : BrokenRules). r.v26) none) i;
+  v27 = right_false a.v27 b.v27 (ap (λ (r : BrokenRules). r.v27) none) i;
+  v28 = right_false a.v28 b.v28 (ap (λ (r : BrokenRules). r.v28) none) i;
+  v29 = right_false a.v29 b.v29 (ap (λ (r : BrokenRules). r.v29) none) i;
+}
+
+clear_secrets : (profile : Profile) (tree : Data) → cluster_broken profile tree ≡ none_broken → (cluster_secrets profile tree).broken ≡ none_broken
+unfolding cluster_broken
+clear_secrets profile tree clear =
+    none_right (broken_where (holds_hosts profile tree) (load_assignment_broken profile tree)) (cluster_secrets profile tree).broken
+    (none_right (eds_broken profile (asks_hosts profile tree) tree) _ (none_right (cluster_own_broken profile tree) _ clear))
 
 -- nothing but a name that is too long for one
 abbrev pub broken_by_length : List ℕ → BrokenRules
@@ -348,14 +432,15 @@ waits_broken profile name body is =
     ∙ (λ i. either_broken (source_right profile i) (broken_by_length name))
 
 waits_rules : (profile : Profile) (name : List ℕ) (body tree : Data) → is_object body ≡ true → KeepsFields tree (waiting_body name body) → HasSoundFields tree
-    → cluster_broken profile (waiting_body name body) ≡ broken_by_length name
+    → (cluster_secrets profile tree).broken ≡ none_broken → cluster_broken profile (waiting_body name body) ≡ broken_by_length name
 unfolding cluster_broken
-waits_rules profile name body tree is keeps sound =
+waits_rules profile name body tree is keeps sound clear =
     let made : Data = waiting_body name body in
     let none : has_custom_type made ≡ false = kept_custom tree made keeps ∙ sound.none_custom in
+    let secrets : (cluster_secrets profile made).broken ≡ none_broken = ap (λ (s : ClusterSecrets). s.broken) (kept_secrets profile tree made keeps) ∙ clear in
     (λ i. either_broken (waits_own profile name body tree is keeps sound i)
     (either_broken (eds_broken profile (waits_asked profile name body is none i) made)
-    (broken_where (waits_held profile name body is none i) (load_assignment_broken profile made))))
+    (either_broken (broken_where (waits_held profile name body is none i) (load_assignment_broken profile made)) (secrets i))))
     ∙ (λ i. either_broken none_broken (either_broken (waits_broken profile name body is i) none_broken))
     ∙ or_nothing (nat_lt MAX_NAME_BYTES (length name))
   where
@@ -382,7 +467,8 @@ pub waits_read : (profile : Profile) (name : List ℕ) (body tree : Data) (clust
     → cluster_reading profile (waiting_body name body) ≡ Ok (waiting_cluster profile name body cluster)
 waits_read profile name body tree cluster is keeps none some short reads =
     let parts = judged_ok (least_of (cluster_broken profile tree)) (cluster_of profile tree) cluster reads in
-    let sound : HasSoundFields tree = clear_sound profile tree (least_none (cluster_broken profile tree) parts.0) none in
+    let clear : cluster_broken profile tree ≡ none_broken = least_none (cluster_broken profile tree) parts.0 in
+    let sound : HasSoundFields tree = clear_sound profile tree clear none in
     let custom : has_custom_type (waiting_body name body) ≡ false = kept_custom tree (waiting_body name body) keeps ∙ none in
-    (λ i. judged (least_of (waits_rules profile name body tree is keeps sound i)) (waits_cluster profile name body tree is custom keeps some i))
+    (λ i. judged (least_of (waits_rules profile name body tree is keeps sound (clear_secrets profile tree clear) i)) (waits_cluster profile name body tree is custom keeps some i))
     ∙ (λ i. judged (least_of (record none_broken { v2 = short i })) (waiting_cluster profile name body (parts.1 i)))

@@ -13,6 +13,7 @@ abbrev pub run_told : Format → ScriptParts → List Entry → Told
 run_told format script journal =
     record { format = format; workers = script.workers; node = script.node; journal = journal }
 
--- The number, in the text, of what a line of the input became. The lines of an input are counted from 0, after its header.
+-- The number, in the text, of what a line of the input became. The lines of an input are counted from 0, after its
+-- header.
 abbrev pub place_given : Rules → List Data → ℕ → ℕ
 place_given rules lines index = length (given_lines rules (take index lines)) + 2

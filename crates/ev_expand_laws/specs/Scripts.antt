@@ -28,8 +28,9 @@ IsShallow endpoints = depth endpoints + 5 ≤ max_depth
 abbrev pub AreShallowAt : Rules → Front → Type 0
 AreShallowAt rules front = All (λ (g : Guarded). IfSome (rules.endpoints_of (up_to front) g) IsShallow) (guarded_at rules front)
 
--- Trees of an input of which a command makes a script: a header, and lines of its workers where they are written, which are read
--- by the header's profile. None is too deep, and no line that follows is. The nonces of added lines aren't empty.
+-- Trees of an input of which a command makes a script: a header, and lines of its workers where they are written,
+-- which are read by the header's profile. None is too deep, and no line that follows is. The nonces of added lines
+-- aren't empty.
 pub record IsExpandable (rules : Rules) (trees : ScriptTrees) : Type 0 where
   pub profile : rules.guard.profile ≡ trees.header.profile
   pub heads : header_of (view trees.head) ≡ Some trees.header

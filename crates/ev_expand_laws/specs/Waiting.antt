@@ -17,10 +17,12 @@ use Rattle.ev_types.specs.Profiles.{is_envoy}
 use Rattle.ev_tree.specs.declared.limits.TheConstants.{MAX_NAME_BYTES}
 use Rattle.ev_tree.specs.Floats.{body_text_of}
 use Rattle.ev_cluster_json.specs.Clusters.{has_custom_type}
+use Rattle.ev_cluster_json.specs.Sockets.{cluster_secrets}
 use Rattle.ev_wire.specs.Bodies.{resource_of}
 use Rattle.ev_wire.specs.Responses.{entry_name, ttl_of, item_of}
 use Rattle.ev_script.specs.Lines.{line_of}
 use Rattle.ev_expand.specs.declared.keys.Key.{Key}
+use Rattle.ev_expand.specs.Keys.{typed_cluster}
 use Rattle.ev_expand.specs.Editing.{with_value}
 use Rattle.ev_expand.specs.Fronts.{event_of}
 use Rattle.ev_expand.specs.Guarding.{Guard, Guarded, clusters_in, place_in, place_at, private_name, body_in, waiting_body, waiting_entry, waiting_entries, waiting_line}
@@ -28,12 +30,15 @@ use Rattle.ev_expand.specs.Following.{DueParts, entry_due, following_line}
 
 -- ---- clusters that wait
 
--- the cluster, waiting for this name without limit; as Envoy reads it for endpoints that come anew, and of another body
+-- the cluster, waiting for this name without limit; as Envoy reads it for endpoints that come anew, with the secrets
+-- that its body refers to, and of another body
 abbrev pub waiting_cluster : Profile → List ℕ → Data → Cluster → Cluster
 waiting_cluster profile name body cluster = record {
   name = cluster.name;
   discovery = by_name name false (is_envoy profile);
   checked = cluster.checked;
+  secrets = (cluster_secrets profile body).own;
+  secrets_by_match = (cluster_secrets profile body).by_match;
   body_text = body_text_of profile (waiting_body name body);
 }
 
@@ -51,9 +56,11 @@ static_body body = with_value (codes "type") (string (codes "STATIC")) body
 abbrev pub body_read : Profile → Data → Data → Body
 body_read profile entry tree = resource_of profile Cds (entry_name entry) (ttl_of entry) tree
 
--- with this tree as its body the resource is the cluster, but for the text of the body
-abbrev pub IsClusterWith : Profile → Data → Cluster → Data → Type 0
-IsClusterWith profile entry cluster tree = (text : List ℕ) × (body_read profile entry tree ≡ Good (a_cluster (record cluster { body_text = text })))
+-- with this tree as its body the resource is this cluster, but for its secrets and the text of the body
+pub record IsClusterWith (profile : Profile) (entry : Data) (cluster : Cluster) (tree : Data) : Type 0 where
+  pub own : Cluster
+  pub reads : body_read profile entry tree ≡ Good (a_cluster own)
+  pub same : typed_cluster own ≡ cluster
 
 -- the resource has no custom type, and is the cluster, or would be with the type STATIC
 pub record IsOfCluster (profile : Profile) (entry : Data) (cluster : Cluster) : Type 0 where
@@ -95,7 +102,8 @@ IsStreamLine profile tree response at = line_of profile at tree ≡ Some (stream
 abbrev pub names_in : List ItemParts → List (List ℕ)
 names_in items = map (λ (item : ItemParts). item.name) items
 
--- the line is a response of clusters, and as it waits it is that response with the guarded ones as they wait, under their names
+-- the line is a response of clusters, and as it waits it is that response with the guarded ones as they wait, under
+-- their names
 pub record WaitsAsSaid (prefix : List ℕ) (guard : Guard) (guarded : List Guarded) (line : Data) : Type 0 where
   pub response : ResponseParts
   pub event : event_of guard.profile line ≡ Some (Response response)
@@ -133,7 +141,8 @@ following_response profile prefix nonce version due = record {
   removed = filter_map (name_left prefix) due;
 }
 
--- the line that follows is that response, at any place, and the names of its items are those of the places that have endpoints
+-- the line that follows is that response, at any place, and the names of its items are those of the places that have
+-- endpoints
 pub record FollowsAsSaid (profile : Profile) (prefix nonce version : List ℕ) (due : List DueParts) : Type 0 where
   pub reads : (at : ℕ) → IsStreamLine profile (following_line prefix nonce version due) (following_response profile prefix nonce version due) at
   pub names : names_in (following_response profile prefix nonce version due).items ≡ filter_map (name_with prefix) due

@@ -9,7 +9,7 @@ ghost use Rattle.ev_model.specs.Rows.{new_row};
 ghost use Rattle.ev_generations.specs.Tables.{IsTable, row_in, with_status, without_row};
 
 use crate::Steps;
-use ev_types::{Content, Gen, GenRow, Kind, Name, RowStatus};
+use ev_types::{Content, Gen, GenRow, KeptChain, Kind, Name, RowStatus, Seq};
 use std::alloc::{AllocError, Global};
 use std::collections::BTreeMap;
 use std::collections::btree_map::Values;
@@ -66,11 +66,18 @@ impl Generations {
         self.made = made;
     }
 
-    /// A new row, which warms and has the next number. It costs one look-up by number. Out of memory, the table stays as it was.
-    pub fn add(&mut self, kind: Kind, name: Name, content: Content) -> Result<Gen, AllocError>
+    /// A new row, which warms, has the next number and keeps these chains of the row before it. It costs one look-up by number. Out of
+    /// memory, the table stays as it was.
+    pub fn add(
+        &mut self,
+        kind: Kind,
+        name: Name,
+        content: Content,
+        kept: Seq<KeptChain>,
+    ) -> Result<Gen, AllocError>
         requires { self.old.made + 1 < 2 ^ 32 }
         ensures number { IfOk result (λ number. number ≡ self.old.made + 1) }
-        ensures added { OnOk result (self.new.rows ≡ self.old.rows ++ new_row kind self.old.made name content ∷ []) }
+        ensures added { OnOk result (self.new.rows ≡ self.old.rows ++ new_row kind self.old.made name content kept ∷ []) }
         ensures made { OnOk result (self.new.made ≡ self.old.made + 1) }
         ensures table { OnOk result (IsTable self.new) }
         ensures err { OnErr result (self.new ≡ self.old) }
@@ -82,6 +89,7 @@ impl Generations {
             name,
             content,
             status: RowStatus::Warming,
+            kept,
         };
         let Ok(_) = self.rows.insert(number, row) else {
             return Err(AllocError);

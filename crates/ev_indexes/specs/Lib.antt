@@ -3,6 +3,7 @@ pub mod Standings
 pub mod Numbers
 pub mod Due
 pub mod Needs
+pub mod Origins
 pub mod Watched
 pub mod Addresses
 pub mod Ready

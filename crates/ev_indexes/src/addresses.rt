@@ -130,7 +130,7 @@ fn address_of(content: &Content) -> Option<&SocketAddress>
 {
     match content {
         Content::Listener(listener) => Some(&listener.get().address),
-        Content::Cluster(_) | Content::Assignment(_) | Content::Routes(_) => None,
+        _ => None,
     }
 }
 

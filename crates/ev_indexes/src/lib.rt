@@ -1,6 +1,6 @@
-//! The generations of one kind with their indexes: which are live of a name, which wait for which name, which hold an address, and
-//! which are due to serve; and what is read of them. The kind of the rows is a value, so that clusters and listeners share it:
-//! of clusters the index of addresses is empty by itself.
+//! The generations, clusters and listeners, with their indexes: which are live of a name of a kind, which wait for which name of
+//! which kind, which hold an address, and which are due to serve; and what is read of them. A kind is a value, in the keys of the
+//! indexes, so that one more kind that is asked for by name is no more than one more value.
 //!
 //! Each index equals a search of the rows (`IsIndexed`), and a question costs look-ups in place of the search. What shows or
 //! lists all goes over the table once and sorts by name. What is said of a world is said of every one that the state stands
@@ -16,6 +16,7 @@ mod names;
 mod needs;
 mod newest;
 mod numbers;
+mod origins;
 mod reads;
 mod ready;
 mod routings;
@@ -28,8 +29,9 @@ pub use addresses::Addresses;
 pub use due::Due;
 pub use hosts::{assignment, takes_result};
 pub use names::{Names, Standing};
-pub use needs::{Need, need_at, place_count};
+pub use needs::{Need, Needs};
 pub use numbers::Numbers;
+pub use origins::{KeptPlaces, kept_places, origin_of};
 pub use ready::refresh;
 pub use state::State;
 pub use watches::{Watch, Watches, put_all};

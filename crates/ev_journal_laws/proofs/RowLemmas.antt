@@ -5,7 +5,7 @@ use Rattle.ev_types.specs.Events.{MayMake, op_of}
 use Rattle.ev_types.specs.Items.{ResponseParts}
 use Rattle.ev_types.specs.declared.hosts.Host.{Host}
 use Rattle.ev_types.specs.declared.contents.Kind.{Kind}
-use Rattle.ev_types.specs.declared.contents.Kind.TheVariants.{Cds, Eds, Lds, Rds}
+use Rattle.ev_types.specs.declared.contents.Kind.TheVariants.{Cds, Eds, Lds, Rds, Sds, Ecds}
 use Rattle.ev_types.specs.declared.events.Actor.{Actor}
 use Rattle.ev_types.specs.declared.events.Actor.TheVariants.{Stream, Health as health_checker, Timer, Main, Worker}
 use Rattle.ev_types.specs.declared.events.Answer.{Answer}
@@ -20,10 +20,10 @@ use Rattle.ev_types.specs.declared.journals.Format.{Format}
 use Rattle.ev_types.specs.declared.rows.GenRow.{GenRow}
 use Rattle.ev_model.specs.declared.pictures.Picture.{Picture}
 use Rattle.ev_model.specs.declared.pictures.Choice.{Choice}
-use Rattle.ev_model.specs.declared.pictures.Choice.TheVariants.{NoListener, NoChain, Undecided, Elsewhere, NoRoute, Local, Redirect, NoCluster, NoEndpoint, Served}
+use Rattle.ev_model.specs.declared.pictures.Choice.TheVariants.{NoListener, NoChain, On}
 use Rattle.ev_model.specs.World.{World, OpenMember, last_version}
 use Rattle.ev_model.specs.Choice.{choice_of}
-use Rattle.ev_model.specs.Connections.{Worked, is_member, is_open, host_at, served_by, answer_of, opened_by, accepted}
+use Rattle.ev_model.specs.Connections.{Worked, is_member, is_open, answer_of, opened_by, accepted}
 use Rattle.ev_model.specs.Dead.{picture_held, shown_at}
 use Rattle.ev_model.specs.Picture.{shown_of, shown_same}
 use Rattle.ev_model.specs.Versions.{is_bounded}
@@ -61,26 +61,17 @@ to_timeout Cds name world = either to_time_out (is_some world.first_clusters || 
 to_timeout Eds name world = to_name Eds name world
 to_timeout Lds name world = either to_time_out (is_clusters world.phase || (is_some world.first_listeners || world.late_listeners)) _ _ refl refl
 to_timeout Rds name world = to_name Rds name world
+to_timeout Sds name world = to_name Sds name world
+to_timeout Ecds name world = to_name Ecds name world
 
 to_expiry : (numbers : List ℕ) (world : World) → MayHave to_drain (expire numbers world).1
 to_expiry [] world = refl
 to_expiry (number ∷ numbers) world = refl
 
-to_service : (listener cluster : ℕ) (host : Option Host) → MayHave to_accept (served_by listener cluster host)
-to_service listener cluster None = refl
-to_service listener cluster (Some host) = refl
-
 to_choice : (picture : Picture) (choice : Choice) → MayHave to_accept (answer_of picture choice)
 to_choice picture NoListener = refl
 to_choice picture NoChain = refl
-to_choice picture (Undecided listener) = refl
-to_choice picture (Elsewhere listener cluster) = refl
-to_choice picture (NoRoute listener) = refl
-to_choice picture (Local listener status) = refl
-to_choice picture (Redirect listener) = refl
-to_choice picture (NoCluster listener) = refl
-to_choice picture (NoEndpoint listener) = refl
-to_choice picture (Served listener cluster place) = to_service listener cluster (host_at picture cluster place)
+to_choice picture (On listener chain origin way) = refl
 
 to_ask : (picture : Picture) (ask : Ask) (worker : ℕ) (opened : List OpenMember) → MayHave to_accept (accepted picture ask worker opened).answer
 to_ask picture ask worker opened =

@@ -6,6 +6,7 @@ pub mod WordLemmas
 pub mod PartLemmas
 pub mod VersionLemmas
 pub mod RequestRead
+pub mod TakenRead
 pub mod RowRead
 pub mod KeptLemmas
 pub mod ChosenLemmas

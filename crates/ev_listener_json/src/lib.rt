@@ -23,8 +23,13 @@
 //! - `source_ports` and `source_type` have readers here, since ev_tree has none for a list of numbers, nor this enum.
 //! - By the own rules a TCP proxy's other specifiers (`cluster_header` and the like) break V22 as in a route: it is the
 //!   same reader. As Envoy reads it, it has no other specifiers, so they are passed over.
+//! - The filters of a chain are gone over once for what they serve and once for the extensions that they ask for, so each has a
+//!   definition by itself.
+//! - The text of a listener without its chains is that of a copy, made without them: it takes memory in proportion to its own length.
+//! - The chain of an API listener has the text of its connection manager.
 #![tactic(auto)]
 
+mod chain_extensions;
 mod chain_keys;
 mod chain_matches;
 mod chain_places;
@@ -33,6 +38,7 @@ mod cidr_ranges;
 mod collisions;
 mod envoy_chains;
 mod filters;
+mod frames;
 mod listener_filters;
 mod listeners;
 mod managers;

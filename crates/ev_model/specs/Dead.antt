@@ -3,7 +3,7 @@
 use Rattle.std.specs.Prelude.{ℕ, Bool, false, true, not, ◌&&◌, ◌||◌, ◌==◌, List, [], ◌∷◌, ◌++◌, map, Option, Some, None, slice_index_or}
 use Rattle.std.specs.List.{list_any, flat_map}
 use Rattle.ev_types.specs.declared.contents.Kind.{Kind}
-use Rattle.ev_types.specs.declared.contents.Kind.TheVariants.{Cds, Eds, Lds, Rds}
+use Rattle.ev_types.specs.declared.contents.Kind.TheVariants.{Cds, Eds, Lds, Rds, Sds, Ecds}
 use Rattle.ev_types.specs.declared.journals.Format.{Format}
 use Rattle.ev_types.specs.declared.journals.Format.TheVariants.{One, Two}
 use Rattle.ev_types.specs.declared.rows.RowStatus.{RowStatus}
@@ -66,6 +66,8 @@ waits_for_timer Two Cds = false
 waits_for_timer Two Eds = false
 waits_for_timer Two Lds = true
 waits_for_timer Two Rds = false
+waits_for_timer Two Sds = false
+waits_for_timer Two Ecds = false
 
 -- a generation that was dropped is dead, and one that drains where nothing holds it
 abbrev pub is_dead_at : RowStatus → Bool → Bool

@@ -12,7 +12,8 @@ use Rattle.ev_types.specs.declared.rows.KeptVersion.{KeptVersion}
 use Rattle.ev_types.specs.declared.rows.Live.{Live}
 use Rattle.ev_model.specs.World.{World, Arrived, HealthResult}
 use Rattle.ev_model.specs.Live.{lives_of}
-use Rattle.ev_model.specs.Watching.{is_watched, is_by_name}
+use Rattle.ev_types.specs.Kinds.{is_by_name}
+use Rattle.ev_model.specs.Watching.{is_watched}
 use Rattle.ev_model.specs.Warming.{is_ready_by, assignment_by}
 use Rattle.ev_model.specs.Rows.{is_row_of, with_statuses}
 use Rattle.ev_model.specs.Phase.{phase_after}
@@ -54,7 +55,7 @@ arrivals_watched lives arrivals = filter (λ (a : Arrived). is_watched lives a.k
 abbrev pub is_version_due : List Live → KeptVersion → Bool
 is_version_due lives kept = not (is_by_name kept.kind) || is_watched lives kept.kind kept.name
 
--- second: values, marks and versions of endpoints and routes go whose name isn't watched any more
+-- second: what is known of a name, and its version, are removed where the name isn't watched any more
 abbrev pub without_unwatched : World → World
 without_unwatched world = record world {
   arrivals = arrivals_watched (lives_of world) world.arrivals;

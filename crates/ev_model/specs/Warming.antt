@@ -13,7 +13,7 @@ use Rattle.ev_types.specs.declared.hosts.Host.{Host}
 use Rattle.ev_types.specs.declared.contents.Kind.{Kind}
 use Rattle.ev_types.specs.declared.contents.Kind.TheVariants.{Eds}
 use Rattle.ev_types.specs.declared.contents.Content.{Content}
-use Rattle.ev_types.specs.declared.contents.Content.TheVariants.{Cluster as a_cluster, Assignment as an_assignment, Listener as a_listener, Routes as routes}
+use Rattle.ev_types.specs.declared.contents.Content.TheVariants.{Cluster as a_cluster, Assignment as an_assignment, Listener as a_listener, Routes as routes, Secret as a_secret, Extension as an_extension}
 use Rattle.ev_types.specs.declared.clusters.Discovery.{Discovery}
 use Rattle.ev_types.specs.declared.clusters.Discovery.TheVariants.{Static, Eds as by_eds, Elsewhere}
 use Rattle.ev_types.specs.declared.rows.Arrival.{Arrival}
@@ -115,6 +115,8 @@ rows_in (Some (a_cluster cluster)) = []
 rows_in (Some (an_assignment rows)) = rows
 rows_in (Some (a_listener listener)) = []
 rows_in (Some (routes table)) = []
+rows_in (Some a_secret) = []
+rows_in (Some an_extension) = []
 
 -- the hosts given in a cluster, or the value of its service, or none
 abbrev pub discovered : List Arrived → Discovery → List HostRowParts
@@ -128,6 +130,8 @@ assignment_by arrivals (a_cluster cluster) = discovered arrivals cluster.discove
 assignment_by arrivals (an_assignment rows) = []
 assignment_by arrivals (a_listener listener) = []
 assignment_by arrivals (routes table) = []
+assignment_by arrivals a_secret = []
+assignment_by arrivals an_extension = []
 
 -- the assignment of a row now
 abbrev pub assignment_of : World → GenRow → List HostRowParts
@@ -139,6 +143,8 @@ is_checked (a_cluster cluster) = cluster.checked
 is_checked (an_assignment rows) = false
 is_checked (a_listener listener) = false
 is_checked (routes table) = false
+is_checked a_secret = false
+is_checked an_extension = false
 
 -- the result is of this row's number and this host
 abbrev pub is_result_of : ℕ → Host → HealthResult → Bool

@@ -8,6 +8,7 @@ use Rattle.ev_types.specs.declared.rows.Arrival.{Arrival}
 use Rattle.ev_types.specs.declared.rows.KeptVersion.{KeptVersion}
 use Rattle.ev_types.specs.declared.rows.Phase.{Phase}
 use Rattle.ev_types.specs.declared.rows.Phase.TheVariants.{Clusters}
+use Rattle.ev_types.specs.declared.origins.Origin.{Origin}
 use Rattle.ev_model.specs.declared.pictures.Shown.{Shown}
 
 -- something came for a name of this kind, when so many numbers were drawn: for the generations up to the last of them
@@ -23,12 +24,14 @@ pub record HealthResult : Type 0 where
   pub host : Host
   pub healthy : Bool
 
--- an open connection of a worker: on a listener's generation, and on a cluster's where it was forwarded
+-- an open connection of a worker: on a listener's generation, by the chain of this origin where one was found, and on a
+-- cluster's generation where it was forwarded
 pub record OpenMember : Type 0 where
   pub worker : ℕ
   pub connection : ℕ
   pub listener : ℕ
   pub cluster : Option ℕ
+  pub origin : Option Origin
 
 -- what the picture shows that is held before the first is published
 abbrev pub nothing_shown : Shown

@@ -115,9 +115,9 @@ next_apart number made le =
 keeps_away : (number : ℕ) → Keeps (λ rows made (phase : Phase). (number ≤ made) × (list_any (is_numbered number) rows ≡ false))
 keeps_away number = record {
   removed = λ goes rows made phase fact. (fact.0, statuses_numbered number (removed_where goes) rows ∙ fact.1);
-  added = λ kind name content rows made phase fact. (
+  added = λ kind name content kept rows made phase fact. (
     omega (arith, fact.0),
-    list_any-append (is_numbered number) (with_statuses (replaced_status kind name) rows) (new_row kind made name content ∷ [])
+    list_any-append (is_numbered number) (with_statuses (replaced_status kind name) rows) (new_row kind made name content kept ∷ [])
         ∙ or_from _ _ (statuses_numbered number (replaced_status kind name) rows ∙ fact.1)
         (or_from (made + 1 == number) false (next_apart number made fact.0) refl),
   );
@@ -138,7 +138,7 @@ ShowsDrawn world = (number : ℕ) → has_number number (numbers_published world
 keeps_shown : KeepsTidied (λ rows made phase versions seen. (number : ℕ) → has_number number (flat_map numbers_shown seen.pictures) ≡ true → number ≤ made) ShowsDrawn
 keeps_shown = record {
   removed = λ goes rows made phase versions seen drawn. drawn;
-  added = λ kind name content rows made phase versions seen drawn number h. omega (arith, drawn number h);
+  added = λ kind name content kept rows made phase versions seen drawn number h. omega (arith, drawn number h);
   version_added = λ new rows made phase versions seen drawn. drawn;
   version_renewed = λ kind name rows made phase versions seen drawn. drawn;
   versions_left = λ test rows made phase versions seen drawn. drawn;
@@ -190,14 +190,7 @@ answers_reap = record {
   not_open = λ number. refl;
   no_listener = λ number. refl;
   no_chain = λ number. refl;
-  undecided = λ listener number. refl;
-  elsewhere = λ listener cluster number. refl;
-  no_route = λ listener number. refl;
-  redirect = λ listener number. refl;
-  no_cluster = λ listener number. refl;
-  no_endpoint = λ listener number. refl;
-  local = λ listener status number. refl;
-  served = λ listener cluster host number. refl;
+  on = λ listener chain way number. refl;
 }
 
 -- what is named by a reaping is gone after it

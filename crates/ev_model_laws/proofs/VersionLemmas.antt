@@ -239,7 +239,7 @@ renewed_kept kind name versions kept = record {
 keeps_kept : KeepsAll (λ (rows : List GenRow) (made : ℕ) (phase : Phase) versions. AreKeptOnce versions)
 keeps_kept = record {
   removed = λ goes rows made phase versions kept. kept;
-  added = λ kind name content rows made phase versions kept. kept;
+  added = λ kind name content chains rows made phase versions kept. kept;
   left = λ test rows made phase versions kept. kept;
   version_added = λ new rows made phase versions kept. with_kept new versions kept;
   version_renewed = λ kind name rows made phase versions kept. renewed_kept kind name versions kept;

@@ -24,6 +24,7 @@ pub record IsSameGeneration (row other : GenRow) : Type 0 where
   pub kind : row.kind ≡ other.kind
   pub name : row.name ≡ other.name
   pub content : row.content ≡ other.content
+  pub kept : row.kept ≡ other.kept
 
 -- the row's generation is among these
 abbrev pub IsAmong : List GenRow → GenRow → Type 0

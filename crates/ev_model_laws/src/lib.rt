@@ -24,9 +24,10 @@ pub use one_replay::{
 };
 pub use phase_forward::phase_never_goes_back;
 pub use run_laws::{
-    connections_go_to_warmed_generations, drained_listeners_have_waited,
-    generations_are_reaped_once, reaped_generations_are_unused, refused_updates_take_nothing_away,
-    responses_are_acknowledged, runs_have_the_laws, runs_keep_their_parts, snapshots_never_go_back,
+    chains_that_stay_keep_connections, connections_go_to_warmed_generations,
+    drained_listeners_have_waited, generations_are_reaped_once, moves_keep_the_chain,
+    reaped_generations_are_unused, refused_updates_take_nothing_away, responses_are_acknowledged,
+    runs_have_the_laws, runs_keep_their_parts, snapshots_never_go_back,
 };
 pub use tidying::tidies_once;
 pub use versions_kept::versions_are_kept_once;

@@ -1,4 +1,4 @@
-ghost use Rattle.ev_model_laws.specs.RunLaws.{RunsHaveParts, RunsOpenWarmed, RunsGoForward, RunsReapUnused, RunsReapOnce, RunsKeepRefused, RunsAcknowledge, RunsWait};
+ghost use Rattle.ev_model_laws.specs.RunLaws.{RunsHaveParts, RunsOpenWarmed, RunsGoForward, RunsReapUnused, RunsReapOnce, RunsKeepRefused, RunsAcknowledge, RunsWait, RunsKeepConnections, RunsKeepBodies};
 ghost use Rattle.ev_model.specs.Laws.{RunsHaveLaws};
 
 /// Of every run, in both formats: the parts that each event keeps hold after any first entries. It does nothing.
@@ -18,8 +18,8 @@ pub fn snapshots_never_go_back()
     ensures { RunsGoForward }
 {}
 
-/// A law of every run, in both formats: a generation is destroyed only when no connection is open on it and no worker's
-/// snapshot holds it. It does nothing.
+/// A law of every run, in both formats: a generation is destroyed only when no connection is open on it, those that it had were
+/// closed or moved on, and no worker's snapshot holds it. It does nothing.
 pub fn reaped_generations_are_unused()
     ensures { RunsReapUnused }
 {}
@@ -50,7 +50,20 @@ pub fn drained_listeners_have_waited()
     ensures { RunsWait }
 {}
 
-/// Every run has the seven laws, in both formats. It does nothing.
+/// A law of every run, in both formats: a chain that stays keeps its connections. A settle closes a connection whose chain was
+/// found only where its listener's drain timeout came and the last picture shows no chain of its origin; where it shows one, the
+/// connection is open afterwards, on the listener that shows it. It does nothing.
+pub fn chains_that_stay_keep_connections()
+    ensures { RunsKeepConnections }
+{}
+
+/// A law of every run, in both formats: two chains of one origin have equal bodies, so a connection that moves stays on the chain
+/// that accepted it. It does nothing.
+pub fn moves_keep_the_chain()
+    ensures { RunsKeepBodies }
+{}
+
+/// Every run has the nine laws, in both formats. It does nothing.
 pub fn runs_have_the_laws()
     ensures { RunsHaveLaws }
 {}

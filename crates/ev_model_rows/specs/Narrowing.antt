@@ -15,7 +15,8 @@ use Rattle.ev_model_rows.specs.Words.{no_criteria}
 
 -- a chain that forwards to a cluster, by whose name it is distinguished from others
 abbrev pub chain : List ℕ → FilterChainMatch → ServedChain
-chain name criteria = record { criteria = criteria; routing = Tcp (One name) }
+chain name criteria =
+    record { place = None; origin = None; criteria = criteria; routing = Tcp (One name); lacks_secret = false }
 
 -- the name of a chain
 abbrev pub name_of : Routing → List ℕ

@@ -7,7 +7,8 @@ mod rows;
 pub use rows::{
     automatic, chains_in_order, conditions, content_returns, domains, drain_timer,
     drained_listeners_wait, every_address, findings, fresh_endpoints, full_batch,
-    growing_assignment, in_use, late_batch, late_timeouts, lost_stream, narrowing, no_hosts,
+    growing_assignment, in_use, late_batch, late_timeouts, listeners_in_place, lost_stream, missing_secrets, narrowing,
+    no_hosts,
     one_address, one_refused_of_two, open_routes, realistic, redirected, refused_update,
     same_content_new_version, shared_routes, timeouts_of_listeners, ttl, ttl_of_endpoints,
     two_marks, two_timeouts, watch_ends_and_begins, weights, what_opens,

@@ -32,6 +32,8 @@ ghost use Rattle.ev_model_rows.specs.OpenRoutes.{OpenRoutesAnswers};
 ghost use Rattle.ev_model_rows.specs.WhatOpens.{WhatOpensAnswers};
 ghost use Rattle.ev_model_rows.specs.EveryAddress.{EveryAddressAnswers};
 ghost use Rattle.ev_model_rows.specs.Redirected.{RedirectedAnswers};
+ghost use Rattle.ev_model_rows.specs.ListenersInPlace.{ChangesInPlace, ComesBack, GoesBack};
+ghost use Rattle.ev_model_rows.specs.MissingSecrets.{MissingSecretsAnswers};
 
 /// A content that returns: an update that never warmed is dropped, and the generation that served goes once nothing holds it. It does nothing.
 pub fn content_returns()
@@ -234,4 +236,16 @@ pub fn every_address()
 /// A redirected connection is taken by the listener where it was delivered, or by the one where it is meant to go. It does nothing.
 pub fn redirected()
     ensures answers { RedirectedAnswers }
+{}
+
+/// A listener is changed in place: connections move with the chains that stay, and a roll-back leaves all as it was. It does nothing.
+pub fn listeners_in_place()
+    ensures changes { ChangesInPlace }
+    ensures comes_back { ComesBack }
+    ensures goes_back { GoesBack }
+{}
+
+/// Connections that lack a secret fail; a secret that comes mends them, and its removal changes nothing. It does nothing.
+pub fn missing_secrets()
+    ensures answers { MissingSecretsAnswers }
 {}

@@ -43,10 +43,6 @@ shown_after changes pictures = shown_with changes pictures.last.shown
 abbrev pub next_version : Shown → Picture → Option ℕ
 next_version shown last = if shown_same shown last.shown then None else Some (last.version + 1)
 
--- the version of a publication of these changes
-abbrev pub version_after : Changes → PicturesParts → Option ℕ
-version_after changes pictures = next_version (shown_after changes pictures) pictures.last
-
 -- the pictures after a publication
 abbrev pub with_shown : Shown → PicturesParts → PicturesParts
 with_shown shown pictures =
@@ -87,8 +83,8 @@ is_shown_by number pictures = list_any (is_shown_in number) pictures.held || is_
 abbrev pub version_showing : ℕ → PicturesParts → Option ℕ
 version_showing number pictures = option_map (λ (p : Picture). p.version) (find (is_shown_in number) (in_use pictures))
 
--- The pictures are those of the world: the last one, and of as many workers the one that each holds. The last one's version is
--- that of the world's last picture, and each worker's was published.
+-- The pictures are those of the world: the last one, and of as many workers the one that each holds. The last one's
+-- version is that of the world's last picture, and each worker's was published.
 pub record HasPictures (pictures : PicturesParts) (world : World) : Type 0 where
   pub published : length world.pictures ≡ pictures.last.version + 1
   pub last : pictures.last ≡ last_picture world
@@ -103,11 +99,17 @@ IsAnswerOf question pictures answer = (world : World) → HasPictures pictures w
 abbrev pub StandsAfter : (World → World) → PicturesParts → PicturesParts → Type 0
 StandsAfter change before after = (world : World) → HasPictures before world → HasPictures after (change world)
 
--- at whatever world the pictures stand for, where these changes lead to what workers may serve, the machine answers a publication
--- with this version
+-- at whatever world the pictures stand for, where these changes lead to what workers may serve, the machine answers a
+-- publication with this version
 abbrev pub AnswersPublication : Changes → PicturesParts → Option ℕ → Type 0
 AnswersPublication changes pictures version =
     (world : World) → HasPictures pictures world → shown_after changes pictures ≡ shown_of world → (publish world).1 ≡ published_answer version
+
+-- at whatever world the pictures stand for, where these changes lead to what workers may serve, the machine publishes
+-- nothing
+pub record PublishesNothing (changes : Changes) (pictures : PicturesParts) : Type 0 where
+  pub answer : AnswersPublication changes pictures None
+  pub world : (world : World) → HasPictures pictures world → shown_after changes pictures ≡ shown_of world → (publish world).0 ≡ world
 
 -- likewise the second pictures stand for the world that a publication leaves
 abbrev pub Publishes : Changes → PicturesParts → PicturesParts → Type 0

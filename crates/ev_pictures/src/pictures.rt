@@ -1,12 +1,12 @@
-ghost use Rattle.std.specs.Prelude.{◌≡◌, ◌<◌, ℕ, None, Some, List, find, length, map, replicate, slice_get, IfOk, OnOk, OnErr, IfSome, IfNone};
+ghost use Rattle.std.specs.Prelude.{◌≡◌, ◌<◌, ◌+◌, ℕ, None, Some, List, find, length, map, replicate, slice_get, IfOk, OnOk, OnErr, IfSome, IfNone};
 ghost use Rattle.std.specs.Arc.{arc_value};
 ghost use Rattle.std.specs.List.{list_any};
 ghost use Rattle.std.specs.Option.{option_copied};
 ghost use Rattle.ev_model.specs.World.{opening};
 ghost use Rattle.ev_model.specs.Picture.{has_number};
 ghost use Rattle.ev_model.specs.Dead.{numbers_in_use, picture_held};
-ghost use Rattle.ev_snapshot.specs.Changes.{IsOrdered};
-ghost use Rattle.ev_pictures.specs.Pictures.{AnswersPublication, IsAnswerOf, Publishes, StandsAfter, HasPictures, is_shown_by, is_shown_in, opening_pictures, settled_on, shown_after, version_after, version_held, version_showing, version_where, with_shown, with_settled};
+ghost use Rattle.ev_snapshot.specs.Changes.{IsNext, IsOrdered, picture_after};
+ghost use Rattle.ev_pictures.specs.Pictures.{AnswersPublication, IsAnswerOf, Publishes, PublishesNothing, StandsAfter, HasPictures, is_shown_by, is_shown_in, opening_pictures, settled_on, shown_after, version_held, version_showing, version_where, with_shown, with_settled};
 
 use ev_keys::Keys;
 use ev_snapshot::{Changes, Snapshot};
@@ -15,7 +15,8 @@ use std::alloc::{AllocError, Global};
 use std::marker::Model;
 use std::sync::Arc;
 
-/// What was published last, and the snapshot that each worker holds. Contracts see the pictures. Each snapshot is shared.
+/// What was published last, and the snapshot that each worker holds. Contracts see the pictures. Each snapshot is
+/// shared.
 #[derive(Drop)]
 pub struct Pictures {
     last: Arc<Snapshot>,
@@ -35,8 +36,8 @@ impl Model for Pictures {
 }
 
 impl Pictures {
-    /// Nothing was published, and each of this many workers holds the empty picture. The tables of all pictures hash by these
-    /// keys.
+    /// Nothing was published, and each of this many workers holds the empty picture. The tables of all pictures hash
+    /// by these keys.
     pub fn new(alloc: Global, keys: Keys, workers: u32) -> Result<Pictures, AllocError>
         ensures empty { IfOk result (λ pictures. pictures ≡ opening_pictures workers) }
         ensures world { IfOk result (λ pictures. (node : List ℕ) → HasPictures pictures (opening workers node)) }
@@ -46,30 +47,45 @@ impl Pictures {
         Ok(Pictures { last, held })
     }
 
-    /// Publishes what the last picture shows after these changes, under the next version, which it answers; where that is what the
-    /// last picture shows, nothing is published, and there is no version. It costs what changes: all else is shared with the last
-    /// picture. Out of memory, all stays as it was; so where versions are used up.
-    pub fn publish(&mut self, alloc: Global, changes: &Changes) -> Result<Option<u64>, AllocError>
-        ensures ordered { IsOrdered self.old.last.shown }
-        ensures version { IfOk result (λ version. version ≡ version_after changes.now self.old) }
-        ensures published { OnOk result (self.new ≡ with_shown (shown_after changes.now self.old) self.old) }
-        ensures answer { IfOk result (AnswersPublication changes.now self.old) }
-        ensures world { OnOk result (Publishes changes.now self.old self.new) }
-        ensures err { OnErr result (self.new ≡ self.old) }
+    /// What the last picture shows after these changes, under the next version; where that is what the last picture
+    /// shows, there is no next one, and the machine publishes nothing. It costs what changes: all else is shared with
+    /// the last picture. Out of memory also where versions are used up.
+    pub fn next(
+        &self,
+        alloc: Global,
+        changes: &Changes,
+    ) -> Result<Option<Arc<Snapshot>>, AllocError>
+        ensures ordered { IsOrdered self.now.last.shown }
+        ensures next { IfOk result (IsNext changes.now self.now.last) }
+        ensures none { IfOk result (λ next. IfNone next (PublishesNothing changes.now self.now)) }
     {
-        let Ok(next) = Snapshot::next(alloc, &self.last, changes) else {
-            return Err(AllocError);
-        };
-        let Some(last) = next else {
-            return Ok(None);
-        };
-        let version = last.version();
-        self.last = last;
-        Ok(Some(version))
+        Snapshot::next(alloc, &self.last, changes)
     }
 
-    /// A worker takes over the last snapshot, which it answers. It takes no memory; it is refused where 2^63 - 1 owners hold the
-    /// snapshot already, and all stays as it was then.
+    /// Publishes the picture after these changes, and answers its version. It takes no memory.
+    pub fn publish(&mut self, changes: &Changes, next: Arc<Snapshot>) -> u64
+        requires next { picture_after changes.now self.old.last ≡ Some (arc_value next) }
+        ensures version { result ≡ self.old.last.version + 1 }
+        ensures published { self.new ≡ with_shown (shown_after changes.now self.old) self.old }
+        ensures last { self.new.last ≡ arc_value next }
+        ensures held { self.new.held ≡ self.old.held }
+        ensures answer { AnswersPublication changes.now self.old (Some result) }
+        ensures world { Publishes changes.now self.old self.new }
+    {
+        let version = next.version();
+        self.last = next;
+        version
+    }
+
+    /// The last picture. It takes no memory.
+    pub fn last(&self) -> &Snapshot
+        ensures { result.now ≡ self.now.last }
+    {
+        &*self.last
+    }
+
+    /// A worker takes over the last snapshot, which it answers. It takes no memory; it is refused where 2^63 - 1
+    /// owners hold the snapshot already, and all stays as it was then.
     pub fn settle(&mut self, worker: u32) -> Result<Arc<Snapshot>, AllocError>
         requires known { worker < length self.old.held }
         ensures snapshot { IfOk result (λ snapshot. arc_value snapshot ≡ self.old.last) }
@@ -87,8 +103,8 @@ impl Pictures {
         Ok(given)
     }
 
-    /// The snapshot that a worker holds here: for an event that is made once more out of a journal, since a worker at work has its
-    /// own. It takes no memory.
+    /// The snapshot that a worker holds here: for an event that is made once more out of a journal, since a worker at
+    /// work has its own. It takes no memory.
     pub fn held(&self, worker: u32) -> &Snapshot
         requires known { worker < length self.now.held }
         ensures held { slice_get self.now.held worker ≡ Some result.now }
@@ -97,8 +113,8 @@ impl Pictures {
         &*self.held[worker as usize]
     }
 
-    /// Whether a picture in use shows the generation of this number: one that a worker holds, or the last. It looks two numbers
-    /// up in each, and goes through no picture.
+    /// Whether a picture in use shows the generation of this number: one that a worker holds, or the last. It looks
+    /// two numbers up in each, and goes through no picture.
     pub fn shows(&self, number: Gen) -> bool
         ensures shown { result ≡ is_shown_by number self.now }
         ensures world { IsAnswerOf (λ world. has_number number (numbers_in_use world)) self.now result }
@@ -114,8 +130,8 @@ impl Pictures {
         any_shows(self.held.as_slice(), number) || shows(&self.last, number)
     }
 
-    /// The version of a picture in use that shows the generation of this number, where one does: of one that a worker holds, or else
-    /// of the last. It looks two numbers up in each, and goes through no picture.
+    /// The version of a picture in use that shows the generation of this number, where one does: of one that a worker
+    /// holds, or else of the last. It looks two numbers up in each, and goes through no picture.
     pub fn shown_in(&self, number: Gen) -> Option<u64>
         ensures { result ≡ version_showing number self.now }
     {
@@ -125,7 +141,8 @@ impl Pictures {
         }
     }
 
-    /// The version of the picture that a worker gives up where it settles. There is none where it holds the last one already.
+    /// The version of the picture that a worker gives up where it settles. There is none where it holds the last one
+    /// already.
     pub fn leaving(&self, worker: u32) -> Option<u64>
         requires known { worker < length self.now.held }
         ensures none { IfNone result (slice_get self.now.held worker ≡ Some self.now.last) }

@@ -37,10 +37,10 @@ HaveStepped format workers world [] = ⊤
 HaveStepped format workers world (entry ∷ entries) =
     MayStep workers world entry × HaveStepped format workers (step format world entry.actor entry.event).0 entries
 
--- a worker's settle that closed these connections and led to this version, as an entry
-abbrev pub settle_told : ℕ → ℕ → ℕ → List ℕ → ℕ → Entry
-settle_told worker at n closed version =
-    record { actor = Worker worker; at = at; step = n; event = Settle; answer = Settled closed version }
+-- a worker's settle that closed these connections, moved these and led to this version, as an entry
+abbrev pub settle_told : ℕ → ℕ → ℕ → List ℕ → List ℕ → ℕ → Entry
+settle_told worker at n closed moved version =
+    record { actor = Worker worker; at = at; step = n; event = Settle; answer = Settled closed moved version }
 
 -- The journal is a run, and what is known is that of the world after it, where it wasn't lost; the last picture is known in any case.
 pub record FollowsJournal (is_lost : Bool) (picture : Picture) (proxy : Proxy) (parts : JournalParts) : Type 0 where

@@ -191,7 +191,7 @@ impl Journaled for Registry {
         requires within { worker.now.number < self.old.journaled.workers }
         requires works { WorksIn worker.now (world_now self.old.journaled) }
         ensures entries { OnOk result (self.new.journaled ≡ with_settled worker.now at step self.old.journaled) }
-        ensures told { IfOk result (λ settled. IsToldBehind worker.now settled.closed
+        ensures told { IfOk result (λ settled. IsToldBehind worker.now settled.closed settled.moved
             (arc_value settled.snapshot) self.old.journaled) }
         ensures err { OnErr result (self.new.journaled ≡ self.old.journaled) }
         // The rows that wait go on waiting.

@@ -110,8 +110,8 @@ pub(crate) fn settle_after(
     requires known { worker.now.number < past.workers }
     ensures at { OnOk result (IsAt proxy.new (settle worker.now.number worlds.1).0) }
     ensures answer { IfOk result (λ settled. (settle worker.now.number worlds.1).1
-        ≡ settled_answer settled.closed settled.version) }
-    ensures told { IfOk result (λ settled. IsToldBy worker.now.number settled.closed
+        ≡ settled_answer settled.closed settled.moved settled.version) }
+    ensures told { IfOk result (λ settled. IsToldBy worker.now.number settled.closed settled.moved
         (arc_value settled.snapshot) worlds.1) }
 {
     proxy.take_batch(worker.batch())?;

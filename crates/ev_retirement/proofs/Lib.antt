@@ -9,3 +9,5 @@ pub mod ReapLemmas
 pub mod RetireLemmas
 pub mod FoundLemmas
 pub mod SettleLemmas
+pub mod TouchLemmas
+pub mod MoveLemmas

@@ -18,8 +18,8 @@ pub record HoldersParts : Type 0 where
   pub ledger : List OpenMember
   pub drain : List Retired
 
--- They are those of the world: the pictures, the open connections, and the rows that no longer serve, with their marks; and no
--- other row is marked.
+-- They are those of the world: the pictures, the open connections, and the rows that no longer serve, with their
+-- marks; and no other row is marked.
 pub record HoldsFor (holders : HoldersParts) (world : World) : Type 0 where
   pub pictures : HasPictures holders.pictures world
   pub opened : HasOpened holders.ledger world.opened

@@ -4,7 +4,7 @@ use Rattle.std.proofs.lemmas.List.Sums.{sum_by-cons}
 use Rattle.ev_types.specs.Items.{ItemParts, ResponseParts}
 use Rattle.ev_types.specs.Scripts.{items_in}
 use Rattle.ev_types.specs.declared.contents.Kind.{Kind}
-use Rattle.ev_types.specs.declared.contents.Kind.TheVariants.{Cds, Eds, Lds, Rds}
+use Rattle.ev_types.specs.declared.contents.Kind.TheVariants.{Cds, Eds, Lds, Rds, Sds, Ecds}
 use Rattle.ev_types.specs.declared.contents.Content.{Content}
 use Rattle.ev_types.specs.declared.contents.Body.{Body}
 use Rattle.ev_types.specs.declared.contents.Body.TheVariants.{Good, Bad, Beat}
@@ -12,13 +12,13 @@ use Rattle.ev_types.specs.declared.events.Actor.{Actor}
 use Rattle.ev_types.specs.declared.events.Entry.{Entry}
 use Rattle.ev_types.specs.declared.events.Event.{Event}
 use Rattle.ev_types.specs.declared.events.Verdict.{Verdict}
-use Rattle.ev_types.specs.declared.events.Verdict.TheVariants.{New, Same, Kept, Unasked, Renewed, Refused}
+use Rattle.ev_types.specs.declared.events.Verdict.TheVariants.{New, InPlace, Back, Same, Kept, Unasked, Renewed, Refused}
 use Rattle.ev_types.specs.declared.journals.Format.{Format}
 use Rattle.ev_model.specs.World.{World, opening}
 use Rattle.ev_model.specs.Live.{lives_of}
 use Rattle.ev_model.specs.Verdicts.{verdicts_for}
 use Rattle.ev_model.specs.Watching.{is_watched}
-use Rattle.ev_model.specs.Rows.{with_content, add_row, keep_version, keep_value, refuse, add_item, add_items, with_removals, with_first, made_names}
+use Rattle.ev_model.specs.Rows.{with_content, add_row, keep_version, keep_value, refuse, add_item, add_items, with_removals, with_first, made_names, add_in_place, go_back}
 use Rattle.ev_model.specs.Signals.{with_end, forget_version}
 use Rattle.ev_model.specs.Runs.{world_after}
 use Rattle.ev_model.specs.Step.{step}
@@ -43,9 +43,13 @@ refused_made Cds name world = omega arith
 refused_made Eds name world = told_made (is_watched (lives_of world) Eds name) _ world refl
 refused_made Lds name world = omega arith
 refused_made Rds name world = told_made (is_watched (lives_of world) Rds name) _ world refl
+refused_made Sds name world = told_made (is_watched (lives_of world) Sds name) _ world refl
+refused_made Ecds name world = told_made (is_watched (lives_of world) Ecds name) _ world refl
 
 item_made : (kind : Kind) (verdict : Verdict) (item : ItemParts) (world : World) → (add_item kind verdict item world).made ≤ world.made + 1
-item_made kind New item world = content_made (add_row kind item) item.body world (λ content. omega arith)
+item_made kind New item world = content_made (λ content. add_row kind item content []) item.body world (λ content. omega arith)
+item_made kind InPlace item world = content_made (add_in_place kind item) item.body world (λ content. omega arith)
+item_made kind Back item world = content_made (λ content. go_back kind item) item.body world (λ content. omega arith)
 item_made kind Same item world = content_made (λ content. keep_version kind item) item.body world (λ content. omega arith)
 item_made kind Kept item world = content_made (keep_value kind item) item.body world (λ content. omega arith)
 item_made kind Unasked item world = omega arith
@@ -66,18 +70,24 @@ removals_made Cds response world = refl
 removals_made Eds response world = refl
 removals_made Lds response world = refl
 removals_made Rds response world = refl
+removals_made Sds response world = refl
+removals_made Ecds response world = refl
 
 first_made : (kind : Kind) (names : List (List ℕ)) (world : World) → (with_first kind names world).made ≡ world.made
 first_made Cds names world = refl
 first_made Eds names world = refl
 first_made Lds names world = refl
 first_made Rds names world = refl
+first_made Sds names world = refl
+first_made Ecds names world = refl
 
 end_made : (kind : Kind) (name : List ℕ) (world : World) → (with_end kind name world).made ≡ world.made
 end_made Cds name world = refl
 end_made Eds name world = refl
 end_made Lds name world = refl
 end_made Rds name world = refl
+end_made Sds name world = refl
+end_made Ecds name world = refl
 
 few : (m n : ℕ) → m ≤ m + n
 few m n = omega arith

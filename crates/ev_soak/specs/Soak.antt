@@ -64,6 +64,8 @@ cluster_content n checked = Cluster (record {
   name = cluster_name n;
   discovery = by_service (cluster_name n) true false;
   checked = checked;
+  secrets = [];
+  secrets_by_match = None;
   body_text = [];
 })
 
@@ -87,7 +89,13 @@ no_criteria = record {
 
 -- a filter chain that takes every connection, with the routes of this number
 abbrev pub chain_for : ℕ → FilterChain
-chain_for n = record { criteria = no_criteria; serve = by_routes (routes_name n) true }
+chain_for n = record {
+  criteria = no_criteria;
+  serve = by_routes (routes_name n) true;
+  secrets = [];
+  extensions = [];
+  body_text = [];
+}
 
 -- the listener of this number, whose routes come by the name of this number
 abbrev pub listener_content : ℕ → ℕ → Content
@@ -99,6 +107,8 @@ listener_content n port = Listener (record {
   hands_over = false;
   filter_chains = chain_for n ∷ [];
   default_filter_chain = None;
+  extensions = [];
+  frame_text = [];
   body_text = [];
 })
 

@@ -6,8 +6,8 @@
 //! - A line first takes in all that its entry says, and then writes: so a reply counts for the requests after it.
 //! - Versions that were acknowledged outlive a stream, and nonces and lists of names don't. A stream begins with a connect that
 //!   is answered with requests. Which names are listed follows from what the incremental requests ask for and give up.
-//! - The words of actors, operations and verdicts, and the object of a row, are written here again, since `ev_journal` writes an
-//!   entry as a whole; their definitions are its own. Where an answer has no requests, its writer is called.
+//! - The object of a row is written here again, since `ev_journal` writes an entry as a whole; its definition is the one
+//!   there. Where an answer has no requests, its writer is called.
 #![tactic(auto)]
 
 mod answers;
@@ -16,7 +16,6 @@ mod known;
 mod rendering;
 mod requests;
 mod state;
-mod words;
 
 pub use known::TypeSoFar;
 pub use rendering::render_sotw;

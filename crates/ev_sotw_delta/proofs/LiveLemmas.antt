@@ -42,7 +42,7 @@ module _ (kind : Kind) (name : List ℕ) (format : Format) (world : World) (acto
       → Lived (answered of response (verdicts_for of (lives_of world) world.versions response) world)
   replied of response is typed =
       responded_follows (is_row_of kind name) (named_blind kind name) (one world ≡ true) of response (verdicts_for of (lives_of world) world.versions response) world
-      (λ judged there number content new good passes. absurd (false≢true (sym (other of response is typed) ∙ first_so (kind_same of kind) (bytes_eq judged.1.name name) passes)))
+      (λ judged there number content chains makes passes. absurd (false≢true (sym (other of response is typed) ∙ first_so (kind_same of kind) (bytes_eq judged.1.name name) passes)))
       (λ left. left_by (is_row_of kind name) (named_blind kind name) of response world left)
 
   lived : Lived (step format world actor event)

@@ -19,7 +19,7 @@ use ev_expand::TextSoFar;
 use ev_script::ScriptTrees;
 use ev_sotw_lines::{NamesSoFar, version_in};
 use ev_trees::nests_within;
-use ev_types::Text;
+use ev_types::{Profile, Text};
 use serde_json::Value;
 use std::alloc::{AllocError, Global};
 
@@ -45,13 +45,14 @@ pub struct Delta {
 pub fn to_delta(alloc: Global, trees: ScriptTrees) -> Result<Delta, DeltaError>
     requires read { (input : Input) × IsTreesAnswer sotw_lines input (Ok trees) }
     ensures text { IfOk result (λ delta. delta.text.items ≡ text_of_trees (written_of trees)) }
-    ensures versions { IfOk result (λ delta. delta.versions.items ≡ versions_in (lines_in trees)) }
+    ensures versions { IfOk result (λ delta. delta.versions.items ≡ versions_in trees.header.profile (lines_in trees)) }
     ensures fits { OnOk result (FitsInput (written_of trees)) }
     ensures large { IfErr result (IsRefusal (written_of trees)) }
     ensures sound { IfOk result (λ delta. HasNoFault plain_lines (input_of_text delta.text.items)) }
     ensures script { IfOk result (λ delta. script_of false delta.text.items ≡ Some (delta_script trees)) }
     ensures same { OnOk result (RunsAreSameWorld trees) }
 {
+    let profile = trees.header.profile;
     let ScriptTrees { head, lines, .. } = trees;
     let mut text = TextSoFar::new(alloc);
     let mut names = NamesSoFar::new(alloc);
@@ -59,8 +60,8 @@ pub fn to_delta(alloc: Global, trees: ScriptTrees) -> Result<Delta, DeltaError>
     push_tree(alloc, &mut text, &head)?;
     for line in lines {
         let tree = line.read(alloc)?;
-        versions.push(Text::new(alloc, version_in(alloc, &tree)?)?)?;
-        push_delta(alloc, &mut text, &mut names, &tree)?;
+        versions.push(Text::new(alloc, version_in(alloc, profile, &tree)?)?)?;
+        push_delta(alloc, profile, &mut text, &mut names, &tree)?;
     }
     Ok(Delta {
         text: text.bytes,
@@ -71,17 +72,18 @@ pub fn to_delta(alloc: Global, trees: ScriptTrees) -> Result<Delta, DeltaError>
 // Appends the line that says the same as a line to the text.
 fn push_delta(
     alloc: Global,
+    profile: Profile,
     text: &mut TextSoFar,
     names: &mut NamesSoFar,
     line: &Value,
 ) -> Result<(), DeltaError>
-    ensures follows { OnOk result (GoesOnBy (view line.now) names.old names.new) }
-    ensures pushed { OnOk result ((lines : List Data) → FollowsLines lines names.old
-        → WritesOn (whole (delta_of lines (view line.now))) text.old text.new) }
-    ensures large { IfErr result (λ error. (lines : List Data) → FollowsLines lines names.old
-        → IsTooLargeFor text.old (whole (delta_of lines (view line.now))) error) }
+    ensures follows { OnOk result (GoesOnBy profile (view line.now) names.old names.new) }
+    ensures pushed { OnOk result ((lines : List Data) → FollowsLines profile lines names.old
+        → WritesOn (whole (delta_of profile lines (view line.now))) text.old text.new) }
+    ensures large { IfErr result (λ error. (lines : List Data) → FollowsLines profile lines names.old
+        → IsTooLargeFor text.old (whole (delta_of profile lines (view line.now))) error) }
 {
-    match names.line(alloc, line)? {
+    match names.line(alloc, profile, line)? {
         Some(delta) => push_tree(alloc, text, &delta),
         None => push_tree(alloc, text, line),
     }

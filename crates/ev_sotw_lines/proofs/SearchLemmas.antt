@@ -6,6 +6,7 @@ use Rattle.std.proofs.lemmas.List.{append-nil}
 use Rattle.std.proofs.lemmas.List.Elements.{filter_map-append}
 use Rattle.serde_json.specs.Data.{Data}
 use Rattle.ev_types.specs.declared.contents.Kind.{Kind}
+use Rattle.ev_types.specs.declared.events.Profile.{Profile}
 use Rattle.ev_sotw_lines.specs.Searches.{with_before}
 use Rattle.ev_sotw_lines.specs.Deltas.{stream_said, is_open_after, names_brought, last_names}
 
@@ -48,7 +49,8 @@ with_before_more before (first ∷ lines) line =
 pub open_more : (lines : List Data) (line : Data) → is_open_after (lines ++ line ∷ []) ≡ or_last (stream_said line) (is_open_after lines)
 open_more lines line = search_more stream_said lines line false
 
-pub names_more : (kind : Kind) (lines : List Data) (line : Data) → last_names kind (lines ++ line ∷ []) ≡ or_last (names_brought kind (lines, line)) (last_names kind lines)
-names_more kind lines line =
-    ap (λ ps. unwrap_or (last_or None (filter_map (names_brought kind) ps)) []) (with_before_more [] lines line)
-    ∙ search_more (names_brought kind) (with_before [] lines) (lines, line) []
+pub names_more : (profile : Profile) (kind : Kind) (lines : List Data) (line : Data)
+    → last_names profile kind (lines ++ line ∷ []) ≡ or_last (names_brought profile kind (lines, line)) (last_names profile kind lines)
+names_more profile kind lines line =
+    ap (λ ps. unwrap_or (last_or None (filter_map (names_brought profile kind) ps)) []) (with_before_more [] lines line)
+    ∙ search_more (names_brought profile kind) (with_before [] lines) (lines, line) []

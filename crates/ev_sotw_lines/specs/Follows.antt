@@ -4,26 +4,27 @@ use Rattle.serde_json.specs.Data.{Data, string}
 use Rattle.serde_json.specs.View.{view}
 use Rattle.serde_json.specs.declared.value.Value.{Value}
 use Rattle.ev_types.specs.declared.contents.Kind.{Kind}
-use Rattle.ev_types.specs.declared.contents.Kind.TheVariants.{Cds, Eds, Lds, Rds}
+use Rattle.ev_types.specs.declared.contents.Kind.TheVariants.{Cds, Eds, Lds, Rds, Sds, Ecds}
+use Rattle.ev_types.specs.declared.events.Profile.{Profile}
 use Rattle.ev_model.specs.Requests.{other_than}
 use Rattle.ev_script.specs.Members.{is_op}
 use Rattle.ev_delta.specs.Discovery.{DiscoveryParts, names_in}
 use Rattle.ev_sotw_lines.specs.declared.names_so_far.NamesSoFar.{NamesSoFar}
 use Rattle.ev_sotw_lines.specs.Deltas.{is_open_after, last_names, delta_in}
 
--- it is what the searches find
-pub record FollowsLines (lines : List Data) (names : NamesSoFar) : Type 0 where
+-- it is what the searches find, of a script in a profile
+pub record FollowsLines (profile : Profile) (lines : List Data) (names : NamesSoFar) : Type 0 where
   pub connected : names.connected ≡ is_open_after lines
-  pub clusters : names.clusters ≡ last_names Cds lines
-  pub listeners : names.listeners ≡ last_names Lds lines
+  pub clusters : names.clusters ≡ last_names profile Cds lines
+  pub listeners : names.listeners ≡ last_names profile Lds lines
 
 -- it goes on by a line
-abbrev pub GoesOnBy : Data → NamesSoFar → NamesSoFar → Type 0
-GoesOnBy line before after = (lines : List Data) → FollowsLines lines before → FollowsLines (lines ++ line ∷ []) after
+abbrev pub GoesOnBy : Profile → Data → NamesSoFar → NamesSoFar → Type 0
+GoesOnBy profile line before after = (lines : List Data) → FollowsLines profile lines before → FollowsLines profile (lines ++ line ∷ []) after
 
 -- what was made of a line
-abbrev pub IsDeltaBy : NamesSoFar → Data → Option Data → Type 0
-IsDeltaBy names line made = (lines : List Data) → FollowsLines lines names → made ≡ delta_in lines line
+abbrev pub IsDeltaBy : Profile → NamesSoFar → Data → Option Data → Type 0
+IsDeltaBy profile names line made = (lines : List Data) → FollowsLines profile lines names → made ≡ delta_in profile lines line
 
 -- values are these names, each as a text
 abbrev pub AreNames : List Value → List (List ℕ) → Type 0
@@ -36,6 +37,8 @@ removed_by_kind (Some Cds) names response = other_than (names_in Cds response) n
 removed_by_kind (Some Eds) names response = []
 removed_by_kind (Some Lds) names response = other_than (names_in Lds response) names.listeners
 removed_by_kind (Some Rds) names response = []
+removed_by_kind (Some Sds) names response = []
+removed_by_kind (Some Ecds) names response = []
 
 abbrev pub removed_by : NamesSoFar → DiscoveryParts → List (List ℕ)
 removed_by names response = removed_by_kind response.kind names response
@@ -47,6 +50,8 @@ after_kind (Some Cds) response names = record names { clusters = if names.connec
 after_kind (Some Eds) response names = names
 after_kind (Some Lds) response names = record names { listeners = if names.connected then names_in Lds response else names.listeners }
 after_kind (Some Rds) response names = names
+after_kind (Some Sds) response names = names
+after_kind (Some Ecds) response names = names
 
 abbrev pub after_response : DiscoveryParts → NamesSoFar → NamesSoFar
 after_response response names = after_kind response.kind response names

@@ -48,7 +48,7 @@ impl Forms for SotwLines {
         if !is_op("response", &tree) {
             return LineTrees.read(alloc, profile, at, text, tree);
         }
-        if response_in(alloc, &tree)?.is_none() {
+        if response_in(alloc, profile, &tree)?.is_none() {
             return Ok(None);
         }
         Ok(Some(FormedLine {
@@ -58,12 +58,17 @@ impl Forms for SotwLines {
     }
 }
 
-/// The response of the state of the world that a line brings, or none where it isn't such a line.
+/// The response of the state of the world that a line of a script in a profile brings, or none where it isn't such a
+/// line.
 ///
 /// # Errors
 /// `AllocError` where there is no memory for it.
-pub fn response_in(alloc: Global, tree: &Value) -> Result<Option<Discovery<'_>>, AllocError>
-    ensures { IfOk result (λ found. option_map seen found ≡ response_in (view tree.now)) }
+pub fn response_in(
+    alloc: Global,
+    profile: Profile,
+    tree: &Value,
+) -> Result<Option<Discovery<'_>>, AllocError>
+    ensures { IfOk result (λ found. option_map seen found ≡ response_in profile (view tree.now)) }
 {
     if !is_op("response", tree) {
         return Ok(None);
@@ -72,7 +77,7 @@ pub fn response_in(alloc: Global, tree: &Value) -> Result<Option<Discovery<'_>>,
         return Ok(None);
     }
     match tree.get("message") {
-        Some(message) => read_discovery(alloc, message),
+        Some(message) => read_discovery(alloc, profile, message),
         None => Ok(None),
     }
 }
@@ -81,10 +86,10 @@ pub fn response_in(alloc: Global, tree: &Value) -> Result<Option<Discovery<'_>>,
 ///
 /// # Errors
 /// `AllocError` where there is no memory for it.
-pub fn version_in(alloc: Global, tree: &Value) -> Result<&str, AllocError>
-    ensures { IfOk result (λ version. version.now ≡ version_in (view tree.now)) }
+pub fn version_in(alloc: Global, profile: Profile, tree: &Value) -> Result<&str, AllocError>
+    ensures { IfOk result (λ version. version.now ≡ version_in profile (view tree.now)) }
 {
-    match response_in(alloc, tree)? {
+    match response_in(alloc, profile, tree)? {
         Some(response) => Ok(response.version),
         None => Ok(""),
     }

@@ -6,7 +6,8 @@
 //! - Whether the stream is open is decided by the last `connect` or `disconnect` line: the machine goes by the same.
 //! - A response on a closed stream gets its removals from the last one on an open stream, and isn't itself the last. The last
 //!   response may be of an earlier stream. Resources that will be refused, and those with an empty name, count as named.
-//! - The names of the last response are kept for clusters and listeners alone: nothing is removed of endpoints and routes.
+//! - The names of the last response are kept for clusters and listeners alone: of the types that are asked for by name
+//!   a response takes away nothing that it doesn't name.
 #![tactic(auto)]
 
 mod forms;

@@ -1,6 +1,7 @@
 ghost use Rattle.std.specs.Prelude.{◌≡◌, [], map, option_map, if◌then◌else◌, IfOk, OnOk};
 ghost use Rattle.serde_json.specs.Data.{string};
 ghost use Rattle.serde_json.specs.View.{view};
+ghost use Rattle.ev_types.specs.declared.events.Profile.{Profile};
 ghost use Rattle.ev_model.specs.Requests.{other_than};
 ghost use Rattle.ev_delta.specs.Discovery.{seen};
 ghost use Rattle.ev_delta.specs.Delta.{delta_message};
@@ -11,7 +12,7 @@ use crate::forms::response_in;
 use ev_delta::{Discovery, delta_message};
 use ev_names::NameSet;
 use ev_script::is_op;
-use ev_types::Kind;
+use ev_types::{Kind, Profile};
 use serde_json::{Value, json};
 use std::alloc::{AllocError, Global};
 
@@ -27,7 +28,7 @@ pub struct NamesSoFar {
 impl NamesSoFar {
     /// What no lines say.
     pub fn new(alloc: Global) -> NamesSoFar
-        ensures { FollowsLines [] result }
+        ensures { (profile : Profile) → FollowsLines profile [] result }
     {
         NamesSoFar {
             connected: false,
@@ -36,16 +37,22 @@ impl NamesSoFar {
         }
     }
 
-    /// Goes on by a line. Where it brings a response of the state of the world, the line that brings the response of the
-    /// incremental protocol that says the same, and otherwise none: a line without such a response stays as it is.
+    /// Goes on by a line of a script in a profile. Where it brings a response of the state of the world, the line that
+    /// brings the response of the incremental protocol that says the same, and otherwise none: a line without such a
+    /// response stays as it is.
     ///
     /// # Errors
     /// `AllocError` where there is no memory for it; nothing is promised of the names then.
-    pub fn line(&mut self, alloc: Global, line: &Value) -> Result<Option<Value>, AllocError>
-        ensures follows { OnOk result (GoesOnBy (view line.now) self.old self.new) }
-        ensures delta { IfOk result (λ made. IsDeltaBy self.old (view line.now) (option_map view made)) }
+    pub fn line(
+        &mut self,
+        alloc: Global,
+        profile: Profile,
+        line: &Value,
+    ) -> Result<Option<Value>, AllocError>
+        ensures follows { OnOk result (GoesOnBy profile (view line.now) self.old self.new) }
+        ensures delta { IfOk result (λ made. IsDeltaBy profile self.old (view line.now) (option_map view made)) }
     {
-        match response_in(alloc, line)? {
+        match response_in(alloc, profile, line)? {
             Some(response) => Ok(Some(self.respond(alloc, &response)?)),
             None => {
                 self.turn_stream(line);
@@ -94,7 +101,7 @@ impl NamesSoFar {
                 let names = response.names(alloc, Kind::Lds)?;
                 turn(alloc, self.connected, &mut self.listeners, names)
             }
-            Some(Kind::Eds | Kind::Rds) | None => Ok(Vec::new(alloc)),
+            Some(Kind::Eds | Kind::Rds | Kind::Sds | Kind::Ecds) | None => Ok(Vec::new(alloc)),
         }
     }
 }

@@ -8,7 +8,8 @@ use ev_targets::Targets;
 use ev_types::{Text, TryCopy};
 use std::alloc::{AllocError, Global};
 
-/// What is known: the managers, the subscription, and how far the proxy has booted. Once out of memory, nothing is promised of it.
+/// What is known: the managers, the subscription, and how far the proxy has booted. Once out of memory, nothing is
+/// promised of it.
 #[derive(Drop)]
 pub struct State {
     pub managers: Managers,

@@ -7,7 +7,7 @@ use Rattle.std.proofs.lemmas.Bool.{false≢true, both_ways, and_from, cases_Bool
 use Rattle.std.proofs.lemmas.List.Elements.{filter-append, filter_map-append}
 use Rattle.std.proofs.lemmas.List.{map-append}
 use Rattle.ev_types.specs.Items.{ItemParts, ResponseParts}
-use Rattle.ev_types.specs.Kinds.{kind_same, kind_decides}
+use Rattle.ev_types.specs.Kinds.{kind_same, kind_decides, is_by_name}
 use Rattle.ev_types.specs.Same.{bytes_decide}
 use Rattle.ev_types.specs.declared.contents.Kind.{Kind}
 use Rattle.ev_types.specs.declared.contents.Body.{Body}
@@ -16,14 +16,14 @@ use Rattle.ev_types.specs.declared.contents.Content.{Content}
 use Rattle.ev_types.specs.declared.events.Answer.TheVariants.{Ignored}
 use Rattle.ev_types.specs.declared.events.Event.TheVariants.{Response}
 use Rattle.ev_types.specs.declared.events.Verdict.{Verdict}
-use Rattle.ev_types.specs.declared.events.Verdict.TheVariants.{New, Same, Kept, Unasked, Renewed, Refused}
+use Rattle.ev_types.specs.declared.events.Verdict.TheVariants.{New, InPlace, Back, Same, Kept, Unasked, Renewed, Refused}
 use Rattle.ev_types.specs.declared.rows.Arrival.{Arrival}
 use Rattle.ev_types.specs.declared.rows.Arrival.TheVariants.{Value}
 use Rattle.ev_types.specs.declared.rows.KeptVersion.{KeptVersion}
 use Rattle.ev_types.specs.declared.rows.Live.{Live}
 use Rattle.ev_model.specs.World.{World, Arrived}
 use Rattle.ev_model.specs.Live.{lives_of}
-use Rattle.ev_model.specs.Watching.{is_by_name, is_watched}
+use Rattle.ev_model.specs.Watching.{is_watched}
 use Rattle.ev_model.specs.Warming.{is_for, content_in, is_word, value_of, is_told, last_told}
 use Rattle.ev_model.specs.Verdicts.{items_named, stale_rule, twice_rule, removed_rule, form_rule, lesser, rule_of, verdict_by, verdict_of, lives_left, verdicts_by, verdicts_for}
 use Rattle.ev_model.specs.Rows.{arrived, with_removals, keep_value, with_content, add_item, add_items, made_names, with_first}
@@ -32,7 +32,7 @@ use Rattle.ev_model.specs.Entries.{is_word_on}
 use Rattle.ev_model.specs.Step.{step, respond_by, responded}
 use Rattle.ev_model_laws.proofs.AnyLemmas.{any_second}
 use Rattle.ev_model_laws.proofs.VerdictLemmas.{fits, judged_by, verdict_fits}
-use Rattle.ev_model_laws.proofs.CameLemmas.{by_name_kept, item_drawn, removals_drawn}
+use Rattle.ev_model_laws.proofs.CameLemmas.{item_drawn, removals_drawn}
 use Rattle.ev_stream_laws.specs.Told.{KeptIsValue}
 use Rattle.ev_stream_laws.proofs.ToldLemmas.{came, came-append, last_word, told_is, Hush, items_came, first_came, tidied_came}
 
@@ -84,6 +84,8 @@ named_count name item items false is = simp is refl
 
 word_named : (name : List ℕ) (verdict : Verdict) (item : ItemParts) → is_word_on name verdict item ≡ true → bytes_eq item.name name ≡ true
 word_named name New item h = absurd (false≢true h)
+word_named name InPlace item h = absurd (false≢true h)
+word_named name Back item h = absurd (false≢true h)
 word_named name Same item h = absurd (false≢true h)
 word_named name Kept item h = h
 word_named name Unasked item h = absurd (false≢true h)
@@ -182,7 +184,6 @@ kept_value format world actor response kind place item content streams typed jud
     judged_by (λ (one : Verdict × ItemParts). fits kind one.0 ≡ true) kind response world.versions
     (λ lives (other : ItemParts). verdict_fits kind response lives world.versions other) lives response.items in
     let by_name : is_by_name kind ≡ true =
-    by_name_kept kind
     (at_place (λ (one : Verdict × ItemParts). fits kind one.0 ≡ true) verdicts response.items place Kept item fit here there) in
     let last : IsLast kind item.name world.made content items =
     value_after kind item.name world.made verdicts response.items place item content left by_name (removals_drawn kind response world) fit

@@ -1,16 +1,16 @@
 -- A generation that lives after an event lived before it, or was made by it.
-use Rattle.std.proofs.Common.{◌≡◌, ℕ, ◌⊎◌, inl, inr, Bool, true, false, cond, ◌&&◌, List, [], ◌∷◌, ◌++◌, Option, Some, refl, sym, ap, ap₂, ◌∙◌, subst}
+use Rattle.std.proofs.Common.{◌≡◌, ℕ, ◌⊎◌, inl, inr, Bool, true, false, cond, ◌&&◌, List, [], ◌∷◌, ◌++◌, Option, Some, refl, sym, ap, ◌∙◌, subst}
 use Rattle.std.specs.List.{Contains, list_any, fold, zip, AllByRecursion as ByRecursion}
 use Rattle.std.specs.Str.{bytes_eq}
 use Rattle.std.specs.Cmp.{first_so, second_so}
 use Rattle.std.proofs.lemmas.Bool.{false≢true, both_ways, and_from, or_left, or_right}
 use Rattle.std.proofs.lemmas.List.Elements.{recursion_from_All}
 use Rattle.ev_types.specs.Items.{ItemParts, ResponseParts}
-use Rattle.ev_types.specs.Kinds.{kind_same}
+use Rattle.ev_types.specs.Kinds.{kind_same, is_by_name}
 use Rattle.ev_types.specs.Same.{bytes_decide}
 use Rattle.ev_types.specs.Statuses.{is_live}
 use Rattle.ev_types.specs.declared.contents.Kind.{Kind}
-use Rattle.ev_types.specs.declared.contents.Kind.TheVariants.{Cds, Eds, Lds, Rds}
+use Rattle.ev_types.specs.declared.contents.Kind.TheVariants.{Cds, Eds, Lds, Rds, Sds, Ecds}
 use Rattle.ev_types.specs.declared.contents.Content.{Content}
 use Rattle.ev_types.specs.declared.contents.Body.{Body}
 use Rattle.ev_types.specs.declared.contents.Body.TheVariants.{Good, Bad, Beat}
@@ -20,7 +20,7 @@ use Rattle.ev_types.specs.declared.events.Answer.TheVariants.{Ignored}
 use Rattle.ev_types.specs.declared.events.Event.{Event}
 use Rattle.ev_types.specs.declared.events.Event.TheVariants.{Response}
 use Rattle.ev_types.specs.declared.events.Verdict.{Verdict}
-use Rattle.ev_types.specs.declared.events.Verdict.TheVariants.{New, Same, Kept, Unasked, Renewed, Refused}
+use Rattle.ev_types.specs.declared.events.Verdict.TheVariants.{New, InPlace, Back, Same, Kept, Unasked, Renewed, Refused}
 use Rattle.ev_types.specs.declared.journals.Format.{Format}
 use Rattle.ev_types.specs.declared.rows.Arrival.TheVariants.{TimedOut}
 use Rattle.ev_types.specs.declared.rows.GenRow.{GenRow}
@@ -29,9 +29,9 @@ use Rattle.ev_types.specs.declared.rows.RowStatus.{RowStatus}
 use Rattle.ev_types.specs.declared.rows.RowStatus.TheVariants.{Warming, Active, Draining, Dropped}
 use Rattle.ev_model.specs.World.{World}
 use Rattle.ev_model.specs.Live.{lives_of, live_of, is_named}
-use Rattle.ev_model.specs.Watching.{has_dependency, is_by_name, is_watched}
+use Rattle.ev_model.specs.Watching.{has_dependency, is_watched}
 use Rattle.ev_model.specs.Verdicts.{is_removed, verdicts_by, verdicts_for}
-use Rattle.ev_model.specs.Rows.{arrived, is_row_of, removed_status, with_statuses, status_left, rows_left, with_removals, replaced_status, new_row, keep_version, add_row, keep_value, with_content, refuse, add_item, add_items, made_names, with_first}
+use Rattle.ev_model.specs.Rows.{arrived, is_row_of, removed_status, with_statuses, status_left, rows_left, with_removals, replaced_status, new_row, keep_version, add_row, keep_value, with_content, refuse, add_item, add_items, made_names, with_first, rows_replaced, add_in_place, go_back, serving_row}
 use Rattle.ev_model.specs.Tidy.{has_successor, status_by, promoted_status, tidy}
 use Rattle.ev_model.specs.Warming.{is_ready_by}
 use Rattle.ev_model.specs.Signals.{with_results, with_end, forget_version, ended_status}
@@ -44,6 +44,9 @@ use Rattle.ev_model_laws.proofs.AnyLemmas.{or_so, any_so, any_behind, any_only, 
 use Rattle.ev_model_laws.proofs.TidyLists.{all_of, any_at, any_of_map}
 use Rattle.ev_model_laws.proofs.EventLemmas.{step-leads}
 use Rattle.ev_stream_laws.specs.Watches.{waits_for, has_item, WatchesBeginWithNew, LiveAreNamed}
+use Rattle.ev_types.specs.declared.origins.KeptChain.{KeptChain}
+use Rattle.ev_model.specs.Origins.{kept_from}
+use Rattle.ev_model_laws.proofs.KeepLemmas.{with_content-holds}
 
 -- ---- statuses
 
@@ -106,12 +109,16 @@ module _ (test : GenRow → Bool) (blind : (row : GenRow) (status : RowStatus) �
   left_by Eds response world h = h
   left_by Lds response world h = removed Lds response world.rows h
   left_by Rds response world h = h
+  left_by Sds response world h = h
+  left_by Ecds response world h = h
 
   pub ended_by : (kind : Kind) (name : List ℕ) (world : World) → has_one (with_end kind name world).rows ≡ true → has_one world.rows ≡ true
   ended_by Cds name world h = fewer (ended_status Cds name) (λ row here. (removed_not (is_row_of Cds name row) row.status here).1) world.rows h
   ended_by Eds name world h = h
   ended_by Lds name world h = fewer (ended_status Lds name) (λ row here. (removed_not (is_row_of Lds name row) row.status here).1) world.rows h
   ended_by Rds name world h = h
+  ended_by Sds name world h = h
+  ended_by Ecds name world h = h
 
   -- what follows where one of them lives: it is kept by resources that say it of what they make
   module _ (Q : Type 0) (kind : Kind) where
@@ -120,27 +127,38 @@ module _ (test : GenRow → Bool) (blind : (row : GenRow) (status : RowStatus) �
 
     -- the resource says it of the generation that it makes
     abbrev Says : Verdict × ItemParts → Type 0
-    Says one = (made : ℕ) (content : Content) → one.0 ≡ New → one.1.body ≡ Good content → test (new_row kind made one.1.name content) ≡ true → Q
+    Says one =
+        (number : ℕ) (content : Content) (chains : List KeptChain)
+        → made_by kind one.0 one.1.name one.1.body ≡ record { kind = kind; name = one.1.name; content = content } ∷ []
+        → test (new_row kind number one.1.name content chains) ≡ true → Q
+
+    replaced_follows : (name : List ℕ) (world : World) → Follows world → Follows (record world { rows = rows_replaced kind name world.rows })
+    replaced_follows name world follows = λ old.
+        follows (fewer (replaced_status kind name) (λ row here. dropped_not _ row.status here) world.rows old)
+
+    row_follows : (item : ItemParts) (content : Content) (chains : List KeptChain) (world : World)
+        → (test (new_row kind world.made item.name content chains) ≡ true → Q) → Follows world → Follows (add_row kind item content chains world)
+    row_follows item content chains world says follows = λ h.
+        any_behind lives (rows_replaced kind item.name world.rows) (new_row kind world.made item.name content chains ∷ [])
+        (replaced_follows item.name world follows)
+        (λ new. says (any_only lives (new_row kind world.made item.name content chains) new)) h
 
     new_follows : (item : ItemParts) (body : Body) (world : World)
-        → ((content : Content) → body ≡ Good content → test (new_row kind world.made item.name content) ≡ true → Q)
-        → Follows world → Follows (with_content (add_row kind item) body world)
-    new_follows item (Good content) world says follows = λ h.
-        any_behind lives (with_statuses (replaced_status kind item.name) world.rows) (new_row kind world.made item.name content ∷ [])
-        (λ old. follows (fewer (replaced_status kind item.name) (λ row here. dropped_not _ row.status here) world.rows old))
-        (λ new. says content refl (any_only lives (new_row kind world.made item.name content) new)) h
+        → ((content : Content) → made_by kind New item.name body ≡ record { kind = kind; name = item.name; content = content } ∷ []
+        → test (new_row kind world.made item.name content []) ≡ true → Q)
+        → Follows world → Follows (with_content (λ content. add_row kind item content []) body world)
+    new_follows item (Good content) world says follows = row_follows item content [] world (says content refl) follows
     new_follows item (Bad rule) world says follows = follows
     new_follows item Beat world says follows = follows
 
-    version_follows : (item : ItemParts) (body : Body) (world : World) → Follows world → Follows (with_content (λ content. keep_version kind item) body world)
-    version_follows item (Good content) world follows = follows
-    version_follows item (Bad rule) world follows = follows
-    version_follows item Beat world follows = follows
-
-    value_follows : (item : ItemParts) (body : Body) (world : World) → Follows world → Follows (with_content (keep_value kind item) body world)
-    value_follows item (Good content) world follows = follows
-    value_follows item (Bad rule) world follows = follows
-    value_follows item Beat world follows = follows
+    in_place_follows : (item : ItemParts) (body : Body) (world : World)
+        → ((content : Content) (chains : List KeptChain) → made_by kind InPlace item.name body ≡ record { kind = kind; name = item.name; content = content } ∷ []
+        → test (new_row kind world.made item.name content chains) ≡ true → Q)
+        → Follows world → Follows (with_content (add_in_place kind item) body world)
+    in_place_follows item (Good content) world says follows =
+        row_follows item content (kept_from (serving_row kind item.name world.rows) content) world (says content _ refl) follows
+    in_place_follows item (Bad rule) world says follows = follows
+    in_place_follows item Beat world says follows = follows
 
     told_follows : (watched : Bool) (this that : World) → Follows this → Follows that → Follows (cond watched this that)
     told_follows true this that first second = first
@@ -151,11 +169,18 @@ module _ (test : GenRow → Bool) (blind : (row : GenRow) (status : RowStatus) �
     refused_follows Eds name world follows = told_follows (is_watched (lives_of world) Eds name) _ world follows follows
     refused_follows Lds name world follows = follows
     refused_follows Rds name world follows = told_follows (is_watched (lives_of world) Rds name) _ world follows follows
+    refused_follows Sds name world follows = told_follows (is_watched (lives_of world) Sds name) _ world follows follows
+    refused_follows Ecds name world follows = told_follows (is_watched (lives_of world) Ecds name) _ world follows follows
 
     item_follows : (verdict : Verdict) (item : ItemParts) (world : World) → Says (verdict, item) → Follows world → Follows (add_item kind verdict item world)
-    item_follows New item world says follows = new_follows item item.body world (λ content is. says world.made content refl is) follows
-    item_follows Same item world says follows = version_follows item item.body world follows
-    item_follows Kept item world says follows = value_follows item item.body world follows
+    item_follows New item world says follows = new_follows item item.body world (λ content. says world.made content []) follows
+    item_follows InPlace item world says follows = in_place_follows item item.body world (says world.made) follows
+    item_follows Back item world says follows =
+        with_content-holds Follows (λ content. go_back kind item) item.body world (λ content. replaced_follows item.name world follows) follows
+    item_follows Same item world says follows =
+        with_content-holds Follows (λ content. keep_version kind item) item.body world (λ content. follows) follows
+    item_follows Kept item world says follows =
+        with_content-holds Follows (keep_value kind item) item.body world (λ content. follows) follows
     item_follows Unasked item world says follows = follows
     item_follows Renewed item world says follows = follows
     item_follows (Refused rule) item world says follows = refused_follows kind item.name world follows
@@ -171,6 +196,8 @@ module _ (test : GenRow → Bool) (blind : (row : GenRow) (status : RowStatus) �
     first_follows Eds names world follows = follows
     first_follows Lds names world follows = follows
     first_follows Rds names world follows = follows
+    first_follows Sds names world follows = follows
+    first_follows Ecds names world follows = follows
 
     -- a response
     pub responded_follows : (response : ResponseParts) (verdicts : List Verdict) (world : World)
@@ -215,12 +242,12 @@ module _ (kind : Kind) (name : List ℕ) where
         let judged : List (Verdict × ItemParts) = zip verdicts response.items in
         let made = λ (one : Verdict × ItemParts). made_by of one.0 one.1.name one.1.body in
         responded_follows awaits awaits_blind (list_any (waits_for kind name) (made_in event (answered of response verdicts world).1) ≡ true) of response verdicts world
-        (λ one there number content new good waits.
+        (λ one there number content chains makes waits.
         ap (λ (e : Event). list_any (waits_for kind name) (made_in e (answered of response verdicts world).1)) is
         ∙ ap (λ (of : Option Kind). list_any (waits_for kind name) (made_in_response of response verdicts)) typed
         ∙ any_flat (waits_for kind name) made judged
         ∙ any_at (λ (other : Verdict × ItemParts). list_any (waits_for kind name) (made other)) judged one there
-        (ap₂ (λ (v : Verdict) (b : Body). list_any (waits_for kind name) (made_by of v one.1.name b)) new good
+        (ap (list_any (waits_for kind name)) makes
         ∙ or_left (has_dependency kind name content) false waits))
         (λ h. absurd (both_ways (has_one awaits awaits_blind world.rows) none (left_by awaits awaits_blind of response world h)))
 
@@ -293,6 +320,8 @@ stays_by Cds name response world isnt h = rows_stay Cds name response world h
 stays_by Eds name response world isnt h = absurd (false≢true (sym isnt))
 stays_by Lds name response world isnt h = rows_stay Lds name response world h
 stays_by Rds name response world isnt h = absurd (false≢true (sym isnt))
+stays_by Sds name response world isnt h = absurd (false≢true (sym isnt))
+stays_by Ecds name response world isnt h = absurd (false≢true (sym isnt))
 
 pub live_named : LiveAreNamed
 live_named format world actor response kind name streams typed isnt h =
@@ -304,7 +333,7 @@ live_named format world actor response kind name streams typed isnt h =
     let behind : has_one (is_row_of kind name) (named_blind kind name) (responded kind response verdicts world).rows ≡ true =
     sym (live_is kind name (responded kind response verdicts world)) ∙ subst (λ (w : World). list_any (is_named kind name) (lives_of w) ≡ true) after h in
     responded_follows (is_row_of kind name) (named_blind kind name) ((has_item response name ≡ true) ⊎ Stays kind name response world) kind response verdicts world
-    (λ one there number content new good is.
+    (λ one there number content chains makes is.
     inl (zipped (λ (item : ItemParts). bytes_eq item.name name) verdicts response.items
     (any_at (λ (other : Verdict × ItemParts). bytes_eq other.1.name name) (zip verdicts response.items) one there (second_so (kind_same kind kind) (bytes_eq one.1.name name) is))))
     (λ left. inr (stays_by kind name response world isnt left)) behind

@@ -4,24 +4,22 @@ use Rattle.std.specs.Prelude.{unwrap_or}
 use Rattle.std.specs.List.{last_or, zip}
 use Rattle.ev_types.specs.Items.{ItemParts, ResponseParts}
 use Rattle.ev_types.specs.declared.contents.Kind.{Kind}
-use Rattle.ev_types.specs.declared.contents.Kind.TheVariants.{Cds, Eds, Lds, Rds}
-use Rattle.ev_types.specs.declared.contents.Body.{Body}
-use Rattle.ev_types.specs.declared.contents.Body.TheVariants.{Good, Bad, Beat}
+use Rattle.ev_types.specs.declared.contents.Kind.TheVariants.{Cds, Eds, Lds, Rds, Sds, Ecds}
 use Rattle.ev_types.specs.declared.events.Actor.{Actor}
 use Rattle.ev_types.specs.declared.events.Entry.{Entry}
 use Rattle.ev_types.specs.declared.events.Event.{Event}
 use Rattle.ev_types.specs.declared.events.Event.TheVariants.{Connect, Disconnect, Response, Health, FetchTimeout, DrainTimeout, TtlExpired, Publish, Reap, Accept, Close, Settle}
 use Rattle.ev_types.specs.declared.events.Verdict.{Verdict}
-use Rattle.ev_types.specs.declared.events.Verdict.TheVariants.{New, Same, Kept, Unasked, Renewed, Refused}
+use Rattle.ev_types.specs.declared.events.Verdict.TheVariants.{New, InPlace, Back, Same, Kept, Unasked, Renewed, Refused}
 use Rattle.ev_types.specs.declared.journals.Format.{Format}
 use Rattle.ev_types.specs.declared.rows.GenRow.{GenRow}
 use Rattle.ev_types.specs.declared.hosts.Host.{Host}
 use Rattle.ev_model.specs.World.{World}
-use Rattle.ev_model.specs.Rows.{with_removals, with_content, add_row, keep_version, keep_value, refuse, add_item, add_items, with_first}
+use Rattle.ev_model.specs.Rows.{with_removals, add_row, keep_version, keep_value, refuse, add_item, add_items, with_first, add_in_place, go_back}
 use Rattle.ev_model.specs.Runs.{world_after}
 use Rattle.ev_model.specs.Signals.{health_of, name_timeout_of, fetch_timeout, with_end, expire, unexpired, rows_meant, forget_version}
 use Rattle.ev_model.specs.Step.{step, responded, respond_by}
-use Rattle.ev_model_laws.proofs.KeepLemmas.{either, of_worker-keeps}
+use Rattle.ev_model_laws.proofs.KeepLemmas.{either, of_worker-keeps, with_content-holds}
 use Rattle.ev_stream_laws.specs.MainSide.{stream_told}
 
 -- what an event leaves of the stream, where it says nothing of it
@@ -33,21 +31,8 @@ removed_same Cds response world = refl
 removed_same Eds response world = refl
 removed_same Lds response world = refl
 removed_same Rds response world = refl
-
-row_same : (kind : Kind) (item : ItemParts) (body : Body) (world : World) → HasSame world (with_content (add_row kind item) body world)
-row_same kind item (Good content) world = refl
-row_same kind item (Bad rule) world = refl
-row_same kind item Beat world = refl
-
-version_same : (kind : Kind) (item : ItemParts) (body : Body) (world : World) → HasSame world (with_content (λ content. keep_version kind item) body world)
-version_same kind item (Good content) world = refl
-version_same kind item (Bad rule) world = refl
-version_same kind item Beat world = refl
-
-value_same : (kind : Kind) (item : ItemParts) (body : Body) (world : World) → HasSame world (with_content (keep_value kind item) body world)
-value_same kind item (Good content) world = refl
-value_same kind item (Bad rule) world = refl
-value_same kind item Beat world = refl
+removed_same Sds response world = refl
+removed_same Ecds response world = refl
 
 one_of : (world : World) (test : Bool) (this that : World) → HasSame world this → HasSame world that → HasSame world (cond test this that)
 one_of world true this that first second = first
@@ -58,11 +43,15 @@ refused_same Cds name world = refl
 refused_same Eds name world = one_of world _ _ _ refl refl
 refused_same Lds name world = refl
 refused_same Rds name world = one_of world _ _ _ refl refl
+refused_same Sds name world = one_of world _ _ _ refl refl
+refused_same Ecds name world = one_of world _ _ _ refl refl
 
 item_same : (kind : Kind) (verdict : Verdict) (item : ItemParts) (world : World) → HasSame world (add_item kind verdict item world)
-item_same kind New item world = row_same kind item item.body world
-item_same kind Same item world = version_same kind item item.body world
-item_same kind Kept item world = value_same kind item item.body world
+item_same kind New item world = with_content-holds (HasSame world) (λ content. add_row kind item content []) item.body world (λ content. refl) refl
+item_same kind InPlace item world = with_content-holds (HasSame world) (add_in_place kind item) item.body world (λ content. refl) refl
+item_same kind Back item world = with_content-holds (HasSame world) (λ content. go_back kind item) item.body world (λ content. refl) refl
+item_same kind Same item world = with_content-holds (HasSame world) (λ content. keep_version kind item) item.body world (λ content. refl) refl
+item_same kind Kept item world = with_content-holds (HasSame world) (keep_value kind item) item.body world (λ content. refl) refl
 item_same kind Unasked item world = refl
 item_same kind Renewed item world = refl
 item_same kind (Refused rule) item world = refused_same kind item.name world
@@ -78,6 +67,8 @@ first_same Cds names world = refl
 first_same Eds names world = refl
 first_same Lds names world = refl
 first_same Rds names world = refl
+first_same Sds names world = refl
+first_same Ecds names world = refl
 
 responded_same : (kind : Kind) (response : ResponseParts) (verdicts : List Verdict) (world : World) → HasSame world (responded kind response verdicts world)
 responded_same kind response verdicts world =
@@ -103,6 +94,8 @@ fetch_same Cds name world = either (HasSame world) _ _ _ refl refl
 fetch_same Eds name world = name_same Eds name world
 fetch_same Lds name world = either (HasSame world) _ _ _ refl refl
 fetch_same Rds name world = name_same Rds name world
+fetch_same Sds name world = name_same Sds name world
+fetch_same Ecds name world = name_same Ecds name world
 
 expire_same : (numbers : List ℕ) (world : World) → HasSame world (expire numbers world).0
 expire_same [] world = refl
@@ -113,6 +106,8 @@ end_same Cds name world = refl
 end_same Eds name world = refl
 end_same Lds name world = refl
 end_same Rds name world = refl
+end_same Sds name world = refl
+end_same Ecds name world = refl
 
 -- a word, where there is one, before others
 abbrev cons_some : Option Bool → List Bool → List Bool

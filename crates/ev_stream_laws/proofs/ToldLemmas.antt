@@ -1,5 +1,5 @@
 -- What came for a name stays while the name is watched and nothing is said of it.
-use Rattle.std.proofs.Common.{◌≡◌, ℕ, Bool, true, false, cond, ◌&&◌, ◌||◌, List, [], ◌∷◌, ◌++◌, map, filter, filter_map, Option, None, Some, option_map, refl, sym, ap, ◌∙◌}
+use Rattle.std.proofs.Common.{◌≡◌, ℕ, Bool, true, false, cond, ◌&&◌, ◌||◌, List, [], ◌∷◌, ◌++◌, map, filter, filter_map, Option, None, Some, option_map, refl, sym, ap, ◌∙◌, subst}
 use Rattle.std.specs.Prelude.{unwrap_or}
 use Rattle.std.specs.List.{list_any, last_or, fold, zip, AllByRecursion as ByRecursion}
 use Rattle.std.specs.Str.{bytes_eq}
@@ -11,16 +11,14 @@ use Rattle.ev_types.specs.Items.{ItemParts, ResponseParts}
 use Rattle.ev_types.specs.Kinds.{kind_same, kind_decides}
 use Rattle.ev_types.specs.Same.{bytes_decide}
 use Rattle.ev_types.specs.declared.contents.Kind.{Kind}
-use Rattle.ev_types.specs.declared.contents.Kind.TheVariants.{Cds, Eds, Lds, Rds}
-use Rattle.ev_types.specs.declared.contents.Body.{Body}
-use Rattle.ev_types.specs.declared.contents.Body.TheVariants.{Good, Bad, Beat}
+use Rattle.ev_types.specs.declared.contents.Kind.TheVariants.{Cds, Eds, Lds, Rds, Sds, Ecds}
 use Rattle.ev_types.specs.declared.contents.Content.{Content}
 use Rattle.ev_types.specs.declared.events.Actor.{Actor}
 use Rattle.ev_types.specs.declared.events.Answer.{Answer}
 use Rattle.ev_types.specs.declared.events.Event.{Event}
 use Rattle.ev_types.specs.declared.events.Event.TheVariants.{Response}
 use Rattle.ev_types.specs.declared.events.Verdict.{Verdict}
-use Rattle.ev_types.specs.declared.events.Verdict.TheVariants.{New, Same, Kept, Unasked, Renewed, Refused}
+use Rattle.ev_types.specs.declared.events.Verdict.TheVariants.{New, InPlace, Back, Same, Kept, Unasked, Renewed, Refused}
 use Rattle.ev_types.specs.declared.journals.Format.{Format}
 use Rattle.ev_types.specs.declared.rows.Arrival.{Arrival}
 use Rattle.ev_types.specs.declared.rows.Arrival.TheVariants.{Value, Absent, Bad as bad, TimedOut, Ended}
@@ -29,10 +27,10 @@ use Rattle.ev_model.specs.Live.{lives_of}
 use Rattle.ev_model.specs.Watching.{is_watched}
 use Rattle.ev_model.specs.Warming.{is_for, content_in, is_word, last_told}
 use Rattle.ev_model.specs.Verdicts.{is_removed, verdicts_for}
-use Rattle.ev_model.specs.Rows.{arrived, absent_names, with_absences, with_removals, keep_version, add_row, keep_value, with_content, refuse, add_item, add_items, made_names, with_first}
+use Rattle.ev_model.specs.Rows.{arrived, absent_names, with_absences, with_removals, keep_version, add_row, keep_value, refuse, add_item, add_items, made_names, with_first, add_in_place, go_back}
 use Rattle.ev_model.specs.Tidy.{promoted, tidy}
 use Rattle.ev_model.specs.Signals.{no_hosts, no_routes, with_end, forget_version}
-use Rattle.ev_model.specs.Entries.{is_word_on, has_word_on, is_response_of, tells_of_name}
+use Rattle.ev_model.specs.Entries.{is_word_on, has_word_on, is_response_of, tells_of_name, tells_of_removal}
 use Rattle.ev_model.specs.Step.{step, answered}
 use Rattle.ev_model_laws.proofs.AnyLemmas.{any_behind, any_first}
 use Rattle.ev_model_laws.proofs.OperationLists.{filter_filter}
@@ -41,6 +39,7 @@ use Rattle.ev_model_laws.proofs.TidyLemmas.{for_same}
 use Rattle.ev_model_laws.proofs.ExpiredLemmas.{passed}
 use Rattle.ev_model_laws.proofs.EventLemmas.{step-leads}
 use Rattle.ev_stream_laws.specs.Told.{ends_name, HasSameValue, ToldStays}
+use Rattle.ev_model_laws.proofs.KeepLemmas.{with_content-holds}
 
 not_so : (b : Bool) → (b ≡ true → ⊥) → b ≡ false
 not_so true h = absurd (h refl)
@@ -121,20 +120,8 @@ module _ (kind : Kind) (name : List ℕ) where
       hushed n so = not_so (kind_same of kind && bytes_eq n name) (λ h.
           both_ways (kind_same of kind) (so (second_so (kind_same of kind) (bytes_eq n name) h)) (first_so (kind_same of kind) (bytes_eq n name) h))
 
-      made_came : (item : ItemParts) (body : Body) (after : World) → Came after → Came (with_content (add_row of item) body after)
-      made_came item (Good content) after is = is
-      made_came item (Bad rule) after is = is
-      made_came item Beat after is = is
-
-      version_came : (item : ItemParts) (body : Body) (after : World) → Came after → Came (with_content (λ content. keep_version of item) body after)
-      version_came item (Good content) after is = is
-      version_came item (Bad rule) after is = is
-      version_came item Beat after is = is
-
-      value_came : (item : ItemParts) (body : Body) (after : World) → Other item.name → Came after → Came (with_content (keep_value of item) body after)
-      value_came item (Good content) after other is = other_came after.arrivals (arrived after.made of (Value content) item.name) other ∙ is
-      value_came item (Bad rule) after other is = is
-      value_came item Beat after other is = is
+      value_came : (item : ItemParts) (content : Content) (after : World) → Other item.name → Came after → Came (keep_value of item content after)
+      value_came item content after other is = other_came after.arrivals (arrived after.made of (Value content) item.name) other ∙ is
 
     told_came : (of : Kind) (n : List ℕ) (watched : Bool) (after : World) → Other of n → Came after
         → Came (cond watched (record after { arrivals = after.arrivals ++ arrived after.made of bad n ∷ [] }) after)
@@ -146,11 +133,17 @@ module _ (kind : Kind) (name : List ℕ) where
     refused_came Eds n after other is = told_came Eds n (is_watched (lives_of after) Eds n) after other is
     refused_came Lds n after other is = is
     refused_came Rds n after other is = told_came Rds n (is_watched (lives_of after) Rds n) after other is
+    refused_came Sds n after other is = told_came Sds n (is_watched (lives_of after) Sds n) after other is
+    refused_came Ecds n after other is = told_came Ecds n (is_watched (lives_of after) Ecds n) after other is
 
     item_came : (of : Kind) (verdict : Verdict) (item : ItemParts) (after : World) → Hush of (verdict, item) → Came after → Came (add_item of verdict item after)
-    item_came of New item after hush is = made_came of item item.body after is
-    item_came of Same item after hush is = version_came of item item.body after is
-    item_came of Kept item after hush is = value_came of item item.body after (hushed of item.name hush) is
+    item_came of New item after hush is =
+        with_content-holds Came (λ content. add_row of item content []) item.body after (λ content. is) is
+    item_came of InPlace item after hush is = with_content-holds Came (add_in_place of item) item.body after (λ content. is) is
+    item_came of Back item after hush is = with_content-holds Came (λ content. go_back of item) item.body after (λ content. is) is
+    item_came of Same item after hush is = with_content-holds Came (λ content. keep_version of item) item.body after (λ content. is) is
+    item_came of Kept item after hush is =
+        with_content-holds Came (keep_value of item) item.body after (λ content. value_came of item content after (hushed of item.name hush) is) is
     item_came of Unasked item after hush is = is
     item_came of Renewed item after hush is = is
     item_came of (Refused rule) item after hush is = refused_came of item.name after (hushed of item.name hush) is
@@ -166,6 +159,8 @@ module _ (kind : Kind) (name : List ℕ) where
     first_came Eds names after is = is
     first_came Lds names after is = is
     first_came Rds names after is = is
+    first_came Sds names after is = is
+    first_came Ecds names after is = is
 
     absent_came : (of : Kind) (response : ResponseParts) → (is_removed response name ≡ true → kind_same of kind ≡ false) → Came (with_absences of response world)
     absent_came of response hush =
@@ -176,17 +171,21 @@ module _ (kind : Kind) (name : List ℕ) where
         (λ n there. hushed of n (λ same.
         hush (ap (is_removed response) (sym ((bytes_decide n name).0 same)) ∙ first_so (is_removed response n) (is_watched (lives_of world) of n) (passed test response.removed n there))))))
 
-    removed_came : (of : Kind) (response : ResponseParts) → (is_removed response name ≡ true → kind_same of kind ≡ false) → Came (with_removals of response world)
+    removed_came : (of : Kind) (response : ResponseParts) → (tells_of_removal of name response ≡ true → kind_same of kind ≡ false) → Came (with_removals of response world)
     removed_came Cds response hush = refl
     removed_came Eds response hush = absent_came Eds response hush
     removed_came Lds response hush = refl
     removed_came Rds response hush = absent_came Rds response hush
+    removed_came Sds response hush = refl
+    removed_came Ecds response hush = absent_came Ecds response hush
 
     ended_came : (of : Kind) (n : List ℕ) → Other of n → Came (with_end of n (forget_version of n world))
     ended_came Cds n other = refl
     ended_came Eds n other = other_came world.arrivals (arrived world.made Eds (Ended no_hosts) n) other
     ended_came Lds n other = refl
     ended_came Rds n other = other_came world.arrivals (arrived world.made Rds (Ended no_routes) n) other
+    ended_came Sds n other = refl
+    ended_came Ecds n other = refl
 
     -- ---- a timeout
 
@@ -242,20 +241,21 @@ module _ (kind : Kind) (name : List ℕ) where
           let left : World = with_removals of response world in
           let after : World = with_first of (made_names verdicts response.items) (add_items of verdicts response.items left) in
           let answer : Answer = (answered of response verdicts world).1 in
-          let quiet : (has_word_on name verdicts response.items || is_removed response name) ≡ true → kind_same of kind ≡ false =
+          let quiet : (has_word_on name verdicts response.items || tells_of_removal of name response) ≡ true → kind_same of kind ≡ false =
           λ told. not_so (kind_same of kind) (λ same.
+          let one : of ≡ kind = (kind_decides of kind).0 same in
           both_ways (tells_of_name kind name event answer) hush
           (ap (λ (e : Event). tells_of_name kind name e answer) is
-          ∙ and_from (is_response_of kind response) (has_word_on name verdicts response.items || is_removed response name)
-          (ap (λ (o : Option Kind). unwrap_or (option_map (kind_same kind) o) false) typed ∙ (kind_decides kind of).1 (sym ((kind_decides of kind).0 same)))
-          told)) in
+          ∙ and_from (is_response_of kind response) (has_word_on name verdicts response.items || tells_of_removal kind name response)
+          (ap (λ (o : Option Kind). unwrap_or (option_map (kind_same kind) o) false) typed ∙ (kind_decides kind of).1 (sym one))
+          (subst (λ (k : Kind). (has_word_on name verdicts response.items || tells_of_removal k name response) ≡ true) one told))) in
           same_by (tidy after)
           (tidied_came after watched
           ∙ first_came of (made_names verdicts response.items) (add_items of verdicts response.items left)
           (items_came of judged left
           (recursion_from_All (Hush of) judged (all_of (Hush of) judged (λ one there word.
-          quiet (or_left (has_word_on name verdicts response.items) (is_removed response name) (any_at (λ (other : Verdict × ItemParts). is_word_on name other.0 other.1) judged one there word)))))
-          (removed_came of response (λ gone. quiet (or_right (has_word_on name verdicts response.items) (is_removed response name) gone)))))
+          quiet (or_left (has_word_on name verdicts response.items) (tells_of_removal of name response) (any_at (λ (other : Verdict × ItemParts). is_word_on name other.0 other.1) judged one there word)))))
+          (removed_came of response (λ gone. quiet (or_right (has_word_on name verdicts response.items) (tells_of_removal of name response) gone)))))
 
       stays : Stays (step format world actor event)
       stays = step-leads Stays format world actor event (record {

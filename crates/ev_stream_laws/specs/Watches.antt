@@ -10,7 +10,8 @@ use Rattle.ev_types.specs.declared.events.Event.TheVariants.{Response}
 use Rattle.ev_types.specs.declared.journals.Format.{Format}
 use Rattle.ev_model.specs.World.{World}
 use Rattle.ev_model.specs.Live.{lives_of, is_named}
-use Rattle.ev_model.specs.Watching.{has_dependency, is_by_name, is_watched}
+use Rattle.ev_types.specs.Kinds.{is_by_name}
+use Rattle.ev_model.specs.Watching.{has_dependency, is_watched}
 use Rattle.ev_model.specs.Verdicts.{is_removed}
 use Rattle.ev_model.specs.Entries.{MadeRow, made_in}
 use Rattle.ev_model.specs.Step.{step}

@@ -1,14 +1,16 @@
--- How far the proxy has booted, and which worlds that stands for. Source: Envoy's initialization: listeners are asked for once the
--- first clusters have warmed.
+-- How far the proxy has booted, and which worlds that stands for. Source: Envoy's initialization: listeners are asked
+-- for once the first clusters have warmed.
 use Rattle.std.specs.Prelude.{◌≡◌, ℕ, Bool, true, not, ◌||◌, if◌then◌else◌, List, Option, is_some}
 use Rattle.ev_types.specs.Items.{ResponseParts}
 use Rattle.ev_types.specs.declared.contents.Kind.{Kind}
+use Rattle.ev_types.specs.declared.contents.Kind.TheVariants.{Cds, Lds}
 use Rattle.ev_types.specs.declared.events.Verdict.{Verdict}
 use Rattle.ev_types.specs.declared.rows.Phase.{Phase}
 use Rattle.ev_model.specs.World.{World}
 use Rattle.ev_model.specs.Rows.{made_names, noted_once, with_first}
 use Rattle.ev_model.specs.Phase.{have_come, is_clusters}
 use Rattle.ev_model.specs.Tidy.{with_phase}
+use Rattle.ev_mentions.specs.Keys.{named}
 use Rattle.ev_indexes.specs.Reads.{has_come_in}
 use Rattle.ev_indexes.specs.Worlds.{HasRows}
 use Rattle.ev_indexes.specs.declared.state.State.{State}
@@ -38,13 +40,17 @@ pub record HaveBooted (targets : TargetsParts) (world : World) : Type 0 where
 abbrev pub names_noted : FirstParts → List Verdict → ResponseParts → Option (List (List ℕ))
 names_noted first verdicts response = noted_once first.names (made_names verdicts response.items)
 
+-- a name of this kind has come, by what is known
+abbrev pub comes_in : Kind → State → List ℕ → Bool
+comes_in kind s name = has_come_in s.table.rows (named kind name)
+
 -- the first clusters have come, or are late
 abbrev pub clusters_come : TargetsParts → State → Bool
-clusters_come targets s = have_come targets.late_clusters (has_come_in s.table.rows) targets.first_clusters
+clusters_come targets s = have_come targets.late_clusters (comes_in Cds s) targets.first_clusters
 
 -- the first listeners have come, or are late
 abbrev pub listeners_come : TargetsParts → State → Bool
-listeners_come targets s = have_come targets.late_listeners (has_come_in s.table.rows) targets.first_listeners
+listeners_come targets s = have_come targets.late_listeners (comes_in Lds s) targets.first_listeners
 
 -- it is so in every world that the targets stand for
 abbrev pub InWorlds : TargetsParts → (World → Type 0) → Type 0
@@ -74,7 +80,6 @@ with_late_clusters are_late world = if are_late then record world { late_cluster
 abbrev pub with_late_listeners : Bool → World → World
 with_late_listeners are_late world = if are_late then record world { late_listeners = true } else world
 
--- whatever world the old ones and both managers stood for, the new ones stand for it in the phase that follows
-abbrev pub MoveOn : State → State → TargetsParts → TargetsParts → Type 0
-MoveOn clusters listeners old new =
-    (world : World) → HaveBooted old world → HasRows clusters world → HasRows listeners world → HaveBooted new (with_phase world)
+-- whatever world the old ones and the managers stood for, the new ones stand for it in the phase that follows
+abbrev pub MoveOn : State → TargetsParts → TargetsParts → Type 0
+MoveOn s old new = (world : World) → HaveBooted old world → HasRows s world → HaveBooted new (with_phase world)

@@ -3,16 +3,15 @@ ghost use Rattle.std.specs.List.{list_all};
 ghost use Rattle.ev_model.specs.Rows.{made_names};
 ghost use Rattle.ev_model.specs.Phase.{have_come};
 ghost use Rattle.ev_indexes.specs.Indexes.{IsIndexed};
-ghost use Rattle.ev_indexes.specs.Reads.{has_come_in};
-ghost use Rattle.ev_targets.specs.Targets.{names_noted};
+ghost use Rattle.ev_targets.specs.Targets.{comes_in, names_noted};
 
 use ev_indexes::State;
-use ev_types::{Item, Response, Seq, Text, TryCopy, Verdict};
+use ev_types::{Item, Kind, Response, Seq, Text, TryCopy, Verdict};
 use std::alloc::{AllocError, Global};
 use std::marker::Model;
 
-/// The names that the first response of a kind made generations for, and whether they are late. It also has the place of a name that
-/// was seen waiting, which is asked first.
+/// The names that the first response of a kind made generations for, and whether they are late. It also has the place
+/// of a name that was seen waiting, which is asked first.
 #[derive(Drop)]
 pub(crate) struct First {
     names: Option<Seq<Text>>,
@@ -72,11 +71,11 @@ impl First {
         true
     }
 
-    /// Whether they have come or are late. The name that was seen waiting is asked first, then those after it, then those before it,
-    /// up to the first that waits.
-    pub(crate) fn have_come(&mut self, known: &State) -> bool
+    /// Whether they have come or are late. The name that was seen waiting is asked first, then those after it, then
+    /// those before it, up to the first that waits.
+    pub(crate) fn have_come(&mut self, kind: Kind, known: &State) -> bool
         requires indexed { IsIndexed known.now }
-        ensures value { result ≡ have_come self.old.late (has_come_in known.now.table.rows) self.old.names }
+        ensures value { result ≡ have_come self.old.late (comes_in kind known.now) self.old.names }
         ensures same { self.new ≡ self.old }
     {
         if self.late {
@@ -85,7 +84,7 @@ impl First {
         let Some(names) = &self.names else {
             return false;
         };
-        match waiting(known, names.as_slice(), self.place) {
+        match waiting(kind, known, names.as_slice(), self.place) {
             Some(place) => {
                 self.place = place;
                 false
@@ -96,51 +95,51 @@ impl First {
 }
 
 // The place of a name that waits, looked for from a place on and around the list.
-fn waiting(known: &State, names: &[Text], from: usize) -> Option<usize>
+fn waiting(kind: Kind, known: &State, names: &[Text], from: usize) -> Option<usize>
     requires indexed { IsIndexed known.now }
-    ensures { is_some result ≡ not (list_all (has_come_in known.now.table.rows) names.now) }
+    ensures { is_some result ≡ not (list_all (comes_in kind known.now) names.now) }
 {
     let from = from.min(names.len());
-    match first_waiting(known, &names[from..]) {
+    match first_waiting(kind, known, &names[from..]) {
         Some(further) => Some(from + further),
-        None => first_waiting(known, &names[..from]),
+        None => first_waiting(kind, known, &names[..from]),
     }
 }
 
 // The place of the first of these names that waits.
-fn first_waiting(known: &State, names: &[Text]) -> Option<usize>
+fn first_waiting(kind: Kind, known: &State, names: &[Text]) -> Option<usize>
     requires indexed { IsIndexed known.now }
-    ensures waits { is_some result ≡ not (list_all (has_come_in known.now.table.rows) names.now) }
+    ensures waits { is_some result ≡ not (list_all (comes_in kind known.now) names.now) }
     ensures within { IfSome result (λ place. place < length names.now) }
 {
     for (place, name) in names.iter().enumerate() {
-        if !known.has_come(name.as_str()) {
+        if !known.has_come(kind, name.as_str()) {
             return Some(place);
         }
     }
     None
 }
 
-// The names of the resources that made a generation, in order.
+// The names of the resources that are new, in order.
 fn made_names(alloc: Global, verdicts: &[Verdict], items: &[Item]) -> Result<Seq<Text>, AllocError>
     requires { length verdicts.now ≡ length items.now }
     ensures { IfOk result (λ names. names ≡ made_names verdicts.now items.now) }
 {
     let mut names = Vec::new(alloc);
     for (place, verdict) in verdicts.iter().enumerate() {
-        push_made(alloc, *verdict, &items[place], &mut names)?;
+        push_made(alloc, verdict, &items[place], &mut names)?;
     }
     Ok(Seq::from_vec(names))
 }
 
-// Adds the name of a resource to the others, where it made a generation.
+// Adds the name of a resource to the others, where it is new.
 fn push_made(
     alloc: Global,
-    verdict: Verdict,
+    verdict: &Verdict,
     item: &Item,
     names: &mut Vec<Text>,
 ) -> Result<(), AllocError>
-    ensures { OnOk result (names.new.items ≡ names.old.items ++ made_names (verdict ∷ []) (item.now ∷ [])) }
+    ensures { OnOk result (names.new.items ≡ names.old.items ++ made_names (verdict.now ∷ []) (item.now ∷ [])) }
 {
     if let Verdict::New = verdict {
         names.push(item.name.copy(alloc)?)?;

@@ -1,12 +1,12 @@
-//! How far the proxy has booted, as Envoy's init manager knows it: the names that the first response of clusters, and of listeners,
-//! made generations for are its init targets. Which of these wait isn't counted, since a count would have to be moved at every
-//! arrival, promotion and retirement; a name that was seen waiting is asked first, so no event looks at all of them.
+//! How far the proxy has booted, as Envoy's init manager knows it: the names that the first response of clusters, and
+//! of listeners, made generations for are its init targets. Which of these wait isn't counted, since a count would have
+//! to be moved at every arrival, promotion and retirement; a name that was seen waiting is asked first, so no event
+//! looks at all of them.
 #![tactic(auto)]
 
 ghost use Rattle.std.specs.Prelude.{◌≡◌, ◌&&◌, not, ℕ, List, true, length, if◌then◌else◌, OnOk};
 ghost use Rattle.ev_model.specs.World.{opening};
 ghost use Rattle.ev_model.specs.Phase.{have_come, is_clusters, listeners_phase, phase_from};
-ghost use Rattle.ev_types.specs.declared.contents.Kind.TheVariants.{Cds, Lds};
 ghost use Rattle.ev_indexes.specs.Indexes.{IsIndexed};
 ghost use Rattle.ev_targets.specs.Targets.{HaveBooted, InWorlds, StandAfter, MoveOn, awaits_clusters, awaits_listeners, clusters_come, listeners_come, with_late_clusters, with_late_listeners, with_first_made};
 
@@ -60,8 +60,8 @@ impl Targets {
         self.phase
     }
 
-    /// A response of this kind made generations by these verdicts: the first one of clusters, and of listeners, is noted by their
-    /// names. Out of memory, nothing is promised.
+    /// A response of this kind made generations by these verdicts: the first one of clusters, and of listeners, is
+    /// noted by their names. Out of memory, nothing is promised.
     pub fn note_first(
         &mut self,
         alloc: Global,
@@ -76,12 +76,12 @@ impl Targets {
         match kind {
             Kind::Cds => self.clusters.note(alloc, response, verdicts),
             Kind::Lds => self.listeners.note(alloc, response, verdicts),
-            Kind::Eds | Kind::Rds => Ok(()),
+            _ => Ok(()),
         }
     }
 
-    /// The fetch timeout of clusters: they are late from now on. It is ignored, which the answer says, where a response of them
-    /// came or they are late already.
+    /// The fetch timeout of clusters: they are late from now on. It is ignored, which the answer says, where a response
+    /// of them came or they are late already.
     pub fn clusters_timeout(&mut self) -> bool
         ensures late { self.new ≡ (if result then record self.old { late_clusters = true } else self.old) }
         ensures heard { InWorlds self.old (λ world. result ≡ awaits_clusters world) }
@@ -104,56 +104,52 @@ impl Targets {
         self.listeners.time_out()
     }
 
-    /// The phase moves on as far as what came allows: where the first clusters have come, listeners are awaited, and where the
-    /// first listeners have come, they serve. Answers whether listeners are awaited from now on, or serve, and weren't before.
-    /// While a name that was seen waiting still waits, it costs one look-up.
-    pub fn advance(&mut self, clusters: &State, listeners: &State) -> bool
-        requires clusters { clusters.now.kind ≡ Cds }
-        requires listeners { listeners.now.kind ≡ Lds }
-        requires indexed { IsIndexed clusters.now }
-        requires indexed_too { IsIndexed listeners.now }
+    /// The phase moves on as far as what came allows: where the first clusters have come, listeners are awaited, and
+    /// where the first listeners have come, they serve. Answers whether listeners are awaited from now on, or serve,
+    /// and weren't before. While a name that was seen waiting still waits, it costs one look-up.
+    pub fn advance(&mut self, known: &State) -> bool
+        requires indexed { IsIndexed known.now }
         ensures phase { self.new ≡ record self.old {
           phase = phase_from
-              (clusters_come self.old clusters.now)
-              (listeners_come self.old listeners.now) self.old.phase;
+              (clusters_come self.old known.now)
+              (listeners_come self.old known.now) self.old.phase;
         } }
         ensures left { result ≡ (is_clusters self.old.phase && not (is_clusters self.new.phase)) }
-        // Whatever world all three stood for, it stands for that world in the phase that follows.
-        ensures stands { MoveOn clusters.now listeners.now self.old self.new }
+        // Whatever world both stood for, it stands for that world in the phase that follows.
+        ensures stands { MoveOn known.now self.old self.new }
     {
         let before = self.phase;
-        self.phase = self.phase_after(clusters, listeners);
+        self.phase = self.phase_after(known);
         is_clusters(before) && !is_clusters(self.phase)
     }
 
     // The phase that follows.
-    fn phase_after(&mut self, clusters: &State, listeners: &State) -> Phase
-        requires clusters { IsIndexed clusters.now }
-        requires listeners { IsIndexed listeners.now }
+    fn phase_after(&mut self, known: &State) -> Phase
+        requires { IsIndexed known.now }
         ensures phase { result ≡ phase_from
-            (clusters_come self.old clusters.now)
-            (listeners_come self.old listeners.now) self.old.phase }
+            (clusters_come self.old known.now)
+            (listeners_come self.old known.now) self.old.phase }
         ensures same { self.new ≡ self.old }
     {
         match self.phase {
             Phase::Clusters => {
-                if !self.clusters.have_come(clusters) {
+                if !self.clusters.have_come(Kind::Cds, known) {
                     return Phase::Clusters;
                 }
-                self.listeners_phase(listeners)
+                self.listeners_phase(known)
             }
-            Phase::Listeners => self.listeners_phase(listeners),
+            Phase::Listeners => self.listeners_phase(known),
             Phase::Serving => Phase::Serving,
         }
     }
 
     // The phase that follows once listeners are awaited.
-    fn listeners_phase(&mut self, listeners: &State) -> Phase
-        requires { IsIndexed listeners.now }
-        ensures phase { result ≡ listeners_phase (listeners_come self.old listeners.now) }
+    fn listeners_phase(&mut self, known: &State) -> Phase
+        requires { IsIndexed known.now }
+        ensures phase { result ≡ listeners_phase (listeners_come self.old known.now) }
         ensures same { self.new ≡ self.old }
     {
-        if self.listeners.have_come(listeners) {
+        if self.listeners.have_come(Kind::Lds, known) {
             Phase::Serving
         } else {
             Phase::Listeners

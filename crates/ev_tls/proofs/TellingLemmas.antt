@@ -8,7 +8,7 @@ use Rattle.ev_types.specs.Events.{MayMake}
 use Rattle.ev_types.specs.Items.{ResponseParts}
 use Rattle.ev_types.specs.Scripts.{IsScript}
 use Rattle.ev_types.specs.declared.contents.Kind.{Kind}
-use Rattle.ev_types.specs.declared.contents.Kind.TheVariants.{Cds, Eds, Lds, Rds}
+use Rattle.ev_types.specs.declared.contents.Kind.TheVariants.{Eds}
 use Rattle.ev_types.specs.declared.events.Actor.TheVariants.{Stream}
 use Rattle.ev_types.specs.declared.events.Event.{Event}
 use Rattle.ev_types.specs.declared.events.Event.TheVariants.{Response}
@@ -47,9 +47,7 @@ no_secret secret names is = differ (in_map Endpoints names (Secret secret) is).2
 secret_kind : (secret : List ℕ) (kind : Option Kind) (response : ResponseParts) (message : Data) → IsIn (Secret secret) (told_as kind response message) → kind ≡ None
 secret_kind secret None response message is = refl
 secret_kind secret (Some Eds) response message is = absurd (no_secret secret (endpoints_told response) is)
-secret_kind secret (Some Cds) response message is = absurd is
-secret_kind secret (Some Lds) response message is = absurd is
-secret_kind secret (Some Rds) response message is = absurd is
+secret_kind secret (Some kind) response message is = absurd is
 
 unread_by : (profile : Profile) (secret : List ℕ) (line message : Data) (event : Option Event) → event_of profile line ≡ event → IsIn (Secret secret) (told_with event message) → IsUnread profile line
 unread_by profile secret line message (Some (Response response)) reads is =

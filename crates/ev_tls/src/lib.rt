@@ -1,10 +1,11 @@
-//! The command `tls`: of the trees of a script's lines the text of a script in which clusters wait for their secrets, and the law
-//! that what is accepted in its runs is sealed.
+//! The command `tls`: of the trees of a script's lines the text of a script in which clusters wait for their secrets,
+//! and the law that what is accepted in its runs is sealed.
 //!
 //! # Choices
 //!
-//! - The text is made by `ev_tls_secrets`; that it is a script is the law of `ev_expand_laws`, whose premises are proved here: trees
-//!   that were read are lines of a script, and the endpoints that are sent were in such a line at least as deep.
+//! - The text is made by `ev_tls_secrets`; that it is a script is the law of `ev_expand_laws`, whose premises are
+//!   proved here: trees that were read are lines of a script, and the endpoints that are sent were in such a line at
+//!   least as deep.
 #![tactic(auto)]
 
 ghost use Rattle.std.specs.Prelude.{◌≡◌, false, Some, Ok, IfOk, OnOk};
@@ -25,13 +26,13 @@ use ev_tls_secrets::expand;
 pub use laws::accepts_are_sealed;
 use std::alloc::Global;
 
-/// The text of a script whose clusters wait for their secrets, by the trees of a script's lines. It is a script without
-/// fault, within the bounds of scripts.
+/// The text of a script whose clusters wait for their secrets, by the trees of a script's lines. It is a script
+/// without fault, within the bounds of scripts.
 ///
 /// # Errors
-/// `Private` exactly for the first line that uses a name that begins with `tls/` for endpoints. `Large` where there is none,
-/// exactly for the line with whose output the text goes above a limit of inputs. `OutOfMemory` where memory runs out, and for 2^32
-/// lines and more.
+/// `Private` exactly for the first line that uses a name that begins with `tls/` for endpoints. `Large` where there
+/// is none, exactly for the line with whose output the text goes above a limit of inputs. `OutOfMemory` where memory
+/// runs out, and for 2^32 lines and more.
 pub fn seal(alloc: Global, trees: &ScriptTrees) -> Result<Vec<u8>, ExpandError>
     requires read { (input : Input) × IsTreesAnswer plain_lines input (Ok trees.now) }
     ensures expanded { IsExpanded (tls_rules trees.now.header.profile) (view trees.now.head)

@@ -8,3 +8,4 @@ mod ProgressLemmas
 mod LookLemmas
 mod StateLemmas
 mod QuietLemmas
+mod UnguardedLemmas

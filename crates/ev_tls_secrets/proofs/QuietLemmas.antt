@@ -20,7 +20,7 @@ use Rattle.ev_tls_secrets.specs.Known.{later_value}
 use Rattle.ev_tls_secrets.specs.Hearing.{heard_now, is_quiet}
 use Rattle.ev_tls_secrets.specs.References.{by_secrets}
 use Rattle.ev_tls_secrets.specs.Sealing.{tls_rules, is_due, endpoints_by, has_guarded, gives_name, gives_endpoints}
-use Rattle.ev_tls_secrets.specs.State.{IsBehind}
+use Rattle.ev_tls_secrets.specs.State.{HasHeard}
 use Rattle.ev_tls_secrets.specs.Told.{told_by, told_with, is_told, is_complete, values_in, given_with, value_of}
 use Rattle.ev_tls_secrets.specs.Waiting.{AreComplete, IsWaiting}
 use Rattle.ev_tls_secrets.proofs.StateLemmas.{stream_now, told_now, value_now, all_same}
@@ -76,7 +76,7 @@ stays_open : (profile : Profile) (before : List Data) (line : Data) → option_a
 stays_open profile before line h = sym (stream_now profile before line) ∙ ap (λ (o : Option Bool). unwrap_or o (stream_at profile before)) h
 
 -- what is known stays
-pub quiet_behind : (profile : Profile) (before : List Data) (line : Data) (s : Secrets) (event : Option Event) → event ≡ event_of profile line → is_quiet event ≡ true → IsBehind profile s before → IsBehind profile s (before ++ line ∷ [])
+pub quiet_behind : (profile : Profile) (before : List Data) (line : Data) (s : Secrets) (event : Option Event) → event ≡ event_of profile line → is_quiet event ≡ true → HasHeard profile s before → HasHeard profile s (before ++ line ∷ [])
 quiet_behind profile before line s event is quiet behind =
     let says : SaysNothing profile (event_of profile line) (message_of line) = nothing_said profile (event_of profile line) (message_of line) (ap is_quiet (sym is) ∙ quiet) in
     let guarded : guarded_in (by_secrets profile) line ≡ [] = ap (filter_map (guarded_of (by_secrets profile))) says.lists in

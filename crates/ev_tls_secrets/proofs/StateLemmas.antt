@@ -35,7 +35,7 @@ use Rattle.ev_tls_secrets.specs.Hearing.{heard_now, open_after}
 use Rattle.ev_tls_secrets.specs.Looking.{Marks, due_among, due_by, due_parts, endpoints_with, is_awake}
 use Rattle.ev_tls_secrets.specs.Marking.{is_place, is_marked}
 use Rattle.ev_tls_secrets.specs.References.{by_secrets}
-use Rattle.ev_tls_secrets.specs.State.{IsBehind}
+use Rattle.ev_tls_secrets.specs.State.{HasHeard}
 use Rattle.ev_tls_secrets.specs.Sealing.{tls_rules, is_due, endpoints_by, has_guarded, gives_name, gives_endpoints}
 use Rattle.ev_tls_secrets.specs.Told.{told_by, is_told, is_complete, values_in, value_of}
 use Rattle.ev_tls_secrets.specs.Waiting.{completed, complete_at, Grows}
@@ -229,7 +229,7 @@ pub record Hears (profile : Profile) (before : List Data) (line : Data) (connect
   pub shows : (name : List ℕ) → shown_value values name ≡ value_of profile (before ++ line ∷ []) name
 
 pub hears : (profile : Profile) (before : List Data) (line : Data) (s : Secrets) (event : Option Event) (connected : Bool) (heard : List Awaited) (gave : List (List ℕ × Data)) (told : Told) (values : Values)
-    → IsBehind profile s before → event ≡ event_of profile line → connected ≡ open_after s.connected event → heard ≡ flat_map (told_by profile) (heard_now connected line) → gave ≡ flat_map (values_in profile) (heard_now connected line)
+    → HasHeard profile s before → event ≡ event_of profile line → connected ≡ open_after s.connected event → heard ≡ flat_map (told_by profile) (heard_now connected line) → gave ≡ flat_map (values_in profile) (heard_now connected line)
     → AddsAll s.told told heard → ((name : List ℕ) → shown_value values name ≡ later_value name (shown_value s.values name) gave) → Hears profile before line connected gave told values
 hears profile before line s event connected heard gave told values behind read opened telling giving adds later =
     let stream : connected ≡ stream_at profile (before ++ line ∷ []) = opened ∙ (λ i. open_after (behind.stream i) (read i)) ∙ stream_now profile before line in

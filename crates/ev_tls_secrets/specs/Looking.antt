@@ -27,8 +27,8 @@ endpoints_with values (Static rows) own = Some own
 endpoints_with values (Eds service limited fresh) own = shown_value values service
 endpoints_with values Elsewhere own = None
 
--- What is known at a line: whether a stream is open, and was opened by the line, which places were complete before it, which are
--- now, which have a guarded resource in it, and which names it gives a value.
+-- What is known at a line: whether a stream is open, and was opened by the line, which places were complete before
+-- it, which are now, which have a guarded resource in it, and which names it gives a value.
 pub record Marks : Type 0 where
   pub connected : Bool
   pub opened : Bool
@@ -80,7 +80,8 @@ due_one marks values guarded place = due_there marks values place (slice_get gua
 abbrev pub stands_under_any : PlacesKept → List (List ℕ) → ℕ → Bool
 stands_under_any served names place = list_any (λ (name : List ℕ). stands_under served (Endpoints name) place) names
 
--- a place may be due: the line completes it, has a guarded resource of it, gives its endpoints a value or opens a stream
+-- a place may be due: the line completes it, has a guarded resource of it, gives its endpoints a value or opens a
+-- stream
 abbrev pub may_be_due : Complete → Marked → ℕ → Bool
 may_be_due complete marked place =
     contains nat_eq marked.finished place || contains nat_eq marked.items place
@@ -95,8 +96,8 @@ abbrev pub WereServed : Complete → List Guarded → Type 0
 WereServed complete guarded = (place : ℕ) (g : Guarded) → slice_get guarded place ≡ Some g
     → contains nat_eq complete.places place ≡ true → is_served complete.served place g.key.cluster.discovery ≡ true
 
--- these are the marks of a line, by whether a stream was open before it and is after it, the places of its guarded resources and
--- the names that it gives a value
+-- these are the marks of a line, by whether a stream was open before it and is after it, the places of its guarded
+-- resources and the names that it gives a value
 pub record AreMarks (was_open connected : Bool) (places : List (Option ℕ)) (names : List ℕ → Bool) (marked : Marked)
     : Type 0 where
   pub stream : marked.connected ≡ connected

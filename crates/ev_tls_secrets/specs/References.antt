@@ -1,19 +1,20 @@
--- The secrets that a cluster names: by `transport_socket` of Envoy's cluster, with the context of TLS towards upstream hosts, where
--- their values come by the secret discovery service. Of clusters whose hosts are names or are found elsewhere none is looked at.
-use Rattle.std.specs.Prelude.{ℕ, Bool, not, ◌&&◌, ◌||◌, ◌==◌, List, [], ◌∷◌, ◌++◌, length, filter_map, Option, Some, None, if◌then◌else◌, codes}
+-- The secrets that a cluster names: by `transport_socket` of Envoy's cluster, with the context of TLS towards
+-- upstream hosts, where their values come by the secret discovery service.
+use Rattle.std.specs.Prelude.{ℕ, Bool, ◌==◌, List, [], ◌∷◌, ◌++◌, length, filter_map, Option, Some, None, if◌then◌else◌, codes}
 use Rattle.std.specs.Str.{bytes_eq}
 use Rattle.serde_json.specs.Data.{Data, null, array, no_items}
 use Rattle.ev_types.specs.declared.contents.Kind.TheVariants.{Cds}
 use Rattle.ev_types.specs.declared.contents.Body.{Body}
 use Rattle.ev_types.specs.declared.contents.Body.TheVariants.{Good, Bad, Beat}
 use Rattle.ev_types.specs.declared.contents.Content.{Content}
-use Rattle.ev_types.specs.declared.contents.Content.TheVariants.{Cluster as a_cluster, Assignment as an_assignment, Listener as a_listener, Routes as routes}
+use Rattle.ev_types.specs.declared.contents.Content.TheVariants.{Cluster as a_cluster}
 use Rattle.ev_types.specs.declared.clusters.Cluster.{Cluster}
 use Rattle.ev_types.specs.declared.events.Profile.{Profile}
+use Rattle.ev_types.specs.Profiles.{is_envoy}
 use Rattle.ev_tree.specs.declared.outcome.Found.{Found}
 use Rattle.ev_tree.specs.declared.outcome.Found.TheVariants.{Absent, Wrong, Given}
 use Rattle.ev_tree.specs.Forms.{is_given, given_or, inside, listed, field_of, text_of, object_of, list_of}
-use Rattle.ev_cluster_json.specs.Clusters.{has_custom_type, is_static, is_eds, load_assignment_of}
+use Rattle.ev_cluster_json.specs.Clusters.{load_assignment_of}
 use Rattle.ev_cluster_json.specs.Made.{name_in}
 use Rattle.ev_wire.specs.Responses.{item_of}
 use Rattle.ev_expand.specs.declared.keys.Key.{Key}
@@ -69,9 +70,7 @@ cluster_key cluster names = if length names == 0 then None else Some (key_with c
 
 abbrev pub content_key : Content → List (List ℕ) → Option Key
 content_key (a_cluster cluster) names = cluster_key cluster names
-content_key (an_assignment rows) names = None
-content_key (a_listener listener) names = None
-content_key (routes table) names = None
+content_key content names = None
 
 abbrev pub body_key : Body → List (List ℕ) → Option Key
 body_key (Good content) names = content_key content names
@@ -82,18 +81,11 @@ body_key Beat names = None
 abbrev pub endpoints_in : Data → Data
 endpoints_in assignment = given_or (array no_items) (field_of (codes "endpoints") assignment)
 
--- the written type of a cluster is STATIC or EDS, and no custom type is given
-abbrev pub has_own_hosts : Data → Bool
-has_own_hosts body = not (has_custom_type body) && (is_static body || is_eds body)
-
--- the key of a resource that is read as this body, where it is guarded
-abbrev pub key_by : Body → Data → Option Key
-key_by read body = if has_own_hosts body then body_key read (references_of body) else None
-
--- A resource is guarded where its body is good, of such a type, and names secrets. Of the first of a key its own endpoints are kept.
+-- A resource is guarded where its body is good and names secrets, and nothing is where the lines are read as Envoy
+-- reads them: there clusters wait for their secrets by themselves. Of the first of a key its own endpoints are kept.
 abbrev pub by_secrets : Profile → Guard
 by_secrets profile = record {
   profile = profile;
-  key_of = λ entry. key_by (item_of profile Cds entry).body (body_in entry);
+  key_of = λ entry. if is_envoy profile then None else body_key (item_of profile Cds entry).body (references_of (body_in entry));
   own_of = λ entry. endpoints_in (load_assignment_of (body_in entry));
 }

@@ -27,8 +27,8 @@ gives_name profile line name = list_any (λ (v : List ℕ × Data). bytes_eq v.0
 abbrev pub gives_endpoints : Profile → Data → Key → Bool
 gives_endpoints profile line key = list_any (gives_name profile line) (services_of key.cluster.discovery)
 
--- what is complete is due where a stream is open: at the line that opens it, at each guarded resource of it, at the line that
--- completes it, and where its endpoints get a value
+-- what is complete is due where a stream is open: at the line that opens it, at each guarded resource of it, at the
+-- line that completes it, and where its endpoints get a value
 abbrev pub is_due : Profile → Front → Guarded → Bool
 is_due profile front g =
     stream_at profile (up_to front) && is_complete profile (up_to front) g.key

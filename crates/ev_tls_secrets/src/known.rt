@@ -67,8 +67,8 @@ impl Told {
         secrets.len()
     }
 
-    /// The first of what the clusters of a key wait for that hasn't come, where this many of its secrets, from the first on,
-    /// have come.
+    /// The first of what the clusters of a key wait for that hasn't come, where this many of its secrets, from the
+    /// first on, have come.
     pub(crate) fn next_of(
         &self,
         alloc: Global,

@@ -1,12 +1,14 @@
-//! Clusters that wait for their secrets: a script in which each cluster that names remote secrets waits for endpoints by a
-//! private name, which are sent when all of its secrets, and its own endpoints, have come.
+//! Clusters that wait for their secrets: a script in which each cluster that names remote secrets waits for endpoints
+//! by a private name, which are sent when all of its secrets, and its own endpoints, have come.
 //!
-//! - A cluster names secrets by its transport socket alone, and only where that is the context of TLS towards upstream hosts. A
-//!   member of a wrong form, or in both spellings, names nothing, and the others still count.
+//! - A cluster names secrets by its transport socket alone, and only where that is the context of TLS towards
+//!   upstream hosts. A member of a wrong form, or in both spellings, names nothing, and the others still count.
+//! - As Envoy reads a script its clusters wait for their secrets by themselves: nothing is guarded there, and no
+//!   secret is read.
 //! - Secrets come on an open stream alone, by a resource or a removed name, whatever else is in it.
-//! - A line costs look-ups by what it says and what is sent after it, however much is guarded: each place that isn't complete
-//!   is under the first that it still waits for, and goes on from where it was when that comes. The complete ones are
-//!   in a set, and under the endpoints that they ask for.
+//! - A line costs look-ups by what it says and what is sent after it, however much is guarded: each place that isn't
+//!   complete is under the first that it still waits for, and goes on from where it was when that comes. The complete
+//!   ones are in a set, and under the endpoints that they ask for.
 #![tactic(auto)]
 
 mod awaited;

@@ -3,22 +3,16 @@ ghost use Rattle.std.specs.List.{filter_map};
 ghost use Rattle.serde_json.specs.Data.{array, no_items};
 ghost use Rattle.serde_json.specs.View.{view};
 ghost use Rattle.ev_tree.specs.Forms.{tree_of, found_map, given_or, inside, object_of};
-ghost use Rattle.ev_cluster_json.specs.Clusters.{has_custom_type, load_assignment_of, type_of};
+ghost use Rattle.ev_cluster_json.specs.Clusters.{load_assignment_of};
 ghost use Rattle.ev_expand.specs.Guarding.{body_in};
-ghost use Rattle.ev_tls_secrets.specs.References.{socket_config, is_tls, context_in, tls_context, own_name, secret_named, given_list, references_of, endpoints_in, cluster_key, content_key, body_key, has_own_hosts, key_by};
+ghost use Rattle.ev_tls_secrets.specs.References.{socket_config, is_tls, context_in, tls_context, own_name, secret_named, given_list, references_of, endpoints_in, cluster_key, content_key, body_key};
 
 use crate::names::make_name;
 use ev_expand::Key;
-use ev_tree::{EnumTable, Found, member};
+use ev_tree::{Found, member};
 use ev_types::{Body, Cluster, Content, Name, Seq};
 use serde_json::Value;
 use std::alloc::{AllocError, Global};
-
-/// The number of the type STATIC, which a cluster has where none is given.
-const STATIC: u32 = 0;
-
-/// The number of the type EDS.
-const EDS: u32 = 3;
 
 /// The type of the context of TLS towards upstream hosts.
 const UPSTREAM_TLS: &str =
@@ -182,40 +176,9 @@ pub(crate) fn key_by(
     read: &Body,
     body: Option<&Value>,
 ) -> Result<Option<Key>, AllocError>
-    ensures { IfOk result (λ key. key ≡ key_by read.now (tree_of body.entry)) }
+    ensures { IfOk result (λ key. key ≡ body_key read.now (references_of (tree_of body.entry))) }
 {
-    if !has_own_hosts(alloc, body)? {
-        return Ok(None);
-    }
     body_key(alloc, read, references_of(alloc, body)?)
-}
-
-// Whether the written type of a cluster is STATIC or EDS, and no custom type is given.
-fn has_own_hosts(alloc: Global, body: Option<&Value>) -> Result<bool, AllocError>
-    ensures { IfOk result (λ has. has ≡ has_own_hosts (tree_of body.entry)) }
-{
-    if has_custom_type(alloc, body)? {
-        return Ok(false);
-    }
-    let number = type_of(alloc, body)?;
-    Ok(number == STATIC || number == EDS)
-}
-
-// Whether a custom type is given.
-fn has_custom_type(alloc: Global, body: Option<&Value>) -> Result<bool, AllocError>
-    ensures { IfOk result (λ has. has ≡ has_custom_type (tree_of body.entry)) }
-{
-    let custom = member::object(alloc, body, "cluster_type")?;
-    Ok(custom.is_given())
-}
-
-// The number of the type.
-#[tactic(auto, unfolding(ev_cluster_json::specs::Clusters::type_of))]
-fn type_of(alloc: Global, body: Option<&Value>) -> Result<u32, AllocError>
-    ensures { IfOk result (λ number. number ≡ type_of (tree_of body.entry)) }
-{
-    let kind = member::enumeration(alloc, body, "type", EnumTable::Discovery)?;
-    Ok(kind.given_or(STATIC))
 }
 
 // The key of a good cluster that names secrets.
@@ -238,9 +201,11 @@ fn content_key(
 {
     match content {
         Content::Cluster(cluster) => cluster_key(alloc, cluster.get(), names),
-        Content::Assignment(_) => Ok(None),
-        Content::Listener(_) => Ok(None),
-        Content::Routes(_) => Ok(None),
+        Content::Assignment(_)
+        | Content::Listener(_)
+        | Content::Routes(_)
+        | Content::Secret
+        | Content::Extension => Ok(None),
     }
 }
 

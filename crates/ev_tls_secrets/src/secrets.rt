@@ -80,10 +80,13 @@ impl Expansion for Secrets {
     fn key(
         &self,
         alloc: Global,
-        _profile: Profile,
+        profile: Profile,
         item: &Item,
         entry: &Value,
     ) -> Result<Option<Key>, AllocError> {
+        if profile.is_envoy() {
+            return Ok(None);
+        }
         key_by(alloc, &item.body, body_in(entry))
     }
 
@@ -100,6 +103,9 @@ impl Expansion for Secrets {
         numbers: &Numbers,
         items: &[Option<usize>],
     ) -> Result<Vec<Due>, AllocError> {
+        if profile.is_envoy() {
+            return Ok(Vec::new(alloc));
+        }
         if is_quiet(event) {
             return Ok(Vec::new(alloc));
         }
@@ -157,13 +163,13 @@ fn put_place(set: &mut IndexSet<usize>, item: Option<usize>) -> Result<(), Alloc
     }
 }
 
-/// The text of a script whose clusters wait for their secrets, by its header and its lines, which are read by this profile. Its
-/// tables hash by these keys.
+/// The text of a script whose clusters wait for their secrets, by its header and its lines, which are read by this
+/// profile. As Envoy reads them clusters wait by themselves, so nothing is guarded. Its tables hash by these keys.
 ///
 /// # Errors
-/// `Private` exactly for the first line that uses a name that begins with `tls/` for endpoints. `Large` where there is none,
-/// exactly for the line with whose output the text goes above a limit of inputs. `OutOfMemory` where memory runs out, and for 2^32
-/// lines and more.
+/// `Private` exactly for the first line that uses a name that begins with `tls/` for endpoints. `Large` where there
+/// is none, exactly for the line with whose output the text goes above a limit of inputs. `OutOfMemory` where memory
+/// runs out, and for 2^32 lines and more.
 pub fn expand(
     alloc: Global,
     keys: Keys,

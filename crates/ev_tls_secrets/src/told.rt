@@ -46,9 +46,7 @@ fn told_as(
     match response.kind {
         None => secrets(alloc, secrets_told(alloc, message)?.as_slice()),
         Some(Kind::Eds) => endpoints(alloc, endpoints_told(alloc, response)?.as_slice()),
-        Some(Kind::Cds) => Ok(Vec::new(alloc)),
-        Some(Kind::Lds) => Ok(Vec::new(alloc)),
-        Some(Kind::Rds) => Ok(Vec::new(alloc)),
+        Some(Kind::Cds | Kind::Lds | Kind::Rds | Kind::Sds | Kind::Ecds) => Ok(Vec::new(alloc)),
     }
 }
 

@@ -73,10 +73,8 @@ fn kind_values(
     ensures { IfOk result (λ values. map value_shown values.items ≡ values_in profile (view line.now)) }
 {
     match kind {
-        Kind::Cds => Ok(Vec::new(alloc)),
         Kind::Eds => endpoint_values(alloc, profile, response, message_of(line)),
-        Kind::Lds => Ok(Vec::new(alloc)),
-        Kind::Rds => Ok(Vec::new(alloc)),
+        Kind::Cds | Kind::Lds | Kind::Rds | Kind::Sds | Kind::Ecds => Ok(Vec::new(alloc)),
     }
 }
 

@@ -37,8 +37,8 @@ impl Waiting {
         }
     }
 
-    /// Takes what has come and the places that are new, goes on with each place that can, and gives those that are complete
-    /// now.
+    /// Takes what has come and the places that are new, goes on with each place that can, and gives those that are
+    /// complete now.
     pub(crate) fn go_on(
         &mut self,
         alloc: Global,

@@ -46,12 +46,16 @@ mod limits;
 mod listeners;
 mod lists;
 mod matchers;
+mod origins;
 mod queries;
+mod references;
 mod routes;
 mod rows;
+mod rules;
 mod shared;
 mod texts;
 mod timeouts;
+mod ways;
 
 pub use answers::is_same_answer;
 pub use clusters::{Cluster, Discovery};
@@ -73,11 +77,15 @@ pub use matchers::{
     HeaderMatcher, HeaderTest, PathSpecifier, RouteCondition, RouteMatch, StringMatcher,
     StringPattern,
 };
+pub use origins::{ChainPlace, KeptChain, Origin};
 pub use queries::{QueryParameterMatcher, QueryTest};
+pub use references::Reference;
 pub use routes::{
     Action, PathMatch, Route, RouteTable, Target, VirtualHost, WeightedCluster, WeightedClusters,
 };
 pub use rows::{Arrival, Gen, GenRow, KeptVersion, Live, Lives, Phase, RowStatus};
+pub use rules::Rule;
 pub use shared::Shared;
 pub use texts::{Name, NameError, Text};
 pub use timeouts::FetchTimeout;
+pub use ways::Way;

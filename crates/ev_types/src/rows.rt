@@ -1,4 +1,4 @@
-use crate::{Content, Kind, Name, Seq, Text, TryCopy};
+use crate::{Content, KeptChain, Kind, Name, Seq, Text, TryCopy};
 use std::alloc::{AllocError, Global};
 use std::marker::Model;
 
@@ -94,6 +94,8 @@ pub struct GenRow {
     pub name: Name,
     pub content: Content,
     pub status: RowStatus,
+    /// The chains that a listener changed in place has from the generation before it. Its other chains began with it.
+    pub kept: Seq<KeptChain>,
 }
 
 /// A live generation: one that warms or serves.

@@ -15,6 +15,10 @@ pub trait Known {
     fn newest(&self, kind: Kind, name: &str) -> Option<LiveRow<'_>>
         ensures { result ≡ (answers self.now).newest kind name.now };
 
+    /// The generation of a kind and name that serves.
+    fn serving(&self, kind: Kind, name: &str) -> Option<LiveRow<'_>>
+        ensures { result ≡ (answers self.now).serving kind name.now };
+
     /// The live generations that listen at an address, in the order of their numbers. It is out of memory where the list has no
     /// room.
     fn holders(

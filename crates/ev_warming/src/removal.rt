@@ -10,8 +10,8 @@ use crate::Manager;
 use ev_types::{Gen, GenRow};
 
 impl Manager {
-    /// Takes out a generation that drains or was dropped, once all is forgotten that nobody needs: forgetting finds the name that it
-    /// depended on by its row. It costs a look-up: no other row moves.
+    /// Takes out a generation that drains or was dropped, once all is forgotten that nobody needs: forgetting finds the
+    /// name that it depended on by its row. It costs a look-up: no other row moves.
     pub fn remove(&mut self, number: Gen) -> GenRow
         requires kept { IsKept self.old }
         requires forgotten { self.old.stale ≡ [] }
@@ -27,7 +27,7 @@ impl Manager {
         self.state.table.remove(number)
     }
 
-    /// The number that was drawn last here, or the one up to which numbers had been drawn elsewhere by then: no row has a greater one.
+    /// How many numbers were drawn for generations: no row has a greater one.
     pub fn made(&self) -> u32
         ensures { result ≡ self.now.state.table.made }
     {

@@ -1,5 +1,5 @@
 -- What contracts see of a worker, and what a world has of it.
-use Rattle.std.specs.Prelude.{◌≡◌, ◌<◌, ℕ, not, ⊤, List, [], ◌∷◌, filter, length}
+use Rattle.std.specs.Prelude.{◌≡◌, ◌<◌, ℕ, not, ⊤, if◌then◌else◌, List, [], ◌∷◌, filter, length, map}
 use Rattle.ev_types.specs.declared.events.Actor.TheVariants.{Worker as by_worker}
 use Rattle.ev_types.specs.declared.events.Event.{Event}
 use Rattle.ev_types.specs.declared.events.Event.TheVariants.{Accept, Close}
@@ -7,11 +7,12 @@ use Rattle.ev_types.specs.declared.events.Ask.{Ask}
 use Rattle.ev_types.specs.declared.journals.Format.{Format}
 use Rattle.ev_model.specs.World.{World, OpenMember}
 use Rattle.ev_model.specs.Dead.{last_picture, picture_held}
-use Rattle.ev_model.specs.Connections.{Worked, accepted, closed_by, is_member, is_open, settle}
+use Rattle.ev_model.specs.Connections.{Worked, accepted, connections_where, is_closing, is_member, is_moving, is_open, listener_after, settle}
 use Rattle.ev_model.specs.Picture.{has_number}
 use Rattle.ev_model.specs.Step.{step}
 use Rattle.ev_model.specs.Runs.{RunsFrom, world_after}
 use Rattle.ev_model.specs.declared.pictures.Picture.{Picture}
+use Rattle.ev_model.specs.declared.pictures.Shown.{Shown}
 use Rattle.ev_worker.specs.declared.lines.BatchLine.{BatchLine}
 use Rattle.ev_worker.specs.declared.lines.Outcome.{Outcome}
 use Rattle.ev_worker.specs.declared.lines.Outcome.TheVariants.{Accepted, Closed}
@@ -74,18 +75,28 @@ pub record IsMadeFrom (begun : List OpenMember) (worker : WorkerParts) : Type 0 
 abbrev pub without_numbers : List ℕ → List OpenMember → List OpenMember
 without_numbers numbers opened = filter (λ (m : OpenMember). not (has_number m.connection numbers)) opened
 
--- these are the connections that a settle of the worker closes in this world, and this is the world's last picture
-pub record IsToldBy (number : ℕ) (closed : List ℕ) (picture : Picture) (world : World) : Type 0 where
-  pub closes : closed ≡ closed_by world.expired number world.opened
+-- the connections, those of these numbers once they have moved by what is shown
+abbrev pub moved_numbers : List ℕ → Shown → List OpenMember → List OpenMember
+moved_numbers numbers shown opened =
+    map (λ (m : OpenMember). if has_number m.connection numbers then record m { listener = listener_after shown m } else m) opened
+
+-- the connections after a settle that closes these and moves these by what is shown
+abbrev pub left_after : List ℕ → List ℕ → Shown → List OpenMember → List OpenMember
+left_after closed moved shown opened = moved_numbers moved shown (without_numbers closed opened)
+
+-- these are the connections that a settle of the worker closes and moves in this world, and this is the world's last picture
+pub record IsToldBy (number : ℕ) (closed moved : List ℕ) (picture : Picture) (world : World) : Type 0 where
+  pub closes : closed ≡ connections_where (is_closing (last_picture world).shown world.expired number) world.opened
+  pub moves : moved ≡ connections_where (is_moving (last_picture world).shown number) world.opened
   pub shows : picture ≡ last_picture world
 
 -- what an accept comes to in the machine: the answer, and the connections that are open then
 abbrev pub acceptance : Ask → WorkerParts → Worked
 acceptance ask worker = accepted worker.picture ask worker.number worker.opened
 
--- Whatever world the first worker stands for, where these are the numbers of the connections that its settle closes there and this
--- is the world's last picture, the second stands for the world that its settle leaves.
-abbrev pub SettlesBy : List ℕ → Picture → WorkerParts → WorkerParts → Type 0
-SettlesBy numbers picture before after =
-    (world : World) → IsWorkerIn before world → before.number < length world.held → IsToldBy before.number numbers picture world
+-- Whatever world the first worker stands for, where these are the numbers of the connections that its settle closes and moves there
+-- and this is the world's last picture, the second stands for the world that its settle leaves.
+abbrev pub SettlesBy : List ℕ → List ℕ → Picture → WorkerParts → WorkerParts → Type 0
+SettlesBy closed moved picture before after =
+    (world : World) → IsWorkerIn before world → before.number < length world.held → IsToldBy before.number closed moved picture world
     → IsWorkerIn after (settle before.number world).0

@@ -5,11 +5,11 @@ ghost use Rattle.ev_model.specs.World.{OpenMember};
 ghost use Rattle.ev_model.specs.Connections.{closed, is_open};
 ghost use Rattle.ev_model.specs.Operations.{batch_limit};
 ghost use Rattle.ev_worker.specs.Batches.{accepted_as, accepted_answer, accept_line, close_line, closed_as, closed_answer};
-ghost use Rattle.ev_worker.specs.Workers.{HasNoneOpen, IsMadeFrom, SameOpen, SettlesBy, acceptance, without_numbers};
+ghost use Rattle.ev_worker.specs.Workers.{HasNoneOpen, IsMadeFrom, SameOpen, SettlesBy, acceptance, left_after};
 
 use crate::batches::{BATCH_LIMIT, Batch};
 use crate::lines::{Accepted, BatchLine, Closed, Outcome, Settled};
-use crate::members::{Members, close, close_all, on_of, open_on};
+use crate::members::{Members, close, close_all, move_all, on_of, open_on};
 use ev_keys::Keys;
 use ev_snapshot::Snapshot;
 use ev_types::{Ask, Event, Shared};
@@ -165,18 +165,25 @@ impl Worker {
         self.members.reserve(BATCH_LIMIT)
     }
 
-    /// Settles: the connections that were closed are gone, the snapshot is the new one, and the batch is empty, with room for
-    /// 256 lines. `prepare` took the memory before, and no line came since.
+    /// Settles: the connections that were closed are gone, those that moved are on the listeners of the new snapshot that keep their
+    /// chains, the snapshot is the new one, and the batch is empty, with room for 256 lines. `prepare` took the memory before, and no
+    /// line came since. It looks at no other connections.
     pub fn adopt(&mut self, settled: Settled)
         requires prepared { batch_limit ≤ self.old.spare }
         ensures number { self.new.number ≡ self.old.number }
         ensures picture { self.new.picture ≡ arc_value settled.snapshot }
         ensures lines { self.new.lines ≡ [] }
-        ensures opened { SameOpen self.old.number self.new.opened (without_numbers settled.closed self.old.opened) }
+        ensures opened { SameOpen self.old.number self.new.opened
+            (left_after settled.closed settled.moved (arc_value settled.snapshot).shown self.old.opened) }
         ensures begins { IsMadeFrom self.new.opened self.new }
-        ensures world { SettlesBy settled.closed (arc_value settled.snapshot) self.old self.new }
+        ensures world { SettlesBy settled.closed settled.moved (arc_value settled.snapshot) self.old self.new }
     {
         close_all(&mut self.members, settled.closed.as_slice());
+        move_all(
+            &mut self.members,
+            &*settled.snapshot,
+            settled.moved.as_slice(),
+        );
         self.batch.clear();
         self.snapshot = settled.snapshot;
     }

@@ -47,7 +47,7 @@ const TABLES: [(Reader, usize, &str); 18] = [
     (Reader::Address, 9, ADDRESSES),
     (Reader::Source, 10, SOURCES),
     (Reader::Body, 1, OWN_BODIES),
-    (Reader::Cluster, 28, CLUSTERS),
+    (Reader::Cluster, 29, CLUSTERS),
     (Reader::Cluster, 2, CLUSTERS_OF_CONTROL_PLANES),
     (Reader::Assignment, 15, ASSIGNMENTS),
     (Reader::Assignment, 1, AN_ASSIGNMENT),
@@ -58,7 +58,7 @@ const TABLES: [(Reader, usize, &str); 18] = [
     (Reader::ListenerMembers, 42, LISTENERS),
     (Reader::Manager, 29, MANAGERS),
     (Reader::Listener, 4, WHOLE_LISTENERS),
-    (Reader::Message, 47, MESSAGES),
+    (Reader::Message, 48, MESSAGES),
     (Reader::Message, 1, ONE_REFUSED_OF_TWO),
 ];
 
@@ -67,13 +67,13 @@ const ENVOY_TABLES: [(Reader, usize, &str); 10] = [
     (Reader::Address, 11, ENVOY_ADDRESSES),
     (Reader::Source, 9, ENVOY_SOURCES),
     (Reader::Body, 2, BODIES),
-    (Reader::Cluster, 11, ENVOY_CLUSTERS),
+    (Reader::Cluster, 24, ENVOY_CLUSTERS),
     (Reader::Assignment, 3, ENVOY_ASSIGNMENTS),
     (Reader::Route, 46, ENVOY_ROUTES),
     (Reader::Target, 9, ENVOY_TARGETS),
-    (Reader::ListenerMembers, 43, ENVOY_LISTENERS),
+    (Reader::ListenerMembers, 33, ENVOY_LISTENERS),
     (Reader::Manager, 6, ENVOY_MANAGERS),
-    (Reader::Message, 4, ENVOY_MESSAGES),
+    (Reader::Message, 6, ENVOY_MESSAGES),
 ];
 
 #[test]

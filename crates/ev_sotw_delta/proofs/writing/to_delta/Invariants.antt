@@ -12,7 +12,7 @@ abbrev pub invariant-loop-line : goal.invariant-loop-line
 invariant-loop-line l = record {
   parts : l.yielded ++ into_iter_items l.line-iterator ≡ l.fn.trees.lines.items;
   count : into_iter_len l.line-iterator ≡ length (into_iter_items l.line-iterator);
-  follows : FollowsLines (map tree_told l.yielded) l.names;
-  written : IsWritten (written_lines (view l.fn.trees.head) (map tree_told l.yielded)) l.text;
-  versions : l.versions.items ≡ versions_in (map tree_told l.yielded);
+  follows : FollowsLines l.fn.trees.header.profile (map tree_told l.yielded) l.names;
+  written : IsWritten (written_lines l.fn.trees.header.profile (view l.fn.trees.head) (map tree_told l.yielded)) l.text;
+  versions : l.versions.items ≡ versions_in l.fn.trees.header.profile (map tree_told l.yielded);
 }

@@ -6,9 +6,9 @@ use Rattle.ev_targets.proofs.ComeLemmas.{phase-stands}
 use Rattle.ev_targets.proofs.Targets.advance.Goals as goal
 
 pub returns-clause-stands : goal.returns-clause-stands
-returns-clause-stands c world stands clusters listeners =
+returns-clause-stands c world stands known =
     let told = c.phase_after-self-inside.ensures in
     let next : Phase = c.phase_after-self-inside.result in
     subst (λ (t : TargetsParts). HaveBooted (record t { phase = next }) (with_phase world)) (sym (c.self-2.view_is ∙ told.same))
     (subst (λ (p : Phase). HaveBooted (record c.args.self.now { phase = p }) (with_phase world)) (sym told.phase)
-    (phase-stands c.args.self.now c.args.clusters.now c.args.listeners.now world c.requires.clusters c.requires.listeners stands clusters listeners))
+    (phase-stands c.args.self.now c.args.known.now world c.requires.indexed stands known))

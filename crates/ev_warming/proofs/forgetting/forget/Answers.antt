@@ -59,4 +59,4 @@ returns-clause-stands g c =
     s.results
     (λ n h. i.results n h ∙ (λ j. cond (is_one_of (all j) n && loses_result s0.watches h (row_in n s0.table.rows)) None (result_in s0.results n h)))
     (λ n. i.marks n ∙ (λ j. cond (is_one_of (all j) n && is_some (row_in n s0.table.rows)) None (marked_in s0.results n)))
-    world stands c.requires.rows)
+    world stands)

@@ -13,21 +13,21 @@ pub returns-in_ok-respond-in-Some-clause-follows : goal.returns-in_ok-respond-in
 returns-in_ok-respond-in-Some-clause-follows c = λ lines follows.
     let line : Data = view c.args.line.now in
     let response : DiscoveryParts = seen c.in-Some.response in
-    let is : response_in line ≡ Some response = sym c.in_ok-response.ensures ∙ ap (option_map seen) c.in-Some.is in
-    subst (λ names. FollowsLines (lines ++ line ∷ []) names) (sym c.in_ok-respond-in-Some.ensures.follows)
-    (follows_response lines line response c.args.self.now is follows)
+    let is : response_in c.args.profile line ≡ Some response = sym c.in_ok-response.ensures ∙ ap (option_map seen) c.in-Some.is in
+    subst (λ names. FollowsLines c.args.profile (lines ++ line ∷ []) names) (sym c.in_ok-respond-in-Some.ensures.follows)
+    (follows_response c.args.profile lines line response c.args.self.now is follows)
 
 pub returns-in_ok-respond-in-Some-clause-delta : goal.returns-in_ok-respond-in-Some-clause-delta
 returns-in_ok-respond-in-Some-clause-delta c = λ lines follows.
     let line : Data = view c.args.line.now in
     let response : DiscoveryParts = seen c.in-Some.response in
-    let is : response_in line ≡ Some response = sym c.in_ok-response.ensures ∙ ap (option_map seen) c.in-Some.is in
-    ap Some (c.in_ok-respond-in-Some.ensures.delta ∙ ap (λ removed. delta_line (delta_message response (map string removed))) (removed_follows lines response c.args.self.now follows))
-    ∙ sym (ap (option_map (λ r. delta_line (delta_message r (map string (removed_at lines r))))) is)
+    let is : response_in c.args.profile line ≡ Some response = sym c.in_ok-response.ensures ∙ ap (option_map seen) c.in-Some.is in
+    ap Some (c.in_ok-respond-in-Some.ensures.delta ∙ ap (λ removed. delta_line (delta_message response (map string removed))) (removed_follows c.args.profile lines response c.args.self.now follows))
+    ∙ sym (ap (option_map (λ r. delta_line (delta_message r (map string (removed_at c.args.profile lines r))))) is)
 
 pub returns-in-None-clause-follows : goal.returns-in-None-clause-follows
 returns-in-None-clause-follows c = λ lines follows.
     let line : Data = view c.args.line.now in
-    let is : response_in line ≡ None = sym c.in_ok-response.ensures ∙ ap (option_map seen) c.in-None.is in
-    subst (λ names. FollowsLines (lines ++ line ∷ []) names) (sym c.turn_stream.ensures)
-    (follows_other lines line c.args.self.now is follows)
+    let is : response_in c.args.profile line ≡ None = sym c.in_ok-response.ensures ∙ ap (option_map seen) c.in-None.is in
+    subst (λ names. FollowsLines c.args.profile (lines ++ line ∷ []) names) (sym c.turn_stream.ensures)
+    (follows_other c.args.profile lines line c.args.self.now is follows)

@@ -2,7 +2,7 @@ use Rattle.std.proofs.Common.{refl}
 use Rattle.ev_tls_secrets.proofs.secrets.Secrets.new.Goals as goal
 
 pub returns : goal.returns
-returns c = λ profile. record {
+returns c = λ profile own. record {
   stream = refl;
   told = c.new.ensures;
   values = c.new-2.ensures;

@@ -5,6 +5,7 @@ use Rattle.serde_json.specs.Data.{Data}
 use Rattle.serde_json.specs.View.{view}
 use Rattle.ev_types.specs.declared.events.Profile.{Profile}
 use Rattle.ev_expand.specs.Following.{due_shown}
+use Rattle.ev_expand.specs.Growing.{front_of}
 use Rattle.ev_expand.specs.Guarding.{Guarded, clusters_in, place_at, guarded_by}
 use Rattle.ev_expand.specs.Numbers.{guarded_so_far}
 use Rattle.ev_tls_secrets.specs.declared.known.Told.{Told}
@@ -13,17 +14,20 @@ use Rattle.ev_tls_secrets.specs.Known.{gives_to, AddsAll}
 use Rattle.ev_tls_secrets.specs.Looking.{marks_of}
 use Rattle.ev_tls_secrets.specs.Marking.{is_marked}
 use Rattle.ev_tls_secrets.specs.References.{by_secrets}
+use Rattle.ev_tls_secrets.specs.State.{HasHeard}
 use Rattle.ev_tls_secrets.specs.Told.{value_shown}
 use Rattle.ev_tls_secrets.specs.Waiting.{AreComplete, GoesOn, Grows, IsWaiting}
 use Rattle.ev_tls_secrets.proofs.StateLemmas.{AreMarksOf, Hears, hears, completed_as, due_found, guarded_grows, was_as}
 use Rattle.ev_tls_secrets.proofs.WaitingLemmas.{complete_here}
 use Rattle.ev_tls_secrets.proofs.ProgressLemmas.{complete_after, complete_now, were_served}
 use Rattle.ev_tls_secrets.proofs.QuietLemmas.{quiet_behind, quiet_due}
+use Rattle.ev_tls_secrets.proofs.UnguardedLemmas.{none_due}
 use Rattle.ev_tls_secrets.proofs.secrets.SecretsExpansion.due.Goals as goal
 
 pub returns-clause-due : goal.returns-clause-due
-returns-clause-due c = λ before behind kept.
+returns-clause-due c = λ before known kept.
     let profile : Profile = c.args.profile in
+    let behind : HasHeard profile c.args.self.now before = known (sym c.is_envoy.ensures ∙ c.if-is_envoy.false) in
     let line : Data = view c.args.line.now in
     let s : Secrets = c.args.self.now in
     let news = c.in_ok-told.field-0 in
@@ -52,8 +56,9 @@ returns-clause-due c = λ before behind kept.
     ∙ due_found profile before line c.take_all.new.self (marks_of s.complete c.in_ok-marks.marks) all heard.shows marks kept
 
 pub returns-clause-behind : goal.returns-clause-behind
-returns-clause-behind c = λ before behind kept.
+returns-clause-behind c = λ before known kept own.
     let profile : Profile = c.args.profile in
+    let behind : HasHeard profile c.args.self.now before = known own in
     let line : Data = view c.args.line.now in
     let s : Secrets = c.args.self.now in
     let news = c.in_ok-told.field-0 in
@@ -77,10 +82,15 @@ returns-clause-behind c = λ before behind kept.
           c.in_ok-enter_all.ensures);
     }
 
+pub returns-then-is_envoy-clause-due : goal.returns-then-is_envoy-clause-due
+returns-then-is_envoy-clause-due c = λ before known kept.
+    ap (map due_shown) c.new.ensures.items
+    ∙ sym (none_due c.args.profile (front_of before (view c.args.line.now)) (sym c.is_envoy.ensures ∙ c.if-is_envoy.true))
+
 pub returns-then-is_quiet-clause-due : goal.returns-then-is_quiet-clause-due
-returns-then-is_quiet-clause-due c = λ before behind kept.
-    ap (map due_shown) c.new.ensures.items ∙ sym (quiet_due c.args.profile before (view c.args.line.now) c.args.event.now c.requires.event (sym c.is_quiet.ensures ∙ c.if-is_quiet.true))
+returns-then-is_quiet-clause-due c = λ before known kept.
+    ap (map due_shown) c.new-then-is_quiet.ensures.items ∙ sym (quiet_due c.args.profile before (view c.args.line.now) c.args.event.now c.requires.event (sym c.is_quiet.ensures ∙ c.if-is_quiet.true))
 
 pub returns-then-is_quiet-clause-behind : goal.returns-then-is_quiet-clause-behind
-returns-then-is_quiet-clause-behind c = λ before behind kept.
-    quiet_behind c.args.profile before (view c.args.line.now) c.args.self.now c.args.event.now c.requires.event (sym c.is_quiet.ensures ∙ c.if-is_quiet.true) behind
+returns-then-is_quiet-clause-behind c = λ before known kept own.
+    quiet_behind c.args.profile before (view c.args.line.now) c.args.self.now c.args.event.now c.requires.event (sym c.is_quiet.ensures ∙ c.if-is_quiet.true) (known own)

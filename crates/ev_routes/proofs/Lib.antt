@@ -1,0 +1,5 @@
+pub mod Fronts
+pub mod Firsts
+pub mod Patterns
+pub mod Stars
+pub mod InCase
