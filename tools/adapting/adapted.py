@@ -1,5 +1,4 @@
 """Inputs as they come, made a script: what tools/adapt, tools/look and tools/plan share."""
-from shared import whole_sidecar
 from shared.shown import read_file, shown
 
 from .capture import Unreadable, documents, kind_of, text_of
@@ -16,7 +15,7 @@ def adapted(chosen, report):
 
 def taken(chosen, report, keeps=False):
     """What makes the script, with all inputs taken. With `keeps` it keeps its lines as they were read."""
-    texts = [text_at(path) for path in chosen.input] if whole_sidecar.READS_SECRETS else [None] * len(chosen.input)
+    texts = [text_at(path) for path in chosen.input]
     maker = ScriptOf(chosen, report, keeps, names_brought(texts))
     for number, (path, text) in enumerate(zip(chosen.input, texts)):
         before = maker.known
@@ -41,15 +40,15 @@ def text_at(path):
 def names_brought(texts):
     """The names of the secrets that responses of the input bring, as far as it can be read."""
     try:
-        return {name for text in texts if text for name in brought(text)}
+        return {name for text in texts for name in brought(text)}
     except Unreadable:
         return set()
 
 
 def documents_of(path, text):
-    """The documents of a file, whose text may be known."""
+    """The documents of a file, whose text is known."""
     try:
-        yield from documents(text_of(read_file(path)) if text is None else text)
+        yield from documents(text)
     except Unreadable as error:
         raise Unreadable(f'{shown(path)}: {error}') from None
 

@@ -5,7 +5,7 @@ import json
 import re
 import zlib
 
-from shared import urls, whole_sidecar
+from shared import urls
 from shared.fields import DISCOVERY, WRONG, enumeration, get
 from shared.json_text import NotJson, fraction
 from shared.profiles import ENVOY
@@ -169,7 +169,7 @@ def kind_of(tree):
 
 def lists_secrets(tree):
     """Whether a document lists secrets as `istioctl proxy-config secret -o json` prints them: as a part of a dump."""
-    return whole_sidecar.READS_SECRETS and any(isinstance(get(tree, f'dynamic_{state}_secrets'), list) for state in ('active', 'warming'))
+    return any(isinstance(get(tree, f'dynamic_{state}_secrets'), list) for state in ('active', 'warming'))
 
 
 def statuses_in(tree):

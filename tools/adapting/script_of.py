@@ -12,7 +12,6 @@ from shared.script import ASK_OF_ENVOY, MAX_INPUT, MAX_LINE, MAX_LINES
 from shared.shown import quoted
 from shared.urls import URLS, WORD, kinds_read
 from shared.urls import kind_of as kind_of_url
-from shared.whole_sidecar import is_read
 from shared.words import counted
 
 from . import envoy_log
@@ -434,7 +433,7 @@ class ScriptOf:
             for member, path in passed_over(resource.get('resource'), self.profile).items():
                 self.report.add('passed-over', response.kind, item.name, member, before=path)
         self.probes.take(response)
-        if is_read(self.profile):
+        if self.profile == ENVOY:
             self.asked.note(response, resources, self.in_script)
 
     def note(self, response):

@@ -130,7 +130,7 @@ class Answering(Pictured):
         row = self.newest(kind, item.name)
         if row and item.name not in made and row.alike == item.alike:
             return 'same'
-        return self.update(row, item) if row and kind == 'lds' and self.of_sidecar and item.name not in made else 'new'
+        return self.update(row, item) if row and kind == 'lds' and self.as_envoy and item.name not in made else 'new'
 
     def update(self, row, item):
         """The verdict on an update of a listener. `row` is the newest one of its name."""

@@ -7,7 +7,6 @@ import re
 
 from .profiles import ENVOY, OWN
 from .shown import value_shown
-from .whole_sidecar import is_read
 
 WRONG = object()
 MAX_NAME = 512
@@ -52,11 +51,10 @@ def lower(text):
 
 
 class Reader:
-    """Reads fields by either spelling, and notes each broken rule with its path. `as_envoy` is whether resources are read by the profile envoy,
-    `of_sidecar` whether secrets and extensions are."""
+    """Reads fields by either spelling, and notes each broken rule with its path. `as_envoy` is whether resources are read by the profile envoy."""
 
     def __init__(self, profile=OWN, form_rule=6):
-        self.form_rule, self.broken, self.as_envoy, self.of_sidecar = form_rule, [], profile == ENVOY, is_read(profile)
+        self.form_rule, self.broken, self.as_envoy = form_rule, [], profile == ENVOY
 
     def breaks(self, rule, path, words):
         self.broken.append((rule, path, words))

@@ -4,10 +4,10 @@ import itertools
 from . import rules
 from .finding import ILLEGAL, LEGAL, NOT_THE_SCRIPT, walked
 from .json_text import NotJson, compact, read_tree
+from .profiles import ENVOY
 from .shown import quoted, shown
 from .statuses import WrongInput
 from .teller import Teller, place_of
-from .whole_sidecar import is_read
 from .words import counted, few
 
 MOST, MOST_TEXT = 20, 400
@@ -26,8 +26,8 @@ RULES = {
     'close': 'a connection closes where it is open at this worker',
     'settle': 'the worker takes the last picture, and closes its connections on listeners whose drain timeout came, in ascending order',
 }
-# The same of scripts in which secrets, extensions and listeners that change in place are read, where that is something else.
-RULES_OF_SIDECAR = {
+# The same of scripts of the profile envoy, where that is something else.
+RULES_OF_ENVOY = {
     'settle': 'the worker takes the last picture. Its connections on listeners that this doesn\'t show go on where it shows their filter chain; it '
               'closes those on listeners whose drain timeout came and whose filter chain it doesn\'t show, and both stand in ascending order',
     'accept': 'the picture that the worker holds chooses, and the answer has the place of the filter chain that was found; a number that is open at '
@@ -147,7 +147,7 @@ class Told:
             self.page.line(f'machine  {shown(compact(walk.answer).decode(), MOST_TEXT)}', 'good')
             for words in itertools.islice(self.reasons(), MOST):
                 self.page.line(f'why      {words}')
-            ruled = {**RULES, **(RULES_OF_SIDECAR if is_read(self.reading.profile) else {})}
+            ruled = {**RULES, **(RULES_OF_ENVOY if self.reading.profile == ENVOY else {})}
             self.page.line(f'rule     {ruled[row.op]}{FORMAT_2 * (row.op == "reap" and self.reading.format == 2)}')
         if walk.batch:
             self.page.line(f'rule     directly after an accept or a close stands an entry of the same worker, up to its settle; {walk.batch} had not settled')

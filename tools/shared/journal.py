@@ -1,7 +1,6 @@
 """Journals: the exact text of each line. Formats 1 and 2. Not proved."""
 import re
 
-from . import whole_sidecar
 from .fields import MAX_NAME, MAX_U32, size
 from .json_text import NotJson, compact, read_tree
 from .profiles import ENVOY
@@ -9,8 +8,7 @@ from .urls import kind_of
 
 MAX_U64 = 2 ** 64 - 1
 ACTOR = re.compile(r'stream|health|timer|main|w(0|[1-9][0-9]{0,9})')
-VERDICT = re.compile(r'new|same|kept|unasked|renewed|V(0|[1-9][0-9]{0,2})')
-OF_SIDECAR = ('inPlace', 'back')
+VERDICT = re.compile(r'new|inPlace|back|same|kept|unasked|renewed|V(0|[1-9][0-9]{0,2})')
 # Verdicts by which a generation is made.
 MAKES = ('new', 'inPlace')
 RESULTS = ('noRoute', 'redirect', 'noCluster', 'noEndpoint', 'undecided')
@@ -123,8 +121,6 @@ def request(value):
 
 
 def verdict(value):
-    if whole_sidecar.READS_SECRETS and value in OF_SIDECAR:
-        return True
     if not isinstance(value, str) or not VERDICT.fullmatch(value):
         return False
     return value[0] != 'V' or int(value[1:]) <= 255
@@ -148,11 +144,11 @@ def accepted(value):
         return False
     result = value['result']
     forms = {'listener': generation, 'result': lambda text: True}
-    if whole_sidecar.READS_SECRETS and 'chain' in value:
+    if 'chain' in value:
         forms['chain'] = lambda place: place == 'default' or u32(place)
     if result in RESULTS:
         return has(value, **forms)
-    if result == 'elsewhere' or (result == 'noSecret' and whole_sidecar.READS_SECRETS):
+    if result in ('elsewhere', 'noSecret'):
         return has(value, **forms, **({'cluster': generation} if 'cluster' in value else {}))
     if result == 'local':
         return has(value, **forms, status=lambda v: whole(v, 0, 65535))
@@ -162,7 +158,7 @@ def accepted(value):
 def settled(value):
     numbers = list_of(u64)
     forms = {'closed': numbers, 'version': u64}
-    if whole_sidecar.READS_SECRETS and isinstance(value, dict) and 'moved' in value:
+    if isinstance(value, dict) and 'moved' in value:
         forms['moved'] = lambda moved: numbers(moved) and moved != []
     return has(value, **forms)
 

@@ -10,7 +10,6 @@ from .profiles import ENVOY, OWN
 from .references import CONTEXTS, DOWNSTREAM, UPSTREAM
 from .spelling import snake
 from .urls import MANAGER, TCP_PROXY
-from .whole_sidecar import is_read
 
 
 class Table(dict):
@@ -92,19 +91,6 @@ CHAIN_MATCH = {**dict.fromkeys(('destination_port', 'server_names', 'transport_p
                'prefix_ranges': {'address_prefix': NONE, 'prefix_len': NONE},
                **dict.fromkeys(('direct_source_prefix_ranges', 'source_prefix_ranges'), {'address_prefix': NONE, 'prefix_len': NONE}),
                **dict.fromkeys(('source_ports', 'source_type'), NONE)}
-CHAIN = {'name': NONE, 'filter_chain_match': CHAIN_MATCH, 'filters': filter_of(CONFIGS_OF_ENVOY)}
-OF_ENVOY = {
-    'cds': {**OF_OWN['cds'], 'cluster_type': {'name': NONE}, 'load_assignment': ASSIGNMENT_OF_ENVOY,
-            'eds_cluster_config': {'eds_config': SOURCE_OF_ENVOY, 'service_name': NONE}},
-    'eds': ASSIGNMENT_OF_ENVOY,
-    'lds': {'name': NONE, **ADDRESS_OF_ENVOY, 'filter_chains': CHAIN, 'default_filter_chain': {**CHAIN, 'filter_chain_match': THERE},
-            'api_listener': {'api_listener': CONFIGS_OF_ENVOY}, 'internal_listener': THERE, 'use_original_dst': NONE,
-            'listener_filters': {'name': NONE, 'typed_config': NONE}},
-    'rds': ROUTES_OF_ENVOY,
-}
-
-# The same where secrets and extensions are read
-
 REFERENCE = {'name': NONE, 'sds_config': SOURCE_OF_ENVOY}
 CONTEXT = {'common_tls_context': {**dict.fromkeys(('tls_certificate_sds_secret_configs', 'validation_context_sds_secret_config'), REFERENCE),
                                   'combined_validation_context': {'validation_context_sds_secret_config': REFERENCE}}}
@@ -114,12 +100,15 @@ OF_SOCKETS = {url: OF_CONTEXTS[url] if member is None else {member: OF_CONTEXTS[
 SOCKET = {'typed_config': Table('config', OF_SOCKETS, {'transport_socket': {'typed_config': Table('config', OF_SOCKETS)}})}
 DISCOVERY = {'name': NONE, 'config_discovery': {'config_source': SOURCE_OF_ENVOY, 'default_config': THERE, 'apply_default_config_without_warming': NONE}}
 OF_FILTERS = Table('config', {**CONFIGS_OF_ENVOY, MANAGER: {**CONFIGS_OF_ENVOY[MANAGER], 'http_filters': Table('discovered', DISCOVERY)}})
-CHAIN_OF_SIDECAR = {**CHAIN, 'transport_socket': SOCKET, 'filters': Table('filter', {**filter_of(OF_FILTERS), **DISCOVERY})}
-OF_SIDECAR = {
-    **OF_ENVOY,
-    'cds': {**OF_ENVOY['cds'], 'transport_socket': SOCKET, 'transport_socket_matches': {'transport_socket': SOCKET}},
-    'lds': {**OF_ENVOY['lds'], 'filter_chains': CHAIN_OF_SIDECAR, 'default_filter_chain': {**CHAIN_OF_SIDECAR, 'filter_chain_match': THERE},
-            'api_listener': {'api_listener': OF_FILTERS}, 'listener_filters': {**OF_ENVOY['lds']['listener_filters'], **DISCOVERY}},
+CHAIN = {'name': NONE, 'filter_chain_match': CHAIN_MATCH, 'transport_socket': SOCKET, 'filters': Table('filter', {**filter_of(OF_FILTERS), **DISCOVERY})}
+OF_ENVOY = {
+    'cds': {**OF_OWN['cds'], 'cluster_type': {'name': NONE}, 'load_assignment': ASSIGNMENT_OF_ENVOY, 'transport_socket': SOCKET,
+            'transport_socket_matches': {'transport_socket': SOCKET}, 'eds_cluster_config': {'eds_config': SOURCE_OF_ENVOY, 'service_name': NONE}},
+    'eds': ASSIGNMENT_OF_ENVOY,
+    'lds': {'name': NONE, **ADDRESS_OF_ENVOY, 'filter_chains': CHAIN, 'default_filter_chain': {**CHAIN, 'filter_chain_match': THERE},
+            'api_listener': {'api_listener': OF_FILTERS}, 'internal_listener': THERE, 'use_original_dst': NONE,
+            'listener_filters': {'typed_config': NONE, **DISCOVERY}},
+    'rds': ROUTES_OF_ENVOY,
     'sds': {'name': NONE, **dict.fromkeys(('tls_certificate', 'session_ticket_keys', 'validation_context', 'generic_secret'), THERE)},
     'ecds': {'name': NONE, 'typed_config': THERE},
 }
@@ -127,7 +116,7 @@ OF_SIDECAR = {
 
 def bodies_of(profile):
     """The members that scripts of a profile have read, by the types of resources."""
-    return OF_SIDECAR if is_read(profile) else OF_ENVOY if profile == ENVOY else OF_OWN
+    return OF_ENVOY if profile == ENVOY else OF_OWN
 
 
 WRAPPER = dict.fromkeys(('name', 'version', 'resource', 'ttl', 'aliases', 'resource_name', 'cache_control', 'metadata'), NONE)

@@ -4,7 +4,7 @@ import bisect
 from .addresses import socket_of
 from .choices import choose
 from .machine import Machine
-from .whole_sidecar import is_read
+from .profiles import ENVOY
 
 
 class Pictured(Machine):
@@ -12,7 +12,7 @@ class Pictured(Machine):
 
     def __init__(self, workers, format, profile):
         super().__init__(workers, format, profile)
-        self.of_sidecar = is_read(profile)
+        self.as_envoy = profile == ENVOY
         self.at_address, self.by_name, self.histories = {}, {}, {}
 
     def make(self, kind, item, is_in_place=False):
@@ -57,7 +57,7 @@ class Picture:
     """A published picture, as a choice asks for it."""
 
     def __init__(self, machine, version):
-        self.machine, self.version, self.tells_chains = machine, version, machine.of_sidecar
+        self.machine, self.version, self.tells_chains = machine, version, machine.as_envoy
 
     def listener(self, address, port):
         """The listener of TCP at an address."""

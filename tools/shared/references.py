@@ -19,7 +19,7 @@ CONTEXTS = {
 
 def read_socket(reader, holder, path, is_inner=False):
     """The secrets of the transport socket that stands in an object. An inner one is that of a transport socket."""
-    socket = reader.object(holder, 'transport_socket', path) if reader.of_sidecar else None
+    socket = reader.object(holder, 'transport_socket', path) if reader.as_envoy else None
     where = f'{path}.transportSocket'
     config = reader.object(socket, 'typed_config', where) if isinstance(socket, dict) else None
     if not isinstance(config, dict):
@@ -76,7 +76,7 @@ def read_name(reader, holder, path):
 
 def read_matched(reader, body, path):
     """The secrets of a cluster's transport socket matches; None where it has none of these."""
-    found = reader.objects(body, 'transport_socket_matches', path) if reader.of_sidecar else None
+    found = reader.objects(body, 'transport_socket_matches', path) if reader.as_envoy else None
     if not isinstance(found, list) or not found:
         return None
     return [one for place, match in enumerate(found) for one in read_socket(reader, match, f'{path}.transportSocketMatches[{place}]')]
@@ -86,7 +86,7 @@ def read_matched(reader, body, path):
 
 def read_extension(reader, one, path):
     """The extension that a filter is, where it is discovered."""
-    discovery = reader.object(one, 'config_discovery', path) if reader.of_sidecar else None
+    discovery = reader.object(one, 'config_discovery', path) if reader.as_envoy else None
     if discovery is None:
         return []
     where = f'{path}.configDiscovery'
@@ -101,7 +101,7 @@ def read_extension(reader, one, path):
 
 def read_manager_extensions(reader, config, path):
     """The extensions of the filters of a connection manager; nothing where it is none."""
-    if not reader.of_sidecar or not isinstance(config, dict) or config.get('@type') != MANAGER:
+    if not reader.as_envoy or not isinstance(config, dict) or config.get('@type') != MANAGER:
         return []
     filters = reader.objects(config, 'http_filters', path)
     return [one for place, inner in enumerate(filters if isinstance(filters, list) else [])

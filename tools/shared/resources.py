@@ -96,7 +96,7 @@ def read_item(kind, url, resource, name, version, path, profile=OWN):
         item.content = None
     elif kind in ('cds', 'lds'):
         item.alike = plain(body) if profile == ENVOY else item.content
-        if kind == 'lds' and reader.of_sidecar:
+        if kind == 'lds' and reader.as_envoy:
             item.frame, item.chains = frame_of(body), chains_of(body)
     return item
 

@@ -11,10 +11,10 @@ from .choices import Choice
 from .envoy_waits import EnvoyWaits
 from .guarded import SECRET, told_secrets
 from .journal import MAKES
+from .profiles import ENVOY
 from .shown import named, quoted, shown
 from .spelling import spelled
 from .urls import BY_NAME, KINDS, WORD, WORDS, kinds_read
-from .whole_sidecar import is_read
 from .words import cluster_words, content_words, counted, few, in_place_words, listener_words, more_asked
 
 MOST_RESOURCES = 200
@@ -153,7 +153,7 @@ class Teller:
         if row.op == 'settle':
             closed, moved = (few(map(str, answer.get(name, ())), MOST_NAMES) for name in ('closed', 'moved'))
             forced = ' (its 256th accept or close since the last settle)' if row.step else ''
-            gone = ' and whose filter chain doesn\'t stay' if is_read(self.reading.profile) else ''
+            gone = ' and whose filter chain doesn\'t stay' if self.reading.profile == ENVOY else ''
             return f'settles{forced}: holds picture {answer["version"]}' + (
                 f'; connections {moved} go on, since their filter chains stay' if moved else '') + (
                 f'; closes connections {closed}, whose listener\'s drain timeout came{gone}' if closed else '')

@@ -1,5 +1,5 @@
 """The types of resources and filters by their URLs, and the words for them."""
-from . import whole_sidecar
+from .profiles import ENVOY
 
 TYPE = 'type.googleapis.com/'
 # In the order in which they are asked for where all are.
@@ -14,6 +14,8 @@ URLS = {
 KINDS = {url: kind for kind, url in URLS.items()}
 # The types whose resources are asked for by their names.
 BY_NAME = ('eds', 'rds', 'sds', 'ecds')
+# The types that are read by the profile envoy alone.
+OF_ENVOY = ('sds', 'ecds')
 MANAGER = TYPE + 'envoy.extensions.filters.network.http_connection_manager.v3.HttpConnectionManager'
 TCP_PROXY = TYPE + 'envoy.extensions.filters.network.tcp_proxy.v3.TcpProxy'
 ORIGINAL_DST = TYPE + 'envoy.extensions.filters.listener.original_dst.v3.OriginalDst'
@@ -23,7 +25,7 @@ WORD = {'cds': 'cluster', 'eds': 'endpoints', 'lds': 'listener', 'rds': 'routes'
 
 def kinds_read(profile):
     """The types of resources that a script of a profile has."""
-    return tuple(kind for kind in URLS if kind not in whole_sidecar.KINDS or whole_sidecar.is_read(profile))
+    return tuple(kind for kind in URLS if kind not in OF_ENVOY or profile == ENVOY)
 
 
 def kind_of(url, profile):

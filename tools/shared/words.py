@@ -2,9 +2,9 @@
 import ipaddress
 
 from .chain_matches import SAME_MACHINE
+from .profiles import ENVOY
 from .routes import ELSEWHERE
 from .shown import named, quoted
-from .whole_sidecar import is_read
 
 MOST = 8
 
@@ -143,7 +143,7 @@ def cluster_words(content):
 
 def lacked(profile):
     """What generations of scripts of a profile may lack while they serve, in words."""
-    return 'hosts, routes, secrets or extensions' if is_read(profile) else 'hosts or routes'
+    return 'hosts, routes, secrets or extensions' if profile == ENVOY else 'hosts or routes'
 
 
 def in_place_words(row):

@@ -11,8 +11,6 @@ import subprocess
 import tempfile
 import traceback
 
-from shared import whole_sidecar
-
 TOP = os.path.dirname(os.path.dirname(os.path.dirname(os.path.realpath(__file__))))
 
 
@@ -87,20 +85,16 @@ def refuses_words(check, tool, lines_of, *more):
         check(status == 2, f'{tool} {words}: status {status}')
 
 
-@contextlib.contextmanager
-def of_sidecar(is_read=True):
-    """While the block lasts the tools of this process read secrets and extensions, as tools/shared/whole_sidecar.py says; or they don't."""
-    before, whole_sidecar.READS_SECRETS = whole_sidecar.READS_SECRETS, is_read
-    try:
-        yield
-    finally:
-        whole_sidecar.READS_SECRETS = before
-
-
 def ran(*words, data=b'', **how):
     """(status, standard output, standard error) of a command, both as bytes."""
     done = subprocess.run(words, input=data, capture_output=True, **how)
     return done.returncode, done.stdout, done.stderr
+
+
+def ended(*words, data=b''):
+    """As `ran`, with the first line alone of what stands on standard error: behind a fault's line are words for people."""
+    status, out, errors = ran(*words, data=data)
+    return status, out, b''.join(errors.splitlines(keepends=True)[:1])
 
 
 def content(path):

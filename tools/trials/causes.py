@@ -125,7 +125,7 @@ TEN = (
     (endpoints_gone, 1, f"REGRESSION  cluster '{REVIEWS}': warms on: it waits for endpoints '{REVIEWS}'"),
     (cluster_gone, 1, f"cluster '{REVIEWS}': is gone"),
     (hosts_unhealthy, 1, f"REGRESSION  cluster '{REVIEWS}': has no host that may be chosen"),
-    (sockets_gone, 3, f"UNJUDGED    cluster '{REVIEWS}': transportSocketMatches is gone"),
+    (sockets_gone, 3, f"doesn't ask any more for secret 'default'; the same of 1 more: '{REVIEWS}'"),
     (chains_gone, 1, "REGRESSION  listener 'virtualInbound': filter chain '0.0.0.0_9080': filter_chains[3] is gone; no filter chain takes what it took, as to port 9080"),
     (regex_retargeted, 1, "to cluster 'nowhere', which isn't there"),
     (host_renamed, 1, "virtual host 'reviews.default.svc.cluster.local:9080' gone"),

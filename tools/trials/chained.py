@@ -9,7 +9,7 @@ from shared.addresses import read_address
 from shared.fields import WRONG, Reader
 from shared.json_text import compact
 from shared.listeners import read_chain
-from trials import TOP, content, ran
+from trials import TOP, content, ended
 
 CHANGES = 300
 FOLDER = f'{TOP}/examples/chains'
@@ -152,7 +152,7 @@ def beside_program(check, path, data):
     for number in range(CHANGES):
         changed = [lines[0]] + [some_line(draw, draw.choice(lines[1:])) for _ in range(draw.randrange(3, 30))]
         text = b'\n'.join(changed) + b'\n'
-        told = ran(path, 'chains', data=text)
+        told = ended(path, 'chains', data=text)
         if told != expected(text):
             kept = f'/tmp/warmgate_chains_differs_{number}'
             with open(kept, 'wb') as file:

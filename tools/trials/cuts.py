@@ -9,7 +9,7 @@ from shared.dumped import dumped, refusal
 from shared.finding import LEGAL, walked
 from shared.json_text import compact
 from shared.replayed import replayed
-from trials import TOP, chained, content, expansions, ran
+from trials import TOP, chained, content, ended, expansions
 
 INPUTS = {'replay': 'crates/worked_rows/data/realistic.in', 'run': 'crates/worked_rows/data/realistic.in', 'audit': 'examples/audit/legal.jsonl',
           'dump': 'examples/dump/draining.jsonl', 'tls': 'examples/tls/two_secrets.jsonl',
@@ -35,7 +35,7 @@ def try_cuts(check, cuts_of):
             words = [command] + [str(DUMPED)] * (command == 'dump')
             data = content(f'{TOP}/{INPUTS[command]}')
             with concurrent.futures.ThreadPoolExecutor(os.cpu_count()) as pool:
-                for cut, told in pool.map(lambda cut: (cut, ran(path, *words, data=data[:cut])), cuts_of(data)):
+                for cut, told in pool.map(lambda cut: (cut, ended(path, *words, data=data[:cut])), cuts_of(data)):
                     wanted = expected(command, data[:cut])
                     check(is_as_wanted(told, wanted, data[:cut]), f'{path} {command} at byte {cut} of {INPUTS[command]}: {told}, wanted {wanted}')
 

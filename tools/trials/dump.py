@@ -9,7 +9,7 @@ import trials
 from shared import script
 from shared.dumped import dumped, refusal
 from shared.json_text import compact
-from trials import TOP, called, content, loaded, ran
+from trials import TOP, called, content, ended, loaded
 
 FOLDER = f'{TOP}/examples/dump'
 
@@ -36,7 +36,7 @@ def each_entry(check, name, data, path):
         check((words is None) == ends, f'dump {count} of {name}: {words}')
         if path:
             line = b'' if words else compact(dumped(reading, count)) + b'\n'
-            status, out, errors = ran(path, 'dump', str(count), data=data)
+            status, out, errors = ended(path, 'dump', str(count), data=data)
             fault = f'line {reading.count}: fault 12' if words else ''
             check((status, out, errors.decode().strip()) == (3 if words else 0, line, fault), f'{path} dump {count} < {name}: {status} {out} {errors}')
 

@@ -6,15 +6,13 @@ import random
 
 import trials
 from shared import private, script
-from shared.fields import DISCOVERY
 from shared.guarded import member, references, told_secrets
-from shared.json_text import compact, plain, read_tree
+from shared.json_text import plain, read_tree
 from shared.profiles import ENVOY
 from shared.replayed import replayed_whole
 from shared.resources import read_item
 from shared.urls import URLS
-from shared.whole_sidecar import is_read
-from trials import TOP, content, ran
+from trials import TOP, content, ended
 
 CHANGES = 150
 OTHER_SPELLINGS = ('load_assignment', 'loadAssignment', 'eds_cluster_config', 'edsClusterConfig')
@@ -83,13 +81,9 @@ class Tls(Expansion):
         super().__init__(data, 'tls')
 
     def kept(self, resource, item, body):
-        names = references(body) if item.content is not None and self.finds_hosts(body) and not is_read(self.profile) else []
+        """By the profile envoy clusters wait for their secrets by themselves."""
+        names = references(body) if item.content is not None and self.profile != ENVOY else []
         return (item.content, names) if names else None
-
-    def finds_hosts(self, body):
-        """Whether a cluster is one whose endpoints can be held back: by the profile envoy others are good too."""
-        kinds = (None, *(form for word in ('STATIC', 'EDS') for form in (word, DISCOVERY[word])))
-        return self.profile != ENVOY or member(body, 'type') in kinds and member(body, 'cluster_type') is None
 
     def note(self, kept, body):
         return kept[1], kept[0].get('eds'), member(member(body, 'load_assignment'), 'endpoints') or []
@@ -108,7 +102,7 @@ class Tls(Expansion):
         response, given = line.response, set()
         if not response or not self.is_open:
             return given
-        self.told |= set() if is_read(self.profile) else told_secrets(line)
+        self.told |= told_secrets(line)
         if response.kind == 'eds':
             names = [item.name for item in response.items]
             for resource, item in zip(member(line.members['message'], 'resources') or [], response.items):
@@ -207,7 +201,7 @@ def beside_program(check, path, command, data):
             else:
                 changed[place] = exchanged(draw, changed[place], changed[other])
         text = b'\n'.join(changed) + b'\n'
-        told = ran(path, command, data=text)
+        told = ended(path, command, data=text)
         taken += told[0] == 0
         if told != expected(command, text):
             kept = f'/tmp/warmgate_{command}_differs_{number}'

@@ -2,17 +2,11 @@
 import json
 import os
 import re
-import sys
 import tempfile
 
 import trials
-from planning import journey as journeys
-from planning import plans
 from planning import push as plan_push
-from shared import journal, schema
-from shared.json_text import compact
-from shared.machine import Machine
-from shared.replayed import replayed
+from shared import schema
 from shared.urls import URLS
 from trials import TOP, content, scripts_in, text_is, written
 from trials.adapt import CAPTURES
@@ -24,7 +18,7 @@ from trials.look import STAND_IN
 from trials.plan_outages import BASE, CHAINS, Planner, chain, found, push, secret, state, with_chains
 
 STORIES = f'{TOP}/examples/plan'
-SECRET = 'type.googleapis.com/envoy.extensions.transport_sockets.tls.v3.Secret'
+RUNTIME = 'type.googleapis.com/envoy.service.runtime.v3.Runtime'
 CHECKED = cluster('web', checked=True, connectTimeout='3s')
 HEALTHY = [{'op': 'health', 'cluster': 'web', 'address': f'10.0.0.{place}', 'port': 80, 'healthy': True} for place in (1, 2)]
 
@@ -203,12 +197,12 @@ def of_today(check, planner, planned):
 def other_inputs(check, planner, planned):
     """What isn't read of two inputs is told where it differs, and so is another node."""
     base = state(**BASE)
-    secrets = [state(**BASE, then=[push(SECRET, [{'@type': SECRET, 'name': 's', 'tlsCertificate': text}])]) for text in 'ab']
+    layers = [state(**BASE, then=[push(RUNTIME, [{'@type': RUNTIME, 'name': 's', 'layer': {'a': text}}])]) for text in 'ab']
     more = {'rds': [routes('r', 'api')]}
-    status, tree = planned(*secrets)
-    check(status == 0 and found(tree, 'unjudged', 's') and planned(*secrets, '--strict')[0] == 1, f'plan of another secret alone: {status} {tree["findings"]}')
-    status, tree = planned(secrets[0], secrets[1].replace('"cluster": "web"', '"cluster": "api"', 1))
-    check(found(tree, 'unjudged', 's', 'its type isn\'t read'), f'plan of another secret: {tree["findings"]}')
+    status, tree = planned(*layers)
+    check(status == 0 and found(tree, 'unjudged', 's') and planned(*layers, '--strict')[0] == 1, f'plan of another runtime layer alone: {status} {tree["findings"]}')
+    status, tree = planned(layers[0], layers[1].replace('"cluster": "web"', '"cluster": "api"', 1))
+    check(found(tree, 'unjudged', 's', 'its type isn\'t read'), f'plan of another runtime layer: {tree["findings"]}')
     status, tree = planned(base, state(**{**BASE, **more}, node='else'))
     check(tree['current']['node'] == 'edge' and tree['next']['node'] == 'else', f'plan of two nodes: {tree}')
     check('node      the second input is of another one, else' in planner.of(base, state(**{**BASE, **more}, node='else'))[1], 'plan says nothing of two nodes')
@@ -236,7 +230,7 @@ def of_dumps(check, planner, planned):
         udp['address']['socket_address']['protocol'] = 'UDP'
         return dump(part('Clusters', dynamic_active_clusters=[{'cluster': dump_cluster('c'), **state_of}]),
                     part('Listeners', dynamic_listeners=[{'name': 'dns', 'active_state': {'listener': udp}}]),
-                    part('Secrets', last_updated=secret, dynamic_active_secrets=[secret])).decode()
+                    part('ScopedRoutes', last_updated=secret, dynamic_scoped_route_configs=[secret])).decode()
 
     bad, strange = dump_cluster('c', connect_timeout='0s'), dump_cluster('c', alt_stat_name='x')
     status, tree = planned(text(), text(bad))
@@ -247,8 +241,8 @@ def of_dumps(check, planner, planned):
     check(found(tree, 'unjudged', 'c', 'Envoy refused it, and no rule here does; \'no such thing\''), f'plan of what Envoy alone refuses: {status} {tree["findings"]}')
     check(found(tree, 'drains', 'dns') and not found(tree, 'unjudged', 'dns'), f'plan of a listener on UDP: {status} {tree["findings"]}')
     status, tree = planned(text(), text(port=54, secret='b'))
-    check(found(tree, 'unjudged', None, 'not read, and other than today: SecretsConfigDump'), f'plan of another part of a dump: {status} {tree["findings"]}')
-    check(not found(planned(text(), text(port=54))[1], 'unjudged', None, 'SecretsConfigDump'), 'plan of the same part of a dump')
+    check(found(tree, 'unjudged', None, 'not read, and other than today: ScopedRoutesConfigDump'), f'plan of another part of a dump: {status} {tree["findings"]}')
+    check(not found(planned(text(), text(port=54))[1], 'unjudged', None, 'ScopedRoutesConfigDump'), 'plan of the same part of a dump')
     routed = state(lds=BASE['lds'][:1], rds=BASE['rds'], cds=BASE['cds'], eds=BASE['eds'])
     parts = dump(clusters(dump_cluster('web')), part('Endpoints')).decode()
     status, tree = planned(routed, parts)
@@ -304,38 +298,12 @@ def told(check, planner):
     check('\x1b[31mANSWERS' in out, f'plan --color always: {out!r}')
 
 
-class InPlace(Machine):
-    """A machine that takes the verdicts of listeners that change in place."""
-
-    def respond(self, response, verdicts):
-        super().respond(response, ['new' if verdict == 'inPlace' else verdict for verdict in verdicts])
-
-
 def in_place(check, planner):
-    """A journal in which a listener changes in place, and connections move: chains that stay aren't closed."""
-    def replays(what, words, data=b''):
-        rows = [json.loads(text) for text in replayed(data).splitlines()]
-        for row in rows[1:-1]:
-            answer = row['answer']
-            if row['op'] == 'response' and row['at'] > 10 and answer['verdicts'] == ['new']:
-                answer['verdicts'] = ['inPlace']
-            elif row['op'] == 'settle' and answer['closed']:
-                answer['closed'], answer['moved'] = answer['closed'][1:], answer['closed'][:1]
-            elif row['op'] == 'accept' and isinstance(answer, dict):
-                answer['chain'] = 0
-        return b''.join(compact(row) + b'\n' for row in rows)
-
-    kept = plans.output_of, journeys.Machine, journal.read_row
-    plans.output_of, journeys.Machine, journal.read_row = replays, InPlace, lambda text, of_sotw=False: (journal.Row(json.loads(text)), None)
-    try:
-        paths = [written(f'{planner.folder}/{side}', state(**body)) for side, body in (('current', BASE), ('next', {**BASE, **with_chains(CHAINS[0])}))]
-        status, out, errors = trials.called(trials.tool('plan'), '--program', sys.executable, '--json', '--order', 'safe', *paths)
-    finally:
-        plans.output_of, journeys.Machine, journal.read_row = kept
-    tree = json.loads(out)
-    check(status == 1 and found(tree, 'in place', 'in', '1 connection of 4 open ones stay')
+    """A listener that changes in place: chains that stay aren't closed."""
+    status, tree = planner.tree(*(state(**body) for body in (BASE, {**BASE, **with_chains(CHAINS[0])})), '--order', 'safe')
+    check(status == 1 and found(tree, 'in place', 'in', '1 connection of 4 open ones stays')
           and found(tree, 'drains', 'in', 'has filter chains that are removed: 1 of 4 open connections is closed'),
-          f'plan of a listener in place: {status} {errors} {tree["findings"]}')
+          f'plan of a listener in place: {status} {tree["findings"]}')
 
 
 def steps(check, planner):

@@ -99,7 +99,7 @@ def other_port():
 
 # What was planted: what is otherwise; (class, name, words) of findings that have to be there.
 OUTAGES = {
-    'an inbound chain removed': (with_chains(CHAINS[0]), [('drains', 'in', '2 of 4 open connections are closed'), ('drains', 'in', 'filterChains[mail] is gone'),
+    'an inbound chain removed': (with_chains(CHAINS[0]), [('drains', 'in', '1 of 4 open connections is closed'), ('drains', 'in', 'filterChains[mail] is gone'),
                                                           ('drains', 'in', '1 of filter chain 2 \'mail\''), ('answers', None, 'no filter chain, today by \'api\'')]),
     'a chain\'s port changed': (with_chains(CHAINS[0], other_port()), [('drains', 'in', 'filterChains[mail].filterChainMatch.destinationPort is new'),
                                                                        ('answers', None, '1 of 4: no filter chain, today by \'api\'')]),
@@ -113,14 +113,14 @@ OUTAGES = {
                                                                                   ('answers', None, '2 of 4: its cluster isn\'t there')]),
     'all hosts gone': ({'eds': [endpoints('web', [])]}, [('without', 'web', 'it had 2 hosts'), ('answers', None, 'has no host that may be chosen')]),
     'a secret renamed': (with_chains(chain('shop', 'web', secret('shop-2'), serverNames=['shop.example']), CHAINS[1]),
-                         [('drains', 'in', 'tlsCertificateSdsSecretConfigs[shop-1] is gone'), ('unjudged', 'in', 'not read: ')]),
+                         [('drains', 'in', 'tlsCertificateSdsSecretConfigs[shop-1] is gone'), ('in place', 'in', '1 connection of 4 open ones stays')]),
     'a cluster refused': ({'cds': [cluster('web', connectTimeout='0s'), BASE['cds'][1]]}, [('refused', 'web', 'by V11 (Envoy too)'), ('refused', 'web', 'resource.connectTimeout')]),
     'endpoints that never come': ({'cds': [*BASE['cds'], cluster('new')], 'rds': [routes('r', 'new')]}, [
         ('hangs', 'new', 'until the fetch timeout, nothing of the name serves'), ('hangs', 'new', 'waits for endpoints \'new\''), ('hangs', 'new', 'WITHOUT HOSTS'),
         ('nowhere', 'r', 'cluster \'new\', which isn\'t there: it warms')]),
     'routes that never come': ({'lds': [listener('http', 80, routes='q'), *BASE['lds'][1:]]}, [
         ('hangs', 'http', 'until the fetch timeout, the one before serves'), ('hangs', 'http', 'waits for routes \'q\''),
-        ('drains', 'http', 'is replaced whole once the fetch timeout came: 1 of 4')]),
+        ('drains', 'http', 'has filter chains that are removed once the fetch timeout came: 1 of 4')]),
     'a new cluster refused that routes name': ({'cds': [*BASE['cds'], cluster('bad', connectTimeout='0s')], 'rds': [routes('r', 'bad')]}, [
         ('refused', 'bad', 'by V11'), ('nowhere', 'r', 'it is refused')]),
 }

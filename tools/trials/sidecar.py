@@ -1,6 +1,4 @@
-"""Scripts with secrets, extensions and listeners that change in place: what the tools' machine answers, and what explain says of them.
-
-The program doesn't read them yet, so each of these trials asks for it by itself (tools/shared/whole_sidecar.py)."""
+"""Scripts with secrets, extensions and listeners that change in place: what the tools' machine answers, and what explain says of them."""
 import json
 import os
 import tempfile
@@ -11,7 +9,7 @@ from shared.profiles import ENVOY, OWN
 from shared.replayed import replayed
 from shared.teller import DOUBT
 from shared.urls import URLS, kinds_read
-from trials import TOP, called, content, of_sidecar, tool, written
+from trials import TOP, called, content, tool, written
 
 FOLDER = f'{TOP}/tools/trials/data/sidecar'
 # What explain says of the scripts of the folder, by their names.
@@ -35,14 +33,14 @@ SAID = {
     'references_that_break_rules': ['refused by V2'],
     'a_secret_that_is_refused_is_missing': ['WITHOUT SECRETS', 'refused by V28'],
 }
-# Rows that are rows of journals where secrets are read, and else aren't.
+# Rows that are rows of journals of all scripts.
 FORMS = [
     ('accept', {'chain': 0, 'listener': 1, 'result': 'noRoute'}), ('accept', {'chain': 'default', 'listener': 1, 'result': 'redirect'}),
     ('accept', {'listener': 1, 'result': 'noSecret'}), ('accept', {'chain': 4294967295, 'cluster': 2, 'listener': 1, 'result': 'noSecret'}),
     ('settle', {'closed': [], 'moved': [1, 2], 'version': 1}), ('response', {'requests': [], 'verdicts': ['inPlace', 'back']}),
     ('connect', {'requests': [{'typeUrl': URLS['sds']}, {'typeUrl': URLS['ecds']}]}),
 ]
-# What no row is, wherever secrets are read.
+# What no row is.
 NO_FORMS = [
     ('accept', {'chain': '0', 'listener': 1, 'result': 'noRoute'}), ('accept', {'chain': 4294967296, 'listener': 1, 'result': 'noRoute'}),
     ('accept', {'chain': None, 'listener': 1, 'result': 'noSecret'}), ('accept', {'cluster': 0, 'listener': 1, 'result': 'noSecret'}),
@@ -58,23 +56,20 @@ def run(check):
                 kept(check, name.removesuffix('.jsonl'))
         forms(check)
         schemas(check)
-        without(check, folder)
+        by_profile(check, folder)
 
 
 def kept(check, name):
     """A script with its journal: the machine's answers, an audit of them, and what is said of both."""
     path, pages = f'{FOLDER}/{name}.jsonl', f'{FOLDER}/{name}.journal.jsonl'
-    with of_sidecar():
-        check(replayed(content(path)) == content(pages), f'{path}: the tools make another journal')
-        check(walked(script.read_script(content(path) + content(pages), audit=True)).finding == 'legal', f'{path}: the tools don\'t find its journal legal')
-        for words in ((), ('--brief',), ('--json',)):
-            status, out, errors = called(tool('explain'), *words, path, pages)
-            check(status == 0 and not errors and DOUBT not in out, f'explain {words} {path}: status {status} {errors}')
-        out = called(tool('explain'), path, pages)[1]
-        for words in SAID.get(name, ()):
-            check(words in out, f'explain {path} says {words!r}: {out}')
-    with of_sidecar(False):
-        check(replayed(content(path)) != content(pages), f'{path}: the tools read secrets where the program doesn\'t')
+    check(replayed(content(path)) == content(pages), f'{path}: the tools make another journal')
+    check(walked(script.read_script(content(path) + content(pages), audit=True)).finding == 'legal', f'{path}: the tools don\'t find its journal legal')
+    for words in ((), ('--brief',), ('--json',)):
+        status, out, errors = called(tool('explain'), *words, path, pages)
+        check(status == 0 and not errors and DOUBT not in out, f'explain {words} {path}: status {status} {errors}')
+    out = called(tool('explain'), path, pages)[1]
+    for words in SAID.get(name, ()):
+        check(words in out, f'explain {path} says {words!r}: {out}')
 
 
 def row_of(op, answer):
@@ -83,48 +78,34 @@ def row_of(op, answer):
 
 
 def forms(check):
-    for is_on in (True, False):
-        with of_sidecar(is_on):
-            for op, answer in FORMS:
-                check((journal.read_row(row_of(op, answer))[0] is not None) == is_on, f'whether {op} {answer} is a row, where secrets are read: {is_on}')
-            for op, answer in NO_FORMS:
-                check(journal.read_row(row_of(op, answer))[0] is None, f'{op} {answer} is no row')
-            check(kinds_read(OWN) == tuple(URLS)[:4] and kinds_read(ENVOY) == tuple(URLS)[:6 if is_on else 4], f'the types that are read: {is_on}')
-
-
-def schema_read():
-    """docs/script.schema.json as it has to be where secrets are read: timeouts and ends of times to live of the two types, by their names."""
-    text = content(f'{TOP}/docs/script.schema.json').decode()
-    for old, new in (('"enum": ["eds", "rds"]', '"enum": ["eds", "rds", "sds", "ecds"]'), ('"enum": ["cds", "eds", "lds", "rds"]', f'"enum": {json.dumps(list(URLS))}')):
-        assert text.count(old) == 1, old
-        text = text.replace(old, new)
-    return json.loads(text)
+    for op, answer in FORMS:
+        check(journal.read_row(row_of(op, answer))[0] is not None, f'{op} {answer} is a row')
+    for op, answer in NO_FORMS:
+        check(journal.read_row(row_of(op, answer))[0] is None, f'{op} {answer} is no row')
+    check(kinds_read(OWN) == tuple(URLS)[:4] and kinds_read(ENVOY) == tuple(URLS), 'the types that are read')
 
 
 def schemas(check):
-    root, other = schema_read(), json.loads(content(f'{TOP}/docs/script.schema.json'))
+    """Timeouts and ends of times to live of each type, by docs/script.schema.json and by the tools."""
+    root = json.loads(content(f'{TOP}/docs/script.schema.json'))
     for op in ('fetchTimeout', 'ttlExpired'):
         for kind in (*URLS, 'vhds'):
             for more in ({'name': 's'}, {}):
                 line = {'op': op, 'type': kind, **more}
-                for is_on, schemed in ((True, root), (False, other)):
-                    with of_sidecar(is_on):
-                        good = not script.read_script(f'{json.dumps({"workers": 1, "profile": "envoy"})}\n{json.dumps(line)}\n'.encode()).faults
-                    check(schema.accepts(schemed, line, schemed) == good, f'{line} by the schema, where secrets are read: {is_on}')
+                good = not script.read_script(f'{json.dumps({"workers": 1, "profile": "envoy"})}\n{json.dumps(line)}\n'.encode()).faults
+                check(schema.accepts(root, line, root) == good, f'{line} by the schema')
 
 
-def without(check, folder):
-    """A script of the own profile has none of it, and no script does where the program doesn't read secrets."""
+def by_profile(check, folder):
+    """A script of the own profile has none of it."""
     secret = {'name': 's', 'version': '1', 'resource': {'@type': URLS['sds'], 'name': 's', 'tlsCertificate': {}}}
     message = {'typeUrl': URLS['sds'], 'nonce': '1', 'resources': [secret]}
     lines = [{'op': 'connect'}, {'op': 'response', 'message': message}]
     timeout = {'op': 'fetchTimeout', 'type': 'sds', 'name': 's'}
-    for header, is_on, is_read in (({'workers': 1}, True, False), ({'workers': 1, 'profile': 'envoy'}, False, False),
-                                   ({'workers': 1, 'profile': 'envoy'}, True, True)):
-        with of_sidecar(is_on):
-            data = ''.join(json.dumps(line) + '\n' for line in (header, *lines)).encode()
-            reading = script.read_script(data)
-            check((reading.lines[1].response.kind == 'sds') == is_read, f'a response of secrets of {header}, where they are read: {is_on}')
-            path = written(f'{folder}/script', data.decode() + json.dumps(timeout) + '\n')
-            status, out, errors = called(tool('why'), path)
-            check(status == (0 if is_read else 1) and (is_read or '"rds"' in out) and not errors, f'why of a timeout of secrets of {header}: {status} {out}{errors}')
+    for header, is_read in (({'workers': 1}, False), ({'workers': 1, 'profile': 'envoy'}, True)):
+        data = ''.join(json.dumps(line) + '\n' for line in (header, *lines)).encode()
+        reading = script.read_script(data)
+        check((reading.lines[1].response.kind == 'sds') == is_read, f'a response of secrets of {header}')
+        path = written(f'{folder}/script', data.decode() + json.dumps(timeout) + '\n')
+        status, out, errors = called(tool('why'), path)
+        check(status == (0 if is_read else 1) and (is_read or '"rds"' in out) and not errors, f'why of a timeout of secrets of {header}: {status} {out}{errors}')

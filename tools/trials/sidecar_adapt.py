@@ -8,7 +8,7 @@ from shared.pictures import follower
 from shared.references import DOWNSTREAM, UPSTREAM
 from shared.replayed import replayed
 from shared.urls import MANAGER, URLS
-from trials import called, content, of_sidecar, tool, written
+from trials import called, content, tool, written
 
 ADMIN = 'type.googleapis.com/envoy.admin.v3.'
 INSIDE = 'LS0tLS1CRUdJTiBQUklWQVRF'
@@ -91,15 +91,13 @@ class Adapted:
 
 
 def run(check):
-    with tempfile.TemporaryDirectory() as folder, of_sidecar():
+    with tempfile.TemporaryDirectory() as folder:
         of_dump(check, folder)
         of_itself(check, folder)
         of_an_agent(check, folder)
         of_responses(check, folder)
         of_refused(check, folder)
         of_lists(check, folder)
-    with tempfile.TemporaryDirectory() as folder, of_sidecar(False):
-        without(check, folder)
 
 
 def of_dump(check, folder):
@@ -192,14 +190,3 @@ def of_lists(check, folder):
     tree = json.dumps([cluster('a', 'default', source=AGENT)]) + json.dumps({'dynamicActiveSecrets': [secret('default')]})
     made = Adapted(check, folder, tree)
     check(made.statuses() == {'cds a': 'active'} and not made.stood_in(), f'a list of secrets: {made.statuses()} {made.report}')
-
-
-def without(check, folder):
-    """Where the program doesn't read them the parts of a dump aren't sent, and there is no option."""
-    made = Adapted(check, folder, dump([cluster('a', 's')], [listener('in', 'a', discovered('x'))], [secret('s')], extensions=[extension('x')]))
-    check(set(made.statuses().values()) == {'active'}, f'secrets that aren\'t read: {made.statuses()}')
-    check(made.said('not-sent', 'SecretsConfigDump') and made.said('not-sent', 'EcdsConfigDump'), f'parts that aren\'t read: {made.report}')
-    status, _, errors = called(tool('adapt'), '--secrets', 'none', f'{folder}/input.json')
-    check(status == 2 and '--secrets' not in called(tool('adapt'), '--help')[1], f'adapt --secrets, which waits for the program: {status} {errors}')
-    with of_sidecar():
-        check('--secrets none' in called(tool('adapt'), '--help')[1], 'adapt --help tells of secrets where they are read')

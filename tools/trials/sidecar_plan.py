@@ -5,7 +5,7 @@ import tempfile
 from shared import schema
 from shared.references import DOWNSTREAM, UPSTREAM
 from shared.urls import URLS
-from trials import TOP, content, of_sidecar
+from trials import TOP, content
 from trials.data.made import cluster, endpoints, listener
 from trials.plan_outages import Planner, chain, chained, found, push, state
 
@@ -36,7 +36,7 @@ def extensions(*names):
 
 def run(check):
     root = json.loads(content(f'{TOP}/docs/plan.schema.json'))
-    with tempfile.TemporaryDirectory() as folder, of_sidecar():
+    with tempfile.TemporaryDirectory() as folder:
         planner = Planner(folder)
         planner.stands_in = True
 

@@ -7,7 +7,7 @@ import tempfile
 from shared import script
 from shared.replayed import replayed
 from shared.urls import URLS
-from trials import TOP, called, content, loaded, of_sidecar, tool, written
+from trials import TOP, called, content, loaded, tool, written
 from trials.data.made import cluster, routes
 from trials.plan_outages import chain, chained, push
 from trials.sidecar_plan import ADS, downstream, extensions, secrets, upstream
@@ -28,7 +28,7 @@ def made(folder, name, *lines):
 
 
 def run(check):
-    with tempfile.TemporaryDirectory() as folder, of_sidecar():
+    with tempfile.TemporaryDirectory() as folder:
         of_timeline(check)
         of_explain(check, folder)
         of_diff(check, folder)

@@ -102,7 +102,7 @@ def counts_agree(check, title, history, view):
     rows = [json.loads(text) for text in history.pair.texts[1:-1]]
     of = lambda op: [row['answer'] for row in rows if row['op'] == op]
     refused = sum(verdict[0] == 'V' for answer in of('response') if answer != 'ignored' for verdict in answer['verdicts'])
-    made_numbers = sum(verdict == 'new' for answer in of('response') if answer != 'ignored' for verdict in answer['verdicts'])
+    made_numbers = sum(verdict in ('new', 'inPlace') for answer in of('response') if answer != 'ignored' for verdict in answer['verdicts'])
     accepted = [answer for answer in of('accept') if answer != 'inUse']
     published = [answer for answer in of('publish') if answer != 'unchanged']
     reaped = sum(len(answer['reaped']) for answer in of('reap'))

@@ -101,6 +101,8 @@ def worked_rows(check, scratch):
             worked_row(check, title, wanted, f'{folder}/{title}', scratch)
         elif words and words[0] in ('tls', 'dns', 'chains', 'sotw'):
             reckoned_row(check, title, words[0], wanted, f'{folder}/{title}')
+        elif words and words[0] in ('audit', 'dump') and wanted != '2':
+            found_row(check, title, words, wanted, f'{folder}/{title}')
     told = ''.join(f'{title}: passed\n' for title in titles) + f'{len(titles)} rows passed, 0 failed\n'
     check(content('crates/worked_rows/stdout').decode().startswith(told), 'crates/worked_rows/stdout doesn\'t tell the rows of the list')
     files = {name.split('.', 1)[0] for name in os.listdir(folder)} - {'rows', 'inputs', 'row_texts', 'journals'}
@@ -127,6 +129,22 @@ def reckoned_row(check, title, command, wanted, path):
         status, out, errors = chained.expected(data) if command == 'chains' else expected(command, data)
         told = errors.decode().strip().replace('line ', '3:').replace(': fault ', ':') or '0'
         check((told, out) == (wanted, pages), f'row {title}: reckoned as {status} {errors}')
+
+
+def found_row(check, title, words, wanted, path):
+    """A row of audit or dump, as the tools find it. The line of a fault of kind 12 isn't compared."""
+    reading, text = script.read_script(bytes_of(f'{path}.in'), True), bytes_of(f'{path}.out')
+    if reading.faults:
+        end, found = f'3:{reading.faults[0].line}:{reading.faults[0].kind}', None
+    else:
+        walk = walked(reading)
+        end, found = '1', {'entry': walk.entry, 'finding': walk.finding}
+        if walk.finding == 'legal':
+            end, found = '0', {'finding': walk.finding}
+            if words[0] == 'dump':
+                refused = refusal(reading, int(words[1]))
+                end, found = (wanted if wanted.endswith(':12') else '3:..:12', None) if refused else ('0', dumped(reading, int(words[1])))
+    check((end, found) == (wanted, json.loads(text) if text else None), f'row {title}: found {end} {found}')
 
 
 def bytes_of(path):

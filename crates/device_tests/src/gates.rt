@@ -10,8 +10,8 @@ use std::test::Fail;
 use std::thread;
 use std::thread::Threads;
 
-/// A list of numbers. Each commit adds one, beside the number of the seat that added it. An odd number is a publication,
-/// and the version is how many publications there are.
+/// A list of numbers. Each commit adds one, beside the number of the seat that added it.
+/// An odd number is a publication, and the version is how many publications there are.
 #[derive(Drop)]
 struct Numbers {
     first: u32,
@@ -319,8 +319,9 @@ impl From<AllocError> for RunError {
     }
 }
 
-// The numbers that a gate has after some acts, and what its seats were told. It begins with the number 7 and two commits
-// of an earlier time: no pass counts these as its own, whatever number they have, and neither is a publication.
+// The numbers that a gate has after some acts, and what its seats were told.
+// It begins with the number 7 and two commits of an earlier time:
+// no pass counts these as its own, whatever number they have, and neither is a publication.
 fn run_gate<R: Threads + Wait + Sync>(
     rt: &R,
     alloc: Global,

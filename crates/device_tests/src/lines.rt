@@ -41,8 +41,8 @@ const END: Result<LineEnd, LineFault> = Ok(LineEnd::End);
 
 const FAILED: Result<LineEnd, LineFault> = Err(LineFault::Failed);
 
-// A text, in pieces of how many bytes, the number of the read that fails; the lines before it, each with a bar, how many
-// these are, and the last answer.
+// A text, in pieces of how many bytes, the number of the read that fails;
+// the lines before it, each with a bar, how many these are, and the last answer.
 const PIECES: [(&str, usize, u64, &str, u32, Result<LineEnd, LineFault>); 15] = [
     ("", 1, 9, "", 0, END),
     ("\n", 1, 9, "|", 1, END),
@@ -139,7 +139,8 @@ impl Source for Stripes {
     }
 }
 
-// How many bytes there are, in lines of which width, how many of these are closed; how many lines are read, and the last answer.
+// How many bytes there are, in lines of which width, how many of these are closed;
+// how many lines are read, and the last answer.
 const LIMITS: [(u64, u64, u64, u32, Result<LineEnd, LineFault>); 10] = [
     (4_194_304, 4_194_305, 0, 1, END),
     (4_194_305, 4_194_305, 1, 1, END),

@@ -1,5 +1,5 @@
--- A replay takes each operation that is no accept or close with those of its actor that wait: the accepts and closes before it
--- with no settle of the actor's after them.
+-- A replay takes each operation that is no accept or close with those of its actor that wait:
+-- the accepts and closes before it with no settle of the actor's after them.
 use Rattle.std.proofs.Common.{◌≡◌, inl, inr, Bool, true, false, not, ◌&&◌, if◌then◌else◌, List, [], ◌∷◌, ◌++◌, filter, refl, ap, sym, ◌∙◌, subst, append_assoc, append-nil}
 use Rattle.std.specs.List.{list_any, flat_map}
 use Rattle.std.proofs.lemmas.List.Elements.{filter-append}

@@ -1,5 +1,6 @@
--- One pass over the lines gives the operations in the order of a replay: at each line what waits of a worker is what its next
--- settle takes, and it fills the batch where the script's lines force a settle.
+-- One pass over the lines gives the operations in the order of a replay:
+-- at each line what waits of a worker is what its next settle takes,
+-- and it fills the batch where the script's lines force a settle.
 use Rattle.std.proofs.Common.{◌≡◌, ◌≤◌, ℕ, zero, suc, ◌+◌, ◌%◌, ◌==◌, Bool, true, false, not, ◌&&◌, if◌then◌else◌, List, [], ◌∷◌, ◌++◌, map, filter, length, refl, ap, sym, ◌∙◌, subst, append_assoc, append-nil, arith, length-append}
 use Rattle.std.specs.List.{AllByRecursion as ByRecursion, flat_map, range_with_len}
 use Rattle.std.proofs.lemmas.Bool.{both_ways}

@@ -77,19 +77,19 @@ same_works old spare world works = record {
 }
 
 -- a worker that settles
-pub settles : (before after : JournalParts) (old prepared new : WorkerParts) (at n spare : ℕ) (closed : List ℕ) (picture : Picture)
+pub settles : (before after : JournalParts) (old prepared new : WorkerParts) (at n spare : ℕ) (closed moved : List ℕ) (picture : Picture)
     → prepared ≡ record old { spare = spare }
     → WorksIn old (world_now before)
     → old.number < before.workers
     → after ≡ with_settled prepared at n before
-    → IsToldBy prepared.number closed picture (world_behind prepared before)
+    → IsToldBy prepared.number closed moved picture (world_behind prepared before)
     → new.number ≡ prepared.number
     → new.lines ≡ []
     → IsMadeFrom new.opened new
-    → ((world : World) → IsWorkerIn prepared world → prepared.number < length world.held → IsToldBy prepared.number closed picture world
+    → ((world : World) → IsWorkerIn prepared world → prepared.number < length world.held → IsToldBy prepared.number closed moved picture world
     → IsWorkerIn new (settle prepared.number world).0)
     → HasSettled at n before after old new
-settles before after old prepared new at n spare closed picture kept works below entered told number lines begins leads =
+settles before after old prepared new at n spare closed moved picture kept works below entered told number lines begins leads =
     let works_on : WorksIn prepared (world_now before) =
     subst (λ (w : WorkerParts). WorksIn w (world_now before)) (sym kept) (same_works old spare (world_now before) works) in
     let fits : prepared.number < length (world_behind prepared before).held =
@@ -158,7 +158,7 @@ lines_draw format workers number picture (line ∷ lines) world run =
     lines_draw format workers number picture lines (step format world (Worker number) line.event).0 run.2
     ∙ worker_draws format workers number world line.event run.0
 
--- and no number is drawn
+-- and no number is allocated
 pub settle_draws : (before after : JournalParts) (worker : WorkerParts) (at n : ℕ) → after ≡ with_settled worker at n before
     → worker.number < before.workers → WorksIn worker (world_now before) → (world_now after).made ≡ (world_now before).made
 settle_draws before after worker at n is below works =

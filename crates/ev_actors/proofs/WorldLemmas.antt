@@ -1,7 +1,8 @@
 -- What others do leaves what a worker holds and has open.
-use Rattle.std.proofs.Common.{◌≡◌, ℕ, Bool, true, false, not, ◌&&◌, ◌==◌, List, [], ◌∷◌, ◌++◌, filter, length, refl, sym, ap, ◌∙◌}
+use Rattle.std.proofs.Common.{◌≡◌, ℕ, Bool, true, false, not, ◌&&◌, ◌==◌, cond, List, [], ◌∷◌, ◌++◌, filter, length, refl, sym, ap, ◌∙◌}
 use Rattle.std.specs.Prelude.{⊤, slice_index_or}
 use Rattle.std.specs.Cmp.{first_so}
+use Rattle.std.proofs.lemmas.Bool.{true≢false}
 use Rattle.std.proofs.lemmas.List.{append-nil, get_or-set_other, get_or_append_left}
 use Rattle.std.proofs.lemmas.List.Elements.{filter-append}
 use Rattle.ev_types.specs.Events.{MayMake}
@@ -14,15 +15,15 @@ use Rattle.ev_types.specs.declared.events.Event.{Event}
 use Rattle.ev_types.specs.declared.events.Event.TheVariants.{Connect, Disconnect, Response, Health, FetchTimeout, DrainTimeout, TtlExpired, Publish, Reap, Accept, Close, Settle}
 use Rattle.ev_types.specs.declared.journals.Format.{Format}
 use Rattle.ev_model.specs.declared.pictures.Choice.{Choice}
-use Rattle.ev_model.specs.declared.pictures.Choice.TheVariants.{NoListener, NoChain, Undecided, Elsewhere, NoRoute, Local, Redirect, NoCluster, NoEndpoint, Served}
+use Rattle.ev_model.specs.declared.pictures.Choice.TheVariants.{NoListener, NoChain, On}
 use Rattle.ev_model.specs.declared.pictures.Picture.{Picture}
 use Rattle.ev_model.specs.declared.pictures.Shown.{Shown}
 use Rattle.ev_model.specs.World.{World, OpenMember, nothing_shown, last_version}
 use Rattle.ev_model.specs.Choice.{choice_of}
-use Rattle.ev_model.specs.Dead.{shown_at, picture_at, picture_held, version_held}
+use Rattle.ev_model.specs.Dead.{last_picture, shown_at, picture_at, picture_held, version_held}
 use Rattle.ev_model.specs.Picture.{shown_of, shown_same, has_number}
 use Rattle.ev_types.specs.declared.events.Answer.TheVariants.{Unchanged, Version}
-use Rattle.ev_model.specs.Connections.{accepted, closed, is_closing, is_member, is_open, left_open, members_of}
+use Rattle.ev_model.specs.Connections.{accepted, closed, is_closing, is_member, is_chain_shown, is_open, left_open, listener_after, members_of, moved_on}
 use Rattle.ev_model.specs.Step.{step}
 use Rattle.ev_model.specs.Runs.{world_after}
 use Rattle.ev_model_laws.specs.Kept.{HoldsPublished}
@@ -72,14 +73,7 @@ module _ (number : ℕ) (picture : Picture) (opened : List OpenMember) where
       by : (choice : Choice) → filter (is_member number connection) (members_of worker other choice) ≡ []
       by NoListener = refl
       by NoChain = refl
-      by (Undecided listener) = simp no refl
-      by (Elsewhere listener cluster) = simp no refl
-      by (NoRoute listener) = simp no refl
-      by (Local listener status) = simp no refl
-      by (Redirect listener) = simp no refl
-      by (NoCluster listener) = simp no refl
-      by (NoEndpoint listener) = simp no refl
-      by (Served listener cluster place) = simp no refl
+      by (On listener chain origin course) = simp no refl
 
   -- what another accepts leaves them
   accept_leaves : (worker : ℕ) (shown : Picture) (ask : Ask) (all : List OpenMember) → (worker ≡ number → ⊥) → SameOpen number (accepted shown ask worker all).opened all
@@ -104,13 +98,37 @@ module _ (number : ℕ) (picture : Picture) (opened : List OpenMember) where
       by true is = simp is (sym (filter_through (is_member number connection) (λ (m : OpenMember). not (is_member worker closing m)) stays all))
       by false is = simp is refl
 
-  -- and what another's settle closes
-  settle_leaves : (worker : ℕ) (expired : List ℕ) (all : List OpenMember) → (worker ≡ number → ⊥) → SameOpen number (left_open expired worker all) all
-  settle_leaves worker expired all apart connection =
-      sym (filter_through (is_member number connection) (λ (m : OpenMember). not (is_closing expired worker m)) stays all)
+  -- what another's settle moves
+  moved_leaves : (worker connection : ℕ) (shown : Shown) → (worker ≡ number → ⊥) → (all : List OpenMember)
+      → filter (is_member number connection) (moved_on shown worker all) ≡ filter (is_member number connection) all
+  moved_leaves worker connection shown apart [] = refl
+  moved_leaves worker connection shown apart (m ∷ ms) =
+      by (m.worker == worker) (is_member number connection m) refl (not_other worker connection worker apart m) (moved_leaves worker connection shown apart ms)
     where
-      stays : (m : OpenMember) → is_member number connection m ≡ true → not (is_closing expired worker m) ≡ true
-      stays m is = ap (λ b. not (b && has_number m.listener expired)) (not_other worker connection worker apart m is)
+      by : (t u : Bool) → is_member number connection m ≡ u → (is_member number connection m ≡ true → t ≡ false)
+          → filter (is_member number connection) (moved_on shown worker ms) ≡ filter (is_member number connection) ms
+          → filter (is_member number connection) (cond t (record m { listener = listener_after shown m }) m ∷ moved_on shown worker ms)
+          ≡ filter (is_member number connection) (m ∷ ms)
+      by true true own not_its rest = absurd (true≢false (not_its own))
+      by true false own not_its rest =
+          ap
+          (λ b. cond b (record m { listener = listener_after shown m } ∷ filter (is_member number connection) (moved_on shown worker ms))
+          (filter (is_member number connection) (moved_on shown worker ms)))
+          own
+          ∙ rest
+          ∙ sym (ap (λ b. cond b (m ∷ filter (is_member number connection) ms) (filter (is_member number connection) ms)) own)
+      by false u own not_its rest = ap (λ ms. cond (is_member number connection m) (m ∷ ms) ms) rest
+
+  -- and what it closes
+  settle_leaves : (worker : ℕ) (expired : List ℕ) (shown : Shown) (all : List OpenMember) → (worker ≡ number → ⊥)
+      → SameOpen number (moved_on shown worker (left_open shown expired worker all)) all
+  settle_leaves worker expired shown all apart connection =
+      moved_leaves worker connection shown apart (left_open shown expired worker all)
+      ∙ sym (filter_through (is_member number connection) (λ (m : OpenMember). not (is_closing shown expired worker m)) stays all)
+    where
+      stays : (m : OpenMember) → is_member number connection m ≡ true → not (is_closing shown expired worker m) ≡ true
+      stays m is =
+          ap (λ b. not (b && has_number m.listener expired && not (is_chain_shown m.origin shown))) (not_other worker connection worker apart m is)
 
   -- no step of another changes what the worker holds and has open
   pub step_leaves : (format : Format) (world : World) (actor : Actor) (event : Event) → HoldsPublished world → ((worker : ℕ) → actor ≡ Worker worker → worker ≡ number → ⊥)
@@ -145,7 +163,7 @@ module _ (number : ℕ) (picture : Picture) (opened : List OpenMember) where
       holds =
           ap (λ version. picture_at world version) (get_or-set_other world.held worker number (last_version world) 0 (λ same. apart worker is (sym same)))
           ∙ has.holds;
-      has = λ connection. has.has connection ∙ sym (settle_leaves worker world.expired world.opened (apart worker is) connection);
+      has = λ connection. has.has connection ∙ sym (settle_leaves worker world.expired (last_picture world).shown world.opened (apart worker is) connection);
     };
   })
 

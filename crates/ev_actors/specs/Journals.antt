@@ -1,4 +1,5 @@
--- What contracts see of what the actors act on: the format whose rules it follows, its workers, its node and its journal.
+-- What contracts see of what the actors act on: the format whose rules it follows, its workers,
+-- its node and its journal.
 use Rattle.std.specs.Prelude.{ℕ, ◌≡◌, List, [], ◌∷◌, ◌++◌}
 use Rattle.ev_types.specs.Scripts.{ScriptParts}
 use Rattle.ev_types.specs.declared.events.Entry.{Entry}
@@ -16,7 +17,7 @@ use Rattle.ev_model.specs.Runs.{world_after}
 use Rattle.ev_model.specs.Operations.{IsReplay}
 use Rattle.ev_worker.specs.Batches.{entries_of}
 use Rattle.ev_model.specs.declared.pictures.Picture.{Picture}
-use Rattle.ev_run_laws.specs.Drawing.{NumbersSuffice}
+use Rattle.ev_model_laws.specs.Drawing.{NumbersSuffice}
 use Rattle.ev_worker.specs.Workers.{HasWorker, IsMadeFrom, IsToldBy, WorkerParts}
 
 -- the format, the workers, the node and the entries in order
@@ -42,8 +43,8 @@ answer_now actor event parts = (step parts.format (world_now parts) actor event)
 abbrev pub entry_made : Actor → ℕ → ℕ → Event → JournalParts → Entry
 entry_made actor at n event parts = record { actor = actor; at = at; step = n; event = event; answer = answer_now actor event parts }
 
--- The worker works in this world: its batch was made on the picture that it holds there and the connections that it has open
--- there. The world knows nothing of the batch yet.
+-- The worker works in this world: its batch was made on the picture that it holds there
+-- and the connections that it has open there. The world knows nothing of the batch yet.
 pub record WorksIn (worker : WorkerParts) (world : World) : Type 0 where
   pub begun : List OpenMember
   pub made : IsMadeFrom begun worker
@@ -75,9 +76,9 @@ with_entries entries parts = record parts { journal = parts.journal ++ entries }
 abbrev pub with_entry : Entry → JournalParts → JournalParts
 with_entry entry parts = with_entries (entry ∷ []) parts
 
--- the worker takes over that its settle after its batch closed these connections, and this picture
-abbrev pub IsToldBehind : WorkerParts → List ℕ → Picture → JournalParts → Type 0
-IsToldBehind worker closed picture parts = IsToldBy worker.number closed picture (world_behind worker parts)
+-- the worker takes over that its settle after its batch closed these connections and moved these, and this picture
+abbrev pub IsToldBehind : WorkerParts → List ℕ → List ℕ → Picture → JournalParts → Type 0
+IsToldBehind worker closed moved picture parts = IsToldBy worker.number closed moved picture (world_behind worker parts)
 
 -- with the worker's batch and its settle
 abbrev pub with_settled : WorkerParts → ℕ → ℕ → JournalParts → JournalParts
@@ -87,7 +88,8 @@ with_settled worker at n parts = with_entries (entries_made worker ++ settle_mad
 abbrev pub nothing_done : ScriptParts → JournalParts
 nothing_done script = record { format = Two; workers = script.workers; node = script.node; journal = [] }
 
--- it has the script's workers and node, and its journal is the script's replay by the rules of format 2, and has the laws
+-- it has the script's workers and node, and its journal is the script's replay by the rules
+-- of format 2, and has the laws
 pub record HasReplayed (script : ScriptParts) (parts : JournalParts) : Type 0 where
   pub format : parts.format ≡ Two
   pub workers : parts.workers ≡ script.workers

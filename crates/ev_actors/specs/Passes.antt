@@ -1,5 +1,5 @@
--- One pass over the lines of a script. Accepts and closes wait until their worker settles, and all else goes out at once. This
--- project's own.
+-- One pass over the lines of a script. Accepts and closes wait until their worker settles,
+-- and all else goes out at once. This project's own.
 use Rattle.std.specs.Prelude.{ℕ, ◌≡◌, Bool, not, ◌&&◌, ◌==◌, if◌then◌else◌, List, [], ◌∷◌, ◌++◌, filter, length}
 use Rattle.std.specs.List.{flat_map, range_with_len}
 use Rattle.ev_types.specs.Scripts.{ScriptParts, IsScript}
@@ -31,8 +31,9 @@ abbrev pub automatic_behind : Bool → Line → List Operation
 automatic_behind auto line =
     if auto && is_automatic line.actor then step_behind line 1 Publish ∷ step_behind line 2 Reap ∷ [] else []
 
--- What goes out at a line. At an accept or close nothing, but where the batch of its worker is full: then the batch, with a
--- settle after it. At a settle its worker's batch, and the settle. At any other line the line, and what follows it.
+-- What goes out at a line. At an accept or close nothing, but where the batch
+-- of its worker is full: then the batch, with a settle after it. At a settle its worker's batch, and the settle.
+-- At any other line the line, and what follows it.
 abbrev pub put_out : Bool → List Operation → Line → List Operation
 put_out auto waiting line =
     if is_batched line.event then (if is_filled_by line waiting then waiting_of line.actor (joined_by line waiting) ++ step_behind line 1 Settle ∷ [] else [])

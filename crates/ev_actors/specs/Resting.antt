@@ -1,5 +1,6 @@
--- A worker that rests settles only where it learns something: a settle that it makes at rest takes over a newer picture. This
--- project's own; a replay makes every settle, so its journal is no such one where a worker rests and nothing was published since.
+-- A worker that rests settles only where it learns something:
+-- a settle that it makes at rest takes over a newer picture. This project's own;
+-- a replay makes every settle, so its journal is no such one where a worker rests and nothing was published since.
 use Rattle.std.specs.Prelude.{ℕ, ◌<◌, true, Bool, ◌&&◌, if◌then◌else◌, IsTrue, List, [], ◌∷◌, ⊤}
 use Rattle.ev_types.specs.declared.events.Actor.TheVariants.{Worker}
 use Rattle.ev_types.specs.declared.events.Entry.{Entry}
@@ -13,7 +14,8 @@ use Rattle.ev_model.specs.Operations.{actor_same, is_settle, operation_of, rests
 abbrev pub is_settle_by : ℕ → Entry → Bool
 is_settle_by worker entry = is_settle entry.event && actor_same entry.actor (Worker worker)
 
--- whether the worker rests after an entry that led to this world: after its own if it settled with nothing open, after another's as before
+-- whether the worker rests after an entry that led to this world:
+-- after its own if it settled with nothing open, after another's as before
 abbrev pub rests_after : ℕ → Bool → World → Entry → Bool
 rests_after worker rests after entry = if actor_same entry.actor (Worker worker) then rests_behind after (operation_of entry) else rests
 
@@ -21,7 +23,8 @@ rests_after worker rests after entry = if actor_same entry.actor (Worker worker)
 abbrev pub IsBehind : ℕ → World → Type 0
 IsBehind worker world = version_held world worker < last_version world
 
--- from this world on, where it is said whether the worker rests, each settle that it makes at rest takes over a newer picture
+-- from this world on, where it is said whether the worker rests,
+-- each settle that it makes at rest takes over a newer picture
 abbrev pub SettlesForNews : Format → ℕ → Bool → World → List Entry → Type 0
 SettlesForNews format worker rests world [] = ⊤
 SettlesForNews format worker rests world (entry ∷ entries) =

@@ -13,7 +13,8 @@ use ev_worker::{Settled, Worker};
 use std::alloc::AllocError;
 use std::sync::Arc;
 
-/// What the actors of a script act on: it makes steps of the flat machine, one after another, and enters them in a journal.
+/// What the actors of a script act on: it makes steps of the flat machine, one after another,
+/// and enters them in a journal.
 pub trait Journaled {
     // what contracts see of it
     ghost shows: { Self → JournalParts };
@@ -21,9 +22,9 @@ pub trait Journaled {
     // the rows of what was reaped, in order, until they are taken
     ghost deferred: { Self → List GenRow };
 
-    /// Makes one step of an actor of the main side and enters it in the journal with its answer. Out of memory, all stays as it
-    /// was. The numbers of generations have to suffice for an event's resources, where it brings some; at most one is drawn for
-    /// each.
+    /// Makes one step of an actor of the main side and enters it in the journal with its answer.
+    /// Out of memory, all stays as it was. The numbers of generations have to suffice for an event's resources,
+    /// where it brings some; at most one is allocated for each.
     fn apply(&mut self, actor: Actor, at: u32, step: u32, event: &Event) -> Result<(), AllocError>
         requires main { IsMainSide actor }
         requires allowed { MayMake (shows self.old).workers actor event.now }
@@ -35,13 +36,14 @@ pub trait Journaled {
         ensures err { OnErr result (shows self.new ≡ shows self.old) }
         ensures kept { OnErr result (deferred self.new ≡ deferred self.old) };
 
-    /// Enters what a worker did since it settled, and its settle after that, and answers what the worker takes over. Out of memory,
-    /// all stays as it was. The rows that wait to be taken go on waiting.
+    /// Enters what a worker did since it settled, and its settle after that,
+    /// and returns what the worker takes over. Out of memory, all stays as it was.
+    /// The rows that wait to be taken go on waiting.
     fn apply_batch(&mut self, worker: &Worker, at: u32, step: u32) -> Result<Settled, AllocError>
         requires within { worker.now.number < (shows self.old).workers }
         requires works { WorksIn worker.now (world_now (shows self.old)) }
         ensures entries { OnOk result (shows self.new ≡ with_settled worker.now at step (shows self.old)) }
-        ensures told { IfOk result (λ settled. IsToldBehind worker.now settled.closed
+        ensures told { IfOk result (λ settled. IsToldBehind worker.now settled.closed settled.moved
             (arc_value settled.snapshot) (shows self.old)) }
         ensures err { OnErr result (shows self.new ≡ shows self.old) }
         ensures deferred { deferred self.new ≡ deferred self.old };
@@ -54,8 +56,8 @@ pub trait Journaled {
     fn latest(&self) -> u64
         ensures version { result ≡ (last_picture (world_now (shows self.now))).version };
 
-    /// The rows of the generations that were reaped and not yet taken, in the order in which they were named, for whoever drops
-    /// them outside a lock. It takes no memory.
+    /// The rows of the generations that were reaped and not yet taken,
+    /// in the order in which they were named, for whoever drops them outside a lock. It takes no memory.
     fn take_deferred(&mut self) -> Seq<GenRow>
         ensures same { shows self.new ≡ shows self.old }
         ensures rows { result ≡ deferred self.old }

@@ -11,10 +11,10 @@ use ev_types::Script;
 use ev_worker::Worker;
 use std::alloc::{AllocError, Global};
 
-/// Takes the whole script on one thread, in one pass over its lines: what comes back shows the script's replay, by the rules of
-/// format 2. What is passed has done nothing yet. Each worker keeps its accepts and closes until it settles, by a line of its
-/// own, where its batch is full, or after the last line. The rows of what is reaped are let go at once. The workers' tables hash by
-/// these keys.
+/// Takes the whole script on one thread, in one pass over its lines:
+/// what comes back shows the script's replay, by the rules of format 2. What is passed has done nothing yet.
+/// Each worker keeps its accepts and closes until it settles, by a line of its own, where its batch is full,
+/// or after the last line. The rows of what is reaped are let go at once. The workers' tables hash by these keys.
 pub fn replay<R: Journaled + Drop>(
     alloc: Global,
     keys: Keys,

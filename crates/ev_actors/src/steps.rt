@@ -32,7 +32,8 @@ pub(crate) fn settle<R: Journaled>(
     Ok(())
 }
 
-/// An accept or close joins the batch of its worker; at any other line nothing is done. It answers whether the line has joined.
+/// An accept or close joins the batch of its worker; at any other line nothing is done.
+/// It returns whether the line has joined.
 pub fn join(alloc: Global, worker: &mut Worker, line: &Line) -> Result<bool, AllocError>
     requires room { is_batched line.now.event ≡ true → length worker.old.lines < batch_limit }
     ensures answer { IfOk result (λ joined. joined ≡ is_batched line.now.event) }
@@ -54,7 +55,8 @@ pub fn join(alloc: Global, worker: &mut Worker, line: &Line) -> Result<bool, All
     }
 }
 
-// A line of a worker: an accept or close joins the batch, which goes into the journal where it is full then; a settle ends it.
+// A line of a worker: an accept or close joins the batch, which goes into the journal
+// where it is full then; a settle ends it.
 fn worker_line<R: Journaled>(
     alloc: Global,
     journaled: &mut R,

@@ -7,7 +7,7 @@ use Rattle.ev_script.specs.Faults.{Input, IsFaultOf}
 use Rattle.ev_chain_lines.specs.Inputs.{MakesChains, IsChainsText}
 use Rattle.ev_chain_lines.specs.Inputs.{TakesChains}
 use Rattle.ev_chain_lines.specs.Lines.{chain_lines}
-use Rattle.ev_chain_laws.specs.Laws.{ConnectionsStay, ChainsStay}
+use Rattle.ev_chains.specs.Laws.{ConnectionsStay, ChainsStay}
 use Rattle.ev_app.specs.declared.commands.Command.TheVariants.{Chains}
 use Rattle.ev_app.specs.declared.made.Made.{Made}
 use Rattle.ev_app.specs.declared.status.Status.TheVariants.{Done}

@@ -12,11 +12,11 @@ use Rattle.ev_model.specs.Finding.{finding_of, journal_told}
 use Rattle.ev_model.specs.Operations.{IsRunOf, entries_of, operations_of}
 use Rattle.ev_model_laws.specs.LegalFindings.{IsLegalJournal}
 use Rattle.ev_model_laws.specs.OneReplay.{HasOneReplay, HoldsOperations, ReplayIsRunOf}
-use Rattle.ev_journal_laws.specs.OneJournal.{ReadsAsJournal, RendersJournals, RunsHaveRows}
+use Rattle.ev_journal_read.specs.OneJournal.{ReadsAsJournal, RendersJournals, RunsHaveRows}
 use Rattle.ev_soak.specs.Soak.{soak_script}
 use Rattle.ev_soak.specs.Lines.{IsSoakText}
 use Rattle.ev_dump.specs.Dumps.{IsDump}
-use Rattle.ev_dns_laws.specs.LastAnswers.{AreLastAnswers, answered_script}
+use Rattle.ev_dns.specs.LastAnswers.{AreLastAnswers, answered_script}
 use Rattle.ev_tls.specs.Sealed.{IsSealed, sealed_script}
 use Rattle.ev_sotw_delta.specs.DeltaText.{delta_script}
 use Rattle.ev_sotw_delta.specs.SameWorld.{IsSameWorld}

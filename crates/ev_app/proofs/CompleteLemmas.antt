@@ -7,7 +7,7 @@ use Rattle.ev_script.proofs.PrefixLemmas.{stands_more}
 use Rattle.ev_audit_input.proofs.GrowLemmas.{stands_more_with}
 use Rattle.ev_chain_lines.specs.Lines.{chain_lines}
 use Rattle.ev_dns.specs.Lines.{dns_lines}
-use Rattle.ev_sotw_lines.specs.Lines.{sotw_lines}
+use Rattle.ev_sotw.specs.Lines.{sotw_lines}
 use Rattle.ev_app.specs.declared.commands.Command.{Command}
 use Rattle.ev_app.specs.declared.commands.Command.TheVariants.{Replay, Run, Audit, Soak, Tls, Dns, Chains, Sotw, Dump}
 use Rattle.ev_app.specs.Input.{has_journal, TakesInput, IsTakenFor}

@@ -11,10 +11,10 @@ use Rattle.ev_script.specs.Script.{script_of}
 use Rattle.ev_expand.specs.Expanding.{IsExpanded}
 use Rattle.ev_expand.specs.declared.outcome.ExpandError.{ExpandError}
 use Rattle.ev_expand.specs.declared.outcome.ExpandError.TheVariants.{Private, Large, OutOfMemory}
-use Rattle.ev_expand_laws.specs.Said.{lines_in, input_of_text, expanded_script}
+use Rattle.ev_expand.specs.Said.{lines_in, input_of_text, expanded_script}
 use Rattle.ev_dns.specs.Lines.{dns_lines}
 use Rattle.ev_dns.specs.Resolving.{dns_rules}
-use Rattle.ev_dns_laws.specs.LastAnswers.{LastAnswers}
+use Rattle.ev_dns.specs.LastAnswers.{LastAnswers}
 use Rattle.ev_app.specs.declared.commands.Command.TheVariants.{Dns}
 use Rattle.ev_app.specs.declared.made.Made.{Made}
 use Rattle.ev_app.specs.declared.status.Status.TheVariants.{Done}

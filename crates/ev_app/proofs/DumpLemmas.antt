@@ -8,7 +8,7 @@ use Rattle.ev_types.specs.declared.journals.Row.{Row}
 use Rattle.ev_audit_input.specs.declared.audited.Audited.{Audited}
 use Rattle.ev_audit_input.specs.Parts.{IsParts, ReadsAuditInput}
 use Rattle.ev_dump.specs.Dumps.{DumpsByPrefix, IsNoCommit}
-use Rattle.ev_fronts.specs.Fronts.{ends_commit}
+use Rattle.ev_dump.specs.Fronts.{ends_commit}
 use Rattle.ev_app.specs.declared.commands.Command.TheVariants.{Dump}
 use Rattle.ev_app.specs.declared.made.Made.{Made}
 use Rattle.ev_app.specs.declared.status.Status.{Status}

@@ -18,7 +18,7 @@ use Rattle.ev_expand.specs.Fronts.{Front, fronts, behind}
 use Rattle.ev_expand.specs.Growing.{front_of}
 use Rattle.ev_expand.specs.Private.{first_use}
 use Rattle.ev_expand.proofs.GrowthLemmas.{within_front}
-use Rattle.ev_expand_laws.specs.Said.{lines_in, input_of_text, expanded_script}
+use Rattle.ev_expand.specs.Said.{lines_in, input_of_text, expanded_script}
 use Rattle.ev_app.specs.Expansions.{IsTextBy, HasText, IsUnmade, MakesNoText}
 use Rattle.ev_app.specs.Trees.{AreTreesOf}
 use Rattle.ev_app.proofs.TreeLemmas.{same_headers, same_heads, same_lines}

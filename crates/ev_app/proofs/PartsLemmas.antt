@@ -8,7 +8,7 @@ use Rattle.ev_journal.specs.Rows.{IsTextOf, row_text}
 use Rattle.ev_journal_read.specs.Journals.{first_text, end_text, texts_of, AreMeant}
 use Rattle.ev_journal_read.proofs.EachLemmas.{All-first, All-rest}
 use Rattle.ev_journal_read.proofs.TextLemmas.{one_row}
-use Rattle.ev_journal_laws.proofs.TextLemmas.{same_format, without_last}
+use Rattle.ev_journal_read.proofs.JournalTextLemmas.{same_format, without_last}
 use Rattle.ev_audit_input.specs.Parts.{IsParts}
 
 abbrev script_in : ScriptParts → Option ScriptParts → ScriptParts

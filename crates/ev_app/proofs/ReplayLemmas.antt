@@ -5,7 +5,7 @@ use Rattle.ev_types.specs.declared.journals.Format.TheVariants.{Two}
 use Rattle.ev_model.specs.Laws.{Laws, RunsHaveLaws, Told}
 use Rattle.ev_model.specs.Runs.{IsRun}
 use Rattle.ev_journal.specs.Rendering.{rendering_of}
-use Rattle.ev_journal_laws.specs.OneJournal.{AreBounded}
+use Rattle.ev_journal_read.specs.OneJournal.{AreBounded}
 use Rattle.ev_actors.specs.Journals.{HasReplayed, JournalParts}
 use Rattle.ev_app.specs.Replay.{IsReplayText}
 

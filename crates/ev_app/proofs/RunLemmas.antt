@@ -5,7 +5,7 @@ use Rattle.ev_types.specs.declared.events.Entry.{Entry}
 use Rattle.ev_types.specs.declared.journals.Format.TheVariants.{Two}
 use Rattle.ev_model.specs.Operations.{IsRunOf}
 use Rattle.ev_journal.specs.Rendering.{rendering_of}
-use Rattle.ev_journal_laws.specs.OneJournal.{AreBounded, TextTellsJournal}
+use Rattle.ev_journal_read.specs.OneJournal.{AreBounded, TextTellsJournal}
 use Rattle.ev_actors.specs.Journals.{JournalParts}
 use Rattle.ev_run.specs.Playing.{HasRun}
 use Rattle.ev_app.specs.Runs.{IsRunText, IsOnlyOne}

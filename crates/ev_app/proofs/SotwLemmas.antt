@@ -15,9 +15,9 @@ use Rattle.ev_script.specs.declared.trees.ScriptTrees.{ScriptTrees}
 use Rattle.ev_script.specs.Faults.{Input, IsFaultOf}
 use Rattle.ev_script.specs.ReadTrees.{IsTreesAnswer}
 use Rattle.ev_script.specs.Script.{script_of}
-use Rattle.ev_sotw_lines.specs.Deltas.{deltas_of}
-use Rattle.ev_sotw_lines.specs.Lines.{sotw_lines}
-use Rattle.ev_expand_laws.specs.Said.{lines_in}
+use Rattle.ev_sotw.specs.Deltas.{deltas_of}
+use Rattle.ev_sotw.specs.Lines.{sotw_lines}
+use Rattle.ev_expand.specs.Said.{lines_in}
 use Rattle.ev_sotw_delta.specs.DeltaText.{written_of, delta_script, FitsInput}
 use Rattle.ev_sotw_delta.proofs.LimitLemmas.{fits_front}
 use Rattle.ev_sotw.specs.Text.{stated_in, sotw_text}
@@ -32,14 +32,15 @@ use Rattle.ev_app.specs.Texts.{IsMadeBy}
 use Rattle.ev_app.proofs.CompleteLemmas.{front_of}
 use Rattle.ev_app.proofs.ReplayLemmas.{has_laws}
 use Rattle.ev_app.specs.Trees.{AreTreesOf, ReadsTrees}
-use Rattle.ev_app.proofs.TreeLemmas.{same_heads, same_lines, whole_trees}
+use Rattle.ev_app.proofs.TreeLemmas.{same_headers, same_heads, same_lines, whole_trees}
 
 -- two readings of the bytes write the same
 same_written : (bytes : List ℕ) (trees others : ScriptTrees) → AreTreesOf sotw_lines bytes trees → AreTreesOf sotw_lines bytes others → written_of trees ≡ written_of others
 same_written bytes trees others one two =
     let heads : view trees.head ≡ view others.head = same_heads sotw_lines bytes trees others one two in
     let lines : lines_in trees ≡ lines_in others = same_lines sotw_lines bytes trees others one two in
-    λ i. map whole (heads i ∷ deltas_of (lines i))
+    let headers : trees.header ≡ others.header = same_headers sotw_lines bytes trees others one two in
+    λ i. map whole (heads i ∷ deltas_of (headers i).profile (lines i))
 
 -- where the text makes an input, it is at no line too large
 never_large : (bytes : List ℕ) (trees : ScriptTrees) → AreTreesOf sotw_lines bytes trees → FitsInput (written_of trees) → (line number : ℕ) → GrowsTooLarge bytes line number → ⊥
@@ -60,7 +61,7 @@ read_again text left keyed read =
 -- the text of what the replay gave
 pub sotw_told : (input : Input) (trees : ScriptTrees) (script : ScriptParts) (parts : JournalParts) (text : List ℕ) → RunsHaveLaws → ReplayIsRunOf → SameWorld
     → IsTreesAnswer sotw_lines input (Ok trees) → IsScript script → script ≡ delta_script trees → HasReplayed script parts → IsRun parts.format parts.workers parts.node parts.journal
-    → text ≡ sotw_text script.workers (map (stated_in (lines_in trees)) parts.journal) → IsSotwText trees text
+    → text ≡ sotw_text script.workers (map (stated_in trees.header.profile (lines_in trees)) parts.journal) → IsSotwText trees text
 sotw_told input trees script parts text laws runs same_world read kept same done run rendered =
     let kept_there : IsScript (delta_script trees) = subst IsScript same kept in
     let there : HasReplayed (delta_script trees) parts = subst (λ (s : ScriptParts). HasReplayed s parts) same done in
@@ -72,7 +73,7 @@ sotw_told input trees script parts text laws runs same_world read kept same done
         laws = has_laws (delta_script trees) parts laws there run;
         same = same_world input trees Two parts.journal read kept_there (runs Two (delta_script trees) parts.journal kept_there there.journal);
       };
-      rendered = rendered ∙ ap (λ (s : ScriptParts). sotw_text s.workers (map (stated_in (lines_in trees)) parts.journal)) same;
+      rendered = rendered ∙ ap (λ (s : ScriptParts). sotw_text s.workers (map (stated_in trees.header.profile (lines_in trees)) parts.journal)) same;
       worlds = λ format journal bounds is_run. same_world input trees format journal read bounds is_run;
     }
 

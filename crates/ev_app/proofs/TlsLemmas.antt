@@ -11,9 +11,9 @@ use Rattle.ev_script.specs.Script.{script_of}
 use Rattle.ev_expand.specs.Expanding.{IsExpanded}
 use Rattle.ev_expand.specs.declared.outcome.ExpandError.{ExpandError}
 use Rattle.ev_expand.specs.declared.outcome.ExpandError.TheVariants.{Private, Large, OutOfMemory}
-use Rattle.ev_expand_laws.specs.Said.{lines_in, input_of_text, expanded_script}
+use Rattle.ev_expand.specs.Said.{lines_in, input_of_text, expanded_script}
 use Rattle.ev_tls.specs.Sealed.{Sealed}
-use Rattle.ev_tls_secrets.specs.Sealing.{tls_rules}
+use Rattle.ev_tls.specs.Sealing.{tls_rules}
 use Rattle.ev_app.specs.declared.commands.Command.TheVariants.{Tls}
 use Rattle.ev_app.specs.declared.made.Made.{Made}
 use Rattle.ev_app.specs.declared.status.Status.TheVariants.{Done}

@@ -15,7 +15,7 @@ use Rattle.ev_script.specs.Header.{header_of}
 use Rattle.ev_script.specs.Members.{tree_of, tree_told}
 use Rattle.ev_script.specs.ReadInput.{input_of}
 use Rattle.ev_script.specs.ReadTrees.{IsTreesAnswer}
-use Rattle.ev_expand_laws.specs.Said.{lines_in, input_of_text}
+use Rattle.ev_expand.specs.Said.{lines_in, input_of_text}
 use Rattle.ev_app.specs.Trees.{AreTreesOf, ReadsTrees}
 use Rattle.ev_app.proofs.InputLemmas.{taken_input, no_byte}
 

@@ -19,13 +19,15 @@ status_found Legal = Done
 status_found (IllegalAt entry) = Illegal
 status_found (NotTheScript entry) = Illegal
 
--- the text says what is found of the rows, with its status; where they are legal, they are those of a run that has all laws
+-- the text says what is found of the rows, with its status;
+-- where they are legal, they are those of a run that has all laws
 pub record IsAuditText (format : Format) (script : ScriptParts) (rows : List Row) (status : Status) (text : List ℕ) : Type 0 where
   pub told : text ≡ finding_text (finding_of format script rows)
   pub goes : status ≡ status_found (finding_of format script rows)
   pub legal : finding_of format script rows ≡ Legal → HasLegalJournal format script rows
 
--- rows are found legal exactly where they are those of a run of the machine that holds each actor's operations of the script
+-- rows are found legal exactly where they are those of a run of the machine
+-- that holds each actor's operations of the script
 abbrev pub IsFoundExactly : Format → ScriptParts → List Row → Type 0
 IsFoundExactly format script rows = (finding_of format script rows ≡ Legal) ↔ IsLegalJournal format script rows
 

@@ -4,14 +4,16 @@ use Rattle.ev_chains.specs.declared.rows.Row.{Row}
 use Rattle.ev_chains.specs.Steps.{Event}
 use Rattle.ev_chain_lines.specs.Lines.{events_of}
 use Rattle.ev_chain_lines.specs.Texts.{chains_text}
-use Rattle.ev_chain_laws.specs.Laws.{HasStayed, LacksSince, MadeAt, is_on, serves, state_at}
+use Rattle.ev_chains.specs.Laws.{HasStayed, LacksSince, MadeAt, is_on, serves, state_at}
 
--- after each of the events a connection is open on a chain exactly where the chain took it and nothing has closed it since
+-- after each of the events a connection is open on a chain exactly where the chain took it
+-- and nothing has closed it since
 abbrev pub KeepConnections : List Event → Type 0
 KeepConnections events =
     (place conn number : ℕ) → place ≤ length events → (is_on conn number (state_at events place) ≡ true) ↔ HasStayed events place conn number
 
--- after each of the events a chain that was made drains or is gone exactly where a listener that was accepted since lacks it
+-- after each of the events a chain that was made drains or is gone exactly where a listener
+-- that was accepted since lacks it
 abbrev pub KeepChains : List Event → Type 0
 KeepChains events =
     (start place : ℕ) (row : Row) → MadeAt events start row → start < place → place ≤ length events

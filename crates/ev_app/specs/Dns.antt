@@ -8,7 +8,7 @@ use Rattle.ev_types.specs.declared.journals.Format.{Format}
 use Rattle.ev_model.specs.Operations.{IsRunOf}
 use Rattle.ev_dns.specs.Lines.{dns_lines}
 use Rattle.ev_dns.specs.Resolving.{dns_rules}
-use Rattle.ev_dns_laws.specs.LastAnswers.{AreLastAnswers, answered_script}
+use Rattle.ev_dns.specs.LastAnswers.{AreLastAnswers, answered_script}
 use Rattle.ev_app.specs.declared.status.Status.TheVariants.{Done}
 use Rattle.ev_app.specs.declared.made.Made.{Made}
 use Rattle.ev_app.specs.Trees.{AreTreesOf}

@@ -42,8 +42,8 @@ pub record IsDumped (entries : ℕ) (bytes : List ℕ) (status : Status) (text :
   pub prefix : status ≡ Done → IsDumpByPrefix format script rows entries text
   pub dumped : IsDumpText format script rows entries status text
 
--- the bytes are a script followed by a legal journal, of which no commit ends with this many entries: a fault at this line, of
--- kind 12
+-- the bytes are a script followed by a legal journal, of which no commit ends with this many entries:
+-- a fault at this line, of kind 12
 pub record EndsNoCommit (entries : ℕ) (bytes : List ℕ) (line number : ℕ) : Type 0 where
   pub format : Format
   pub script : ScriptParts

@@ -4,10 +4,10 @@ use Rattle.ev_script.specs.declared.fault_kinds.FaultKind.{FaultKind}
 use Rattle.ev_script.specs.Faults.{Input, Stands, fault_order, fault_line, fault_number, plain_lines}
 use Rattle.ev_audit_input.specs.Faults.{StandsWithJournal, IsToldWithJournal}
 use Rattle.ev_chain_lines.specs.Lines.{chain_lines}
-use Rattle.ev_sotw_lines.specs.Lines.{sotw_lines}
+use Rattle.ev_sotw.specs.Lines.{sotw_lines}
 use Rattle.ev_app.specs.declared.commands.Command.{Command}
 use Rattle.ev_app.specs.declared.commands.Command.TheVariants.{Replay, Run, Audit, Soak, Tls, Dns, Chains, Sotw, Dump}
-use Rattle.ev_tls_secrets.specs.Sealing.{tls_rules}
+use Rattle.ev_tls.specs.Sealing.{tls_rules}
 use Rattle.ev_dns.specs.Lines.{dns_lines}
 use Rattle.ev_dns.specs.Resolving.{dns_rules}
 use Rattle.ev_app.specs.Expansions.{MakesNoText}

@@ -7,8 +7,8 @@ use Rattle.ev_script.specs.Faults.{Input}
 use Rattle.ev_app.specs.declared.commands.Command.{Command}
 use Rattle.ev_app.specs.declared.commands.Command.TheVariants.{Replay, Run, Audit, Soak, Tls, Dns, Chains, Sotw, Dump}
 
--- these bytes were taken, at most one more than an input may have, to the end of the source where it gave that; whether a
--- journal has to follow the script is `audit`
+-- these bytes were taken, at most one more than an input may have,
+-- to the end of the source where it gave that; whether a journal has to follow the script is `audit`
 pub record TakesInput (audit : Bool) (before after : Option (List ℕ)) (input : Input) : Type 0 where
   pub asked : input.audit ≡ audit
   pub taken : Takes before after input.bytes

@@ -7,9 +7,10 @@ use Rattle.ev_model.specs.Laws.{Laws}
 use Rattle.ev_model.specs.Operations.{IsReplay}
 use Rattle.ev_script.specs.Script.{script_of}
 use Rattle.ev_journal.specs.Rendering.{rendering_of}
-use Rattle.ev_journal_laws.specs.OneJournal.{AreBounded}
+use Rattle.ev_journal_read.specs.OneJournal.{AreBounded}
 
--- the text is that of the journal of the script's replay, and the journal has the laws; its entries keep what their types keep
+-- the text is that of the journal of the script's replay, and the journal has the laws;
+-- its entries keep what their types keep
 pub record IsReplayText (script : ScriptParts) (text : List ℕ) : Type 0 where
   pub journal : List Entry
   pub replay : IsReplay Two script journal

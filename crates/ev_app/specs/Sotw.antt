@@ -10,8 +10,8 @@ use Rattle.ev_model.specs.Laws.{Laws}
 use Rattle.ev_model.specs.Operations.{IsReplay}
 use Rattle.ev_script.specs.Script.{script_of}
 use Rattle.ev_script.specs.declared.trees.ScriptTrees.{ScriptTrees}
-use Rattle.ev_sotw_lines.specs.Lines.{sotw_lines}
-use Rattle.ev_expand_laws.specs.Said.{lines_in}
+use Rattle.ev_sotw.specs.Lines.{sotw_lines}
+use Rattle.ev_expand.specs.Said.{lines_in}
 use Rattle.ev_sotw_delta.specs.DeltaText.{written_of, delta_script, FitsInput, IsFirstTooLarge}
 use Rattle.ev_sotw_delta.specs.declared.writing.Delta.{Delta}
 use Rattle.ev_sotw.specs.Text.{stated_in, sotw_text, versions_in}
@@ -20,19 +20,20 @@ use Rattle.ev_app.specs.declared.status.Status.TheVariants.{Done}
 use Rattle.ev_app.specs.declared.made.Made.{Made}
 use Rattle.ev_app.specs.Trees.{AreTreesOf}
 
--- the journal is that of the replay of the script that says the same, which is within the bounds of scripts; it has the laws, and is
--- the same world
+-- the journal is that of the replay of the script that says the same,
+-- which is within the bounds of scripts; it has the laws, and is the same world
 pub record IsSotwJournal (script : ScriptParts) (journal : List Entry) : Type 0 where
   pub kept : IsScript script
   pub replay : IsReplay Two script journal
   pub laws : Laws record { format = Two; workers = script.workers; node = script.node; journal = journal }
   pub same : IsSameWorld Two script journal
 
--- the text is that of this journal, with the requests of the state of the world; every run of the script is the same world
+-- the text is that of this journal, with the requests of the state of the world;
+-- every run of the script is the same world
 pub record IsSotwText (trees : ScriptTrees) (text : List ℕ) : Type 0 where
   pub journal : List Entry
   pub replayed : IsSotwJournal (delta_script trees) journal
-  pub rendered : text ≡ sotw_text (delta_script trees).workers (map (stated_in (lines_in trees)) journal)
+  pub rendered : text ≡ sotw_text (delta_script trees).workers (map (stated_in trees.header.profile (lines_in trees)) journal)
   pub worlds : RunsAreSameWorld trees
 
 -- the bytes are a script of the state of the world, and the text answers it
@@ -41,8 +42,8 @@ pub record IsSotw (bytes text : List ℕ) : Type 0 where
   pub reads : AreTreesOf sotw_lines bytes trees
   pub answers : IsSotwText trees text
 
--- the bytes are a script of the state of the world, and the incremental script that says the same is too large to be an input: a
--- fault at the first line with which it is, of kind 10
+-- the bytes are a script of the state of the world, and the incremental script
+-- that says the same is too large to be an input: a fault at the first line with which it is, of kind 10
 pub record GrowsTooLarge (bytes : List ℕ) (line number : ℕ) : Type 0 where
   pub trees : ScriptTrees
   pub reads : AreTreesOf sotw_lines bytes trees
@@ -53,7 +54,7 @@ pub record GrowsTooLarge (bytes : List ℕ) (line number : ℕ) : Type 0 where
 pub record IsDelta (trees : ScriptTrees) (delta : Delta) : Type 0 where
   pub fits : FitsInput (written_of trees)
   pub script : script_of false delta.text.items ≡ Some (delta_script trees)
-  pub versions : delta.versions.items ≡ versions_in (lines_in trees)
+  pub versions : delta.versions.items ≡ versions_in trees.header.profile (lines_in trees)
 
 -- that text, or why there is none
 abbrev pub IsDeltaAnswer : ScriptTrees → Result Delta ScriptFault → Type 0

@@ -11,7 +11,8 @@ use Rattle.ev_app.specs.Input.{has_journal, IsTakenFor}
 use Rattle.ev_app.specs.Faults.{IsFaultFor, HasNoneFor, IsCutOff}
 use Rattle.ev_app.specs.Texts.{IsAnswerTo}
 
--- what is known of a source and a sink, and what they counted, before a call and after it, and whether the source had given its end
+-- what is known of a source and a sink, and what they counted, before a call and after it,
+-- and whether the source had given its end
 pub record Outside : Type 0 where
   pub left_before : Option (List ℕ)
   pub left_after : Option (List ℕ)
@@ -58,8 +59,8 @@ pub record TouchesNothing (outside : Outside) : Type 0 where
   pub reads : ReadsWell outside
   pub written : WritesNothing outside
 
--- the source is at its end without a failed read, the bytes taken are an input of the command without fault, and this text
--- and this status answer it
+-- the source is at its end without a failed read, the bytes taken are an input
+-- of the command without fault, and this text and this status answer it
 pub record Makes (command : Command) (outside : Outside) (status : Status) (text : List ℕ) : Type 0 where
   pub input : Input
   pub takes : IsTakenFor command outside.left_before outside.left_after input
@@ -81,8 +82,8 @@ pub record Refuses (command : Command) (outside : Outside) (line number : ℕ) :
   pub reads : ReadsWell outside
   pub written : WritesNothing outside
 
--- a read failed before the end of the input and before a fault of the bytes taken, and nothing is written; a source that hadn't given
--- its end before didn't give it
+-- a read failed before the end of the input and before a fault of the bytes taken, and nothing is written;
+-- a source that hadn't given its end before didn't give it
 pub record FailsToRead (command : Command) (outside : Outside) : Type 0 where
   pub input : Input
   pub takes : IsTakenFor command outside.left_before outside.left_after input

@@ -7,7 +7,7 @@ use Rattle.ev_script.specs.Faults.{plain_lines}
 use Rattle.ev_types.specs.declared.events.Entry.{Entry}
 use Rattle.ev_types.specs.declared.journals.Format.{Format}
 use Rattle.ev_model.specs.Operations.{IsRunOf}
-use Rattle.ev_tls_secrets.specs.Sealing.{tls_rules}
+use Rattle.ev_tls.specs.Sealing.{tls_rules}
 use Rattle.ev_tls.specs.Sealed.{IsSealed, sealed_script}
 use Rattle.ev_app.specs.declared.status.Status.TheVariants.{Done}
 use Rattle.ev_app.specs.declared.made.Made.{Made}

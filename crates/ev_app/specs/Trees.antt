@@ -4,7 +4,7 @@ use Rattle.ev_io.specs.declared.faults.ScriptFault.{ScriptFault}
 use Rattle.ev_script.specs.declared.trees.ScriptTrees.{ScriptTrees}
 use Rattle.ev_script.specs.Faults.{Input, LineForms}
 use Rattle.ev_script.specs.ReadTrees.{IsTreesAnswer}
-use Rattle.ev_expand_laws.specs.Said.{input_of_text}
+use Rattle.ev_expand.specs.Said.{input_of_text}
 use Rattle.ev_app.specs.Input.{TakesInput}
 
 -- the bytes are a whole script whose lines have these forms, of these trees

@@ -5,8 +5,8 @@ ghost use Rattle.ev_app.specs.Texts.{IsMadeBy};
 
 use crate::made::Made;
 use crate::status::Status;
-use ev_chain_laws::{chains_stay, connections_stay};
 use ev_chain_lines::make_chains;
+use ev_chains::{chains_stay, connections_stay};
 use ev_io::{ScriptFault, Source};
 use std::alloc::Global;
 

@@ -11,14 +11,13 @@ use crate::expansions::fault_of;
 use crate::made::Made;
 use crate::status::Status;
 use crate::trees::read_trees_of;
-use ev_dns::DnsLines;
-use ev_dns_laws::{answers_are_last, resolve};
+use ev_dns::{DnsLines, answers_are_last, resolve};
 use ev_io::{ScriptFault, Source};
 use ev_script::ScriptTrees;
 use std::alloc::Global;
 
-// Makes the text of the script that the source's bytes are, with resolutions, in which clusters wait for the addresses of their
-// hosts.
+// Makes the text of the script that the source's bytes are, with resolutions,
+// in which clusters wait for the addresses of their hosts.
 #[tactic(auto, using(crate::proofs::DnsLemmas::answered, crate::proofs::DnsLemmas::not_read))]
 pub(crate) fn make_dns<S: Source>(alloc: Global, source: &mut S) -> Result<Made, ScriptFault>
     ensures made { IsMadeBy Dns (S.left source.old) (S.left source.new) result }

@@ -3,7 +3,7 @@ ghost use Rattle.ev_io.specs.Outside.{Rose};
 ghost use Rattle.ev_types.specs.declared.journals.Finding.TheVariants.{Legal};
 ghost use Rattle.ev_model.specs.Finding.{finding_of};
 ghost use Rattle.ev_dump.specs.Dumps.{IsDump, end_line};
-ghost use Rattle.ev_fronts.specs.Fronts.{ends_commit};
+ghost use Rattle.ev_dump.specs.Fronts.{ends_commit};
 ghost use Rattle.ev_app.specs.declared.commands.Command.TheVariants.{Dump};
 ghost use Rattle.ev_app.specs.Dumps.{IsDumpAnswer};
 ghost use Rattle.ev_app.specs.Texts.{IsMadeBy};
@@ -13,8 +13,7 @@ use crate::run::workers_of;
 use crate::status::Status;
 use ev_audit::{audit, write_finding};
 use ev_audit_input::{Audited, read_audited};
-use ev_dump::{dump, dumps_by_prefix, state_after};
-use ev_fronts::ends_commit;
+use ev_dump::{dump, dumps_by_prefix, ends_commit, state_after};
 use ev_io::{MAX_LINES, ScriptFault, Source};
 use ev_types::Finding;
 use std::alloc::{AllocError, Global};
@@ -23,8 +22,8 @@ use std::mem::drop;
 /// The kind of the fault that no commit ends with this many entries.
 const NO_COMMIT: u8 = 12;
 
-// Makes the line of what is known after the first n entries of the journal that follows the script in the source's bytes, or
-// of what is found of it where it isn't legal.
+// Makes the line of what is known after the first n entries of the journal that follows the script
+// in the source's bytes, or of what is found of it where it isn't legal.
 #[tactic(auto, using(crate::proofs::DumpLemmas::dumped, crate::proofs::DumpLemmas::not_dumped))]
 pub(crate) fn make_dump<S: Source>(
     alloc: Global,

@@ -12,7 +12,7 @@ use crate::status::Status;
 use ev_actors::Journaled;
 use ev_io::{ScriptFault, Source};
 use ev_journal::render_journal;
-use ev_journal_laws::text_tells_journal;
+use ev_journal_read::text_tells_journal;
 use ev_keys::Keys;
 use ev_registry::Registry;
 use ev_run::Pace;
@@ -42,7 +42,8 @@ pub(crate) fn make_run<R: Threads + Wait + Sync, S: Source, P: Pace + Sync>(
     })
 }
 
-// The text of the journal of a script's run with a thread for each actor, by the rules of format 2, and what the script keeps.
+// The text of the journal of a script's run with a thread for each actor, by the rules of format 2,
+// and what the script keeps.
 #[tactic(auto, using(crate::proofs::RunLemmas::run_told))]
 fn run_text<R: Threads + Wait + Sync, P: Pace + Sync>(
     rt: &R,

@@ -5,8 +5,8 @@ ghost use Rattle.ev_script.specs.Faults.{Input};
 ghost use Rattle.ev_script.specs.ReadTrees.{IsTreesAnswer};
 ghost use Rattle.ev_script.specs.Script.{script_of};
 ghost use Rattle.ev_script.specs.declared.trees.ScriptTrees.{ScriptTrees};
-ghost use Rattle.ev_expand_laws.specs.Said.{lines_in};
-ghost use Rattle.ev_sotw_lines.specs.Lines.{sotw_lines};
+ghost use Rattle.ev_expand.specs.Said.{lines_in};
+ghost use Rattle.ev_sotw.specs.Lines.{sotw_lines};
 ghost use Rattle.ev_sotw.specs.Text.{versions_in};
 ghost use Rattle.ev_sotw_delta.specs.DeltaText.{delta_script};
 ghost use Rattle.ev_app.specs.declared.commands.Command.TheVariants.{Sotw};
@@ -24,9 +24,8 @@ use ev_io::{MemSource, ScriptFault, Source};
 use ev_keys::Keys;
 use ev_model_laws::{replay_is_a_run_of_its_script, runs_have_the_laws};
 use ev_script::ScriptTrees;
-use ev_sotw::render_sotw;
+use ev_sotw::{SotwLines, render_sotw};
 use ev_sotw_delta::{Delta, DeltaError, same_world, to_delta};
-use ev_sotw_lines::SotwLines;
 use ev_types::{Script, Text};
 use std::alloc::{AllocError, Global};
 use std::mem::drop;
@@ -94,8 +93,8 @@ fn read_text(alloc: Global, text: Vec<u8>) -> Result<KeyedScript, ScriptFault>
     }
 }
 
-// The text of the journal of the replay of a script of the state of the world, by the versions of its lines and the incremental
-// script that says the same.
+// The text of the journal of the replay of a script of the state of the world,
+// by the versions of its lines and the incremental script that says the same.
 #[tactic(auto, using(crate::proofs::SotwLemmas::sotw_told))]
 fn sotw_text(
     alloc: Global,
@@ -104,7 +103,8 @@ fn sotw_text(
     script: &Script,
 ) -> Result<Vec<u8>, AllocError>
     ensures { IfOk result (λ text. (input : Input) (trees : ScriptTrees) → IsTreesAnswer sotw_lines input (Ok trees)
-        → script.now ≡ delta_script trees → versions.now ≡ versions_in (lines_in trees) → IsSotwText trees text.items) }
+        → script.now ≡ delta_script trees → versions.now ≡ versions_in trees.header.profile (lines_in trees)
+        → IsSotwText trees text.items) }
 {
     // the journal is a run of its script; each run has the laws, and one of such a script is the same world
     runs_have_the_laws();

@@ -23,12 +23,12 @@ use Rattle.ev_model.specs.Runs.{is_batched, world_after}
 use Rattle.ev_model.specs.Operations.{Operation, all_operations, actor_same, actor_decides, entry_of, is_held_by, is_settle}
 use Rattle.ev_model.specs.Finding.{breaks_batch, end_finding, finding_at, is_unfinished, is_wrong, journal_told, operations_left, tells_of}
 use Rattle.ev_model.proofs.RunLemmas.{length-held, world_after-more}
-use Rattle.ev_run_laws.specs.Drawing.{NumbersSuffice}
+use Rattle.ev_model_laws.specs.Drawing.{NumbersSuffice}
 use Rattle.ev_operations.specs.Dues.{operation_due}
 use Rattle.ev_proxy.specs.Proxies.{IsAt, IsKnown}
-use Rattle.ev_walk_laws.specs.Walks.{IsTaken, NothingFound, journal_before, leaves_out, may_leave_out, next_of, world_behind}
-use Rattle.ev_walk_laws.proofs.NextLemmas.{at_row, journal_more, rests_own, stray_found, takes_next}
-use Rattle.ev_walk_laws.proofs.DrawnLemmas.{numbers_suffice}
+use Rattle.ev_model_laws.specs.Walks.{IsTaken, NothingFound, journal_before, leaves_out, may_leave_out, next_of, world_behind}
+use Rattle.ev_model_laws.proofs.NextLemmas.{at_row, journal_more, rests_own, stray_found, takes_next}
+use Rattle.ev_model_laws.proofs.WalkDrawnLemmas.{numbers_suffice}
 use Rattle.ev_operations.specs.Courses.{HaveCome, HaveMoved, IsFound}
 use Rattle.ev_operations.specs.declared.courses.Found.{Found}
 use Rattle.ev_operations.proofs.SeatLemmas.{more_come}

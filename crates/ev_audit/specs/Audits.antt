@@ -14,7 +14,7 @@ use Rattle.ev_model.specs.Runs.{is_batched}
 use Rattle.ev_model.specs.World.{World}
 use Rattle.ev_model_laws.specs.LegalFindings.{IsLegalJournal}
 use Rattle.ev_proxy.specs.Proxies.{IsAt}
-use Rattle.ev_walk_laws.specs.Walks.{NothingFound, journal_before, world_behind}
+use Rattle.ev_model_laws.specs.Walks.{NothingFound, journal_before, world_behind}
 use Rattle.ev_operations.specs.Courses.{HaveCome}
 use Rattle.ev_audit.specs.declared.walk.Walk.{Walk}
 
@@ -69,8 +69,8 @@ breaks_open (Some of) actor = not (actor_same actor of)
 abbrev pub world_before : Format → ScriptParts → List Row → ℕ → World
 world_before format script rows place = world_behind format script (journal_before script rows place)
 
--- the walk is before this place of the rows: nothing is found so far, and it knows the machine, each actor's course and the
--- open batch after the journal of the rows before
+-- the walk is before this place of the rows: nothing is found so far, and it knows the machine,
+-- each actor's course and the open batch after the journal of the rows before
 pub record IsBefore (script : ScriptParts) (rows : List Row) (place : ℕ) (walk : Walk) : Type 0 where
   pub none : NothingFound walk.courses.format script rows place
   pub proxy : IsAt walk.proxy (world_before walk.courses.format script rows place)

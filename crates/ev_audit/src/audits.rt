@@ -9,9 +9,10 @@ use ev_types::{Finding, Format, Row, Script};
 use std::alloc::{AllocError, Global};
 use std::mem::drop;
 
-/// What is found of a journal that is held against its script, by the rules of its format. Its rows may be any: of actors that the
-/// script doesn't have, out of order, or too few. Where it finds them legal, they are those of a run of the machine that holds the
-/// script's operations, with all laws of runs. The tables by what the input names hash by these keys.
+/// What is found of a journal that is held against its script, by the rules of its format.
+/// Its rows may be any: of actors that the script doesn't have, out of order, or too few.
+/// Where it finds them legal, they are those of a run of the machine that holds the script's operations,
+/// with all laws of runs. The tables by what the input names hash by these keys.
 pub fn audit(
     alloc: Global,
     keys: Keys,

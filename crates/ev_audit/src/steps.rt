@@ -4,7 +4,7 @@ ghost use Rattle.ev_model.specs.World.{World};
 ghost use Rattle.ev_model.specs.Operations.{Operation, is_held_by};
 ghost use Rattle.ev_model.specs.Step.{step};
 ghost use Rattle.ev_operations.specs.Dues.{operation_due};
-ghost use Rattle.ev_run_laws.specs.Drawing.{NumbersSuffice};
+ghost use Rattle.ev_model_laws.specs.Drawing.{NumbersSuffice};
 ghost use Rattle.ev_proxy.specs.Proxies.{IsAt, IsKnown};
 
 use ev_operations::Due;

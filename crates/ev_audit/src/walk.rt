@@ -5,7 +5,7 @@ ghost use Rattle.ev_model.specs.Finding.{end_finding, finding_at};
 ghost use Rattle.ev_model.specs.Operations.{actor_same, is_held_by};
 ghost use Rattle.ev_model.specs.World.{World};
 ghost use Rattle.ev_proxy.specs.Proxies.{IsAt};
-ghost use Rattle.ev_walk_laws.specs.Walks.{leaves_out};
+ghost use Rattle.ev_model_laws.specs.Walks.{leaves_out};
 ghost use Rattle.ev_audit.specs.Audits.{IsBefore, batch_after, breaks_open, is_settle_word, world_before};
 
 use crate::steps::{has_open, step_due};
@@ -15,7 +15,8 @@ use ev_proxy::Proxy;
 use ev_types::{Actor, Finding, Format, Op, Row, Script, is_same_answer};
 use std::alloc::{AllocError, Global};
 
-/// A walk over a journal's rows: the machine after the rows so far, how far each actor has come, and whose batch is open.
+/// A walk over a journal's rows: the machine after the rows so far, how far each actor has come,
+/// and whose batch is open.
 #[derive(Drop)]
 pub(crate) struct Walk {
     pub(crate) proxy: Proxy,
@@ -44,7 +45,8 @@ impl Walk {
         })
     }
 
-    /// Goes on by a row, and says what is found of it. Where anything is, or memory runs out, the walk has come to its end.
+    /// Goes on by a row, and says what is found of it. Where anything is, or memory runs out,
+    /// the walk has come to its end.
     pub(crate) fn pass(
         &mut self,
         alloc: Global,

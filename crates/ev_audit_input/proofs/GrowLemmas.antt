@@ -1,5 +1,5 @@
--- What is said of places before the last of some bytes stays where more bytes follow: so a fault of the bytes taken is one of the
--- whole input.
+-- What is said of places before the last of some bytes stays where more bytes follow:
+-- so a fault of the bytes taken is one of the whole input.
 use Rattle.std.proofs.Common.{◌≡◌, ℕ, suc, ◌+◌, ◌-◌, ◌<◌, ◌≤◌, Bool, true, false, List, [], ◌++◌, length, take, drop, get_or, Option, option_and_then, sym, ap, subst, ◌∙◌, ◌⊎◌, inl, inr, arith, append_assoc, length-append, add-one}
 use Rattle.std.proofs.Math.ListN.{get_or-append}
 use Rattle.std.proofs.lemmas.List.{take-append-le, take-append-drop}

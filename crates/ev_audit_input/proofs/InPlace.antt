@@ -60,8 +60,8 @@ end_text_at rows =
 abbrev pub Wrong : ℕ → List (List ℕ) → ℕ → ℕ → Type 0
 Wrong workers texts first index = IsNoText workers (index - first) (get_or texts index []) ⊎ HasEndBefore texts first index
 
--- of these texts the first `given` ones were read: from the one of this index on they are a journal's first line, rows and the end
--- line or not, and what is after them
+-- of these texts the first `given` ones were read: from the one of this index on they are a journal's
+-- first line, rows and the end line or not, and what is after them
 module _ (texts : List (List ℕ)) (workers first given : ℕ) (format : Format) (rows : List Row) (end : Bool) (rest : List (List ℕ))
     (head : get_or texts first [] ≡ first_text format workers) (meant : AreMeant rows) (lines : drop (first + 1) (take given texts) ≡ texts_of rows end ++ rest) where
   read_at : (k : ℕ) → k < length (texts_of rows end ++ rest) → get_or texts (first + 1 + k) [] ≡ get_or (texts_of rows end ++ rest) k []

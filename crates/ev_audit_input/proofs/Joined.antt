@@ -117,7 +117,8 @@ module _ (all : List ℕ) (state : LinesState) (script : ScriptParts) (text : Li
   sound_up : (place : ℕ) → place < length all → place ≤ up.place → HasNoLineFault all place
   sound_up place h up_to = (λ large. up.sound place TooLarge up_to (h, large), λ many. up.sound place TooMany up_to (h, many), λ long. up.sound place TooLong up_to (h, long))
 
-  -- a fault of the journal at a place is the first, where no limit is passed up to it and no line is out of its place before
+  -- a fault of the journal at a place is the first, where no limit is passed up to it
+  -- and no line is out of its place before
   first_nine : (place : ℕ) → ((other : ℕ) → other < length all → other ≤ place → HasNoLineFault all other) → ((other : ℕ) → IsMisplacedAt input other → place ≤ other) → place ≤ length all
       → (other : ℕ) (kind_there : FaultKind) → StandsWithJournal input other kind_there → (place < other) ⊎ ((place ≡ other) × (8 ≤ fault_order kind_there))
   first_nine place sound placed within other kind_there s = by_fault (by_kind input other kind_there s)

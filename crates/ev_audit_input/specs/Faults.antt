@@ -1,6 +1,7 @@
--- Where an audit's input, a script with a journal after it, stops being one. This project's own. Its faults are those of a
--- script's lines before the journal and of the limits everywhere, and one kind more (kind 9): that a line of the journal isn't
--- one in its place, or that the journal or its end line is missing. A place counts bytes from 0, as of a script's faults.
+-- Where an audit's input, a script with a journal after it, stops being one. This project's own.
+-- Its faults are those of a script's lines before the journal and of the limits everywhere, and one kind more (kind 9):
+-- that a line of the journal isn't one in its place, or that the journal or its end line is missing.
+-- A place counts bytes from 0, as of a script's faults.
 use Rattle.std.specs.Prelude.{◌≡◌, ◌≢◌, ℕ, zero, suc, ◌+◌, ◌-◌, ◌<◌, ◌≤◌, ◌⊎◌, IsTrue, List, [], length, slice_index_or, Some}
 use Rattle.ev_io.specs.Lines.{lines_of}
 use Rattle.ev_types.specs.declared.journals.Format.{Format}
@@ -13,13 +14,15 @@ use Rattle.ev_journal_read.specs.Reading.{IsNoRow}
 
 -- ---- the lines of a journal
 
--- the journal begins at the place: its first line, which is the first after the header with a member `format`, ends there
+-- the journal begins at the place: its first line, which is the first after the header
+-- with a member `format`, ends there
 pub record StartsJournal (input : Input) (start : ℕ) : Type 0 where
   pub begins : BeginsJournal input start
   pub first : (other : ℕ) → other < start → ¬ (BeginsJournal input other)
 
--- a text isn't that of the line of a journal with this many lines before it: of its first line, which names its format and the
--- script's count of workers, or after that and this many rows neither of a row nor of the end line, which names their number
+-- a text isn't that of the line of a journal with this many lines before it:
+-- of its first line, which names its format and the script's count of workers,
+-- or after that and this many rows neither of a row nor of the end line, which names their number
 abbrev pub IsNoText : ℕ → ℕ → List ℕ → Type 0
 IsNoText workers zero text = (format : Format) → text ≢ first_text format workers
 IsNoText workers (suc rows) text = IsNoRow text × (text ≢ end_text rows)
@@ -32,8 +35,8 @@ pub record HasEndBefore (texts : List (List ℕ)) (first index : ℕ) : Type 0 w
 
 -- ---- faults
 
--- a line of the journal ends at the place that isn't one in its place: it hasn't the text of one there, or comes after the
--- end line
+-- a line of the journal ends at the place that isn't one in its place:
+-- it hasn't the text of one there, or comes after the end line
 pub record IsMisplacedAt (input : Input) (place : ℕ) : Type 0 where
   pub start : ℕ
   pub starts : StartsJournal input start
@@ -63,8 +66,8 @@ StandsWithJournal input place NoSuchWorker = Stands plain_lines input place NoSu
 StandsWithJournal input place NoByte = Stands plain_lines input place NoByte
 StandsWithJournal input place NotJournal = IsMisplacedAt input place ⊎ IsIncompleteAt input place
 
--- the line with which it is reported: its own, and at the end of the input, where no line that ends there is out of its place, the
--- one above the last
+-- the line with which it is reported: its own, and at the end of the input,
+-- where no line that ends there is out of its place, the one above the last
 abbrev pub IsToldWithJournal : Input → ℕ → FaultKind → ℕ → Type 0
 IsToldWithJournal input place TooLong line = line ≡ fault_line input place TooLong
 IsToldWithJournal input place TooMany line = line ≡ fault_line input place TooMany
@@ -77,8 +80,8 @@ IsToldWithJournal input place NoByte line = line ≡ fault_line input place NoBy
 IsToldWithJournal input place NotJournal line =
     (IsMisplacedAt input place × (line ≡ index_at input place + 1)) ⊎ ((¬ (IsMisplacedAt input place)) × (line ≡ length (lines_of input.bytes) + 1))
 
--- the input's first fault has this line and this number: no other is at an earlier place, or at its place with a kind that
--- is looked at before
+-- the input's first fault has this line and this number:
+-- no other is at an earlier place, or at its place with a kind that is looked at before
 pub record IsFaultWithJournal (input : Input) (line number : ℕ) : Type 0 where
   pub place : ℕ
   pub kind : FaultKind

@@ -23,10 +23,11 @@ pub struct Audited {
 /// Reads the script and the journal that the source's bytes are.
 ///
 /// # Errors
-/// `Bad` with the line and the kind of the first fault of the bytes taken, those at the end of the input only where the source
-/// gave its end; `Read` where a read failed, the source didn't give its end and the bytes taken have no fault. `OutOfMemory`
-/// where there is no memory for the script or the rows, or the script's responses have 2^32 - 1 resources or more together; no
-/// read failed.
+/// `Bad` with the line and the kind of the first fault of the bytes taken,
+/// those at the end of the input only where the source gave its end;
+/// `Read` where a read failed, the source didn't give its end and the bytes taken have no fault. `OutOfMemory`
+/// where there is no memory for the script or the rows, or the script's responses have 2^32 - 1
+/// resources or more together; no read failed.
 pub fn read_audited<S: Source>(alloc: Global, source: &mut S) -> Result<Audited, ScriptFault>
     ensures reads { ReadsAuditInput (S.left source.old) (S.left source.new) result }
     ensures few { IfOk result (λ audited. length audited.rows.items < MAX_LINES) }

@@ -30,7 +30,8 @@ IsMadeOf input (Err (Bad line kind)) = IsFaultOf chain_lines input line kind
 IsMadeOf input (Err Read) = HasNoFault chain_lines input × (¬ (IsTrue input.ended))
 IsMadeOf input (Err OutOfMemory) = ⊤
 
--- these bytes were taken, at most one more than an input may have, to the end of the source where it gave that; no journal follows
+-- these bytes were taken, at most one more than an input may have,
+-- to the end of the source where it gave that; no journal follows
 pub record TakesChains (before after : Option (List ℕ)) (input : Input) : Type 0 where
   pub asked : input.audit ≡ false
   pub taken : Takes before after input.bytes

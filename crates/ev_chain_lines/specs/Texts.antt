@@ -1,11 +1,13 @@
 -- The text that answers an input of filter chains: a line for each line after the first, and one with their number.
-use Rattle.std.specs.Prelude.{ℕ, ◌+◌, Bool, true, false, List, [], ◌∷◌, ◌++◌, length, codes, decimal}
+use Rattle.std.specs.Prelude.{◌≡◌, ℕ, ◌+◌, Bool, true, false, List, [], ◌∷◌, ◌++◌, length, codes, decimal}
 use Rattle.serde_json.specs.Data.{Data, string, object, member, no_members}
 use Rattle.ev_chains.specs.declared.changes.Changed.{Changed}
 use Rattle.ev_chains.specs.declared.chains.ChainAnswer.{ChainAnswer}
 use Rattle.ev_chains.specs.declared.chains.ChainAnswer.TheVariants.{InUse, NoChain, Chain}
 use Rattle.ev_chains.specs.State.{opening}
 use Rattle.ev_chains.specs.Steps.{Event, EventAnswer, Refused, Updated, Accepted, Closed, Drained, Reaped, answers_of}
+use Rattle.ev_tree.specs.declared.outcome.ReadError.{ReadError}
+use Rattle.ev_tree.specs.declared.outcome.ReadError.TheVariants.{Rule, OutOfMemory}
 use Rattle.ev_journal.specs.Rendering.{number_tree, numbers_tree, end_tree, line_text}
 
 -- what changed
@@ -34,6 +36,11 @@ answer_tree (Accepted answer) = accepted_tree answer
 answer_tree (Closed was_open) = closed_tree was_open
 answer_tree (Drained conns) = object (member (codes "closed") (numbers_tree conns) no_members)
 answer_tree (Reaped numbers) = object (member (codes "reaped") (numbers_tree numbers) no_members)
+
+-- the answer to a listener that couldn't be read: the rule that refuses it. Without memory there is none.
+abbrev pub IsRefusedBy : ReadError → Data → Type 0
+IsRefusedBy (Rule rule) tree = tree ≡ answer_tree (Refused rule)
+IsRefusedBy OutOfMemory tree = ⊥
 
 -- the answer to a line of the input, by the answer's tree
 abbrev pub line_tree : ℕ → Data → Data

@@ -5,14 +5,16 @@ ghost use Rattle.ev_chains.specs.Steps.{Refused, Updated, Accepted, Closed, Drai
 ghost use Rattle.ev_chain_lines.specs.Texts.{answer_tree};
 
 use ev_chains::{ChainAnswer, Changed};
+use ev_types::Rule;
 use serde_json::{Value, json};
 use std::alloc::{AllocError, Global};
 
 // A rule by which a listener is refused.
-pub(crate) fn refused_value(alloc: Global, rule: u8) -> Result<Value, AllocError>
+pub(crate) fn refused_value(alloc: Global, rule: Rule) -> Result<Value, AllocError>
     ensures { IfOk result (λ v. view v ≡ answer_tree (Refused rule)) }
 {
-    Ok(Value::String(format!(in alloc; "V{rule}")?))
+    let number = rule.number();
+    Ok(Value::String(format!(in alloc; "V{number}")?))
 }
 
 // What changes where a listener is accepted.

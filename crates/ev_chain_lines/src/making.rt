@@ -11,8 +11,9 @@ use std::alloc::Global;
 /// The text that answers the input that the source's bytes are.
 ///
 /// # Errors
-/// `Bad` with the line and the kind of the first fault of the bytes taken, those at the end of the input only where the source
-/// gave its end; `Read` where a read failed, the source didn't give its end and the bytes taken have no fault. `OutOfMemory`
+/// `Bad` with the line and the kind of the first fault of the bytes taken,
+/// those at the end of the input only where the source gave its end;
+/// `Read` where a read failed, the source didn't give its end and the bytes taken have no fault. `OutOfMemory`
 /// where there is no memory for the text; no read failed.
 pub fn make_chains<S: Source>(alloc: Global, source: &mut S) -> Result<Vec<u8>, ScriptFault>
     ensures made { MakesChains (S.left source.old) (S.left source.new) result }

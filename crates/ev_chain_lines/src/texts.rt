@@ -6,7 +6,7 @@ ghost use Rattle.ev_listener_json.specs.Chains.{chains_of};
 ghost use Rattle.ev_chains.specs.Events.{seen};
 ghost use Rattle.ev_chains.specs.Steps.{Update, chain_step};
 ghost use Rattle.ev_chain_lines.specs.Lines.{event_told};
-ghost use Rattle.ev_chain_lines.specs.Texts.{answer_tree, line_tree, chains_text};
+ghost use Rattle.ev_chain_lines.specs.Texts.{IsRefusedBy, answer_tree, line_tree, chains_text};
 
 use crate::answers::{
     accepted_value, changed_value, closed_value, drained_value, reaped_value, refused_value,
@@ -21,8 +21,8 @@ use ev_trees::push_line;
 use serde_json::{Value, json};
 use std::alloc::{AllocError, Global};
 
-/// The text that answers the lines of an input after the first: a line for each event, and one with their number. Chains are found
-/// by tables of these keys.
+/// The text that answers the lines of an input after the first:
+/// a line for each event, and one with their number. Chains are found by tables of these keys.
 ///
 /// # Errors
 /// `AllocError` where there is no memory for it, or more than 2^32 - 1 chains would have to be numbered.
@@ -85,12 +85,21 @@ fn answer_listener(alloc: Global, chains: &mut Chains, message: &Value) -> Resul
     }
     match chains.listener(alloc, message) {
         Ok(changed) => changed_value(alloc, &changed),
-        Err(ReadError::Rule(rule)) => refused_value(alloc, rule),
-        Err(ReadError::OutOfMemory) => Err(AllocError),
+        Err(error) => error_value(alloc, &error),
     }
 }
 
-// Whether there are numbers for all chains of a listener, where this many were drawn.
+// The answer to a listener that couldn't be read: the rule that refuses it.
+fn error_value(alloc: Global, error: &ReadError) -> Result<Value, AllocError>
+    ensures { IfOk result (λ v. IsRefusedBy error.now (view v)) }
+{
+    match error {
+        ReadError::Rule(rule) => refused_value(alloc, *rule),
+        ReadError::OutOfMemory => Err(AllocError),
+    }
+}
+
+// Whether there are numbers for all chains of a listener, where this many were allocated.
 fn has_room(alloc: Global, made: u32, message: &Value) -> Result<bool, AllocError>
     ensures { IfOk result (λ has. IsTrue has ↔ (made + length (chains_of (view message.now)) < 2 ^ 32)) }
 {

@@ -7,11 +7,11 @@ use Rattle.std.proofs.lemmas.List.Folds.{list_any-append}
 use Rattle.ev_model.specs.World.{OpenMember}
 use Rattle.ev_model.specs.Picture.{has_number}
 use Rattle.ev_model.specs.Publishing.{ascending}
-use Rattle.ev_model.specs.Connections.{closed, is_closing, is_member, is_open, left_open}
+use Rattle.ev_model.specs.Connections.{closed, is_member, is_open}
 use Rattle.ev_ledger.specs.Members.{AreApart, is_open_at}
 use Rattle.ev_ledger.proofs.OrderLemmas.{any_sorted}
 use Rattle.ev_ledger.proofs.PlaceLemmas.{closed_leaves}
-use Rattle.ev_chains.specs.Closing.{closed_all, is_numbered}
+use Rattle.ev_chains.specs.Closing.{closed_all, is_closing, is_numbered, left_open}
 use Rattle.ev_chains.specs.Kept.{Apart}
 use Rattle.ev_chains.proofs.ConnLemmas.{any_left, any_first, turned}
 use Rattle.ev_chains.proofs.KeyLemmas.{any_same, any_swap}

@@ -11,8 +11,10 @@ use Rattle.ev_model.specs.World.{OpenMember}
 use Rattle.ev_model.specs.Dead.{is_open_on, is_forwarded_to}
 use Rattle.ev_model.specs.Picture.{has_number}
 use Rattle.ev_model.specs.Publishing.{ascending}
-use Rattle.ev_model.specs.Connections.{closed_by, is_closing, is_member, left_open, member_on}
-use Rattle.ev_ledger.specs.Members.{AreApart, member_before, on_in, with_member}
+use Rattle.ev_model.specs.Connections.{is_member}
+use Rattle.ev_ledger.specs.Members.{AreApart, member_before, member_on, on_in, on_of, with_member}
+use Rattle.ev_ledger.specs.declared.open_on.On.{On}
+use Rattle.ev_chains.specs.Closing.{closed_by, is_closing, left_open, on_chain}
 use Rattle.ev_ledger.proofs.IndexLemmas.{found_any}
 use Rattle.ev_ledger.proofs.OrderLemmas.{any_put}
 use Rattle.ev_chains.specs.State.{busy_among, has_open, idle_among}
@@ -65,9 +67,9 @@ open_used n (m ∷ opened) none =
     by false rest = rest
 
 -- one that closes
-abbrev pub is_at : ℕ → Option (ℕ × Option ℕ) → Bool
+abbrev pub is_at : ℕ → Option On → Bool
 is_at n None = false
-is_at n (Some on) = on.0 == n
+is_at n (Some on) = on.listener == n
 
 pub used_closed : (n conn : ℕ) (opened : List OpenMember) → AreApart opened
     → is_used n opened ≡ (is_at n (on_in 0 conn opened) || is_used n (filter (λ m. not (is_member 0 conn m)) opened))
@@ -75,7 +77,7 @@ used_closed n conn opened apart =
     split opened
     ∙ (λ i. (sym (found_any (λ m. m.listener == n) 0 conn opened apart) ∙ found (find (is_member 0 conn) opened)) i || sym (any_left (λ m. m.listener == n) (λ m. not (is_member 0 conn m)) opened) i)
   where
-    found : (m : Option OpenMember) → unwrap_or (option_map (λ (m : OpenMember). m.listener == n) m) false ≡ is_at n (option_map (λ (m : OpenMember). (m.listener, m.cluster)) m)
+    found : (m : Option OpenMember) → unwrap_or (option_map (λ (m : OpenMember). m.listener == n) m) false ≡ is_at n (option_map on_of m)
     found None = refl
     found (Some m) = refl
 
@@ -178,9 +180,9 @@ module _ (began idle busy : List ℕ) (opened : List OpenMember) (placed : ArePl
 
   -- ---- a connection comes
 
-  pub placed_accept : (conn number : ℕ) → has_number number began ≡ false → ArePlaced began idle busy (with_member (member_on 0 conn number None) opened)
+  pub placed_accept : (conn number : ℕ) → has_number number began ≡ false → ArePlaced began idle busy (with_member (member_on 0 conn (on_chain number)) opened)
   placed_accept conn number other = record {
-    own = any_put member_before is_foreign (member_on 0 conn number None) opened ∙ placed.own;
+    own = any_put member_before is_foreign (member_on 0 conn (on_chain number)) opened ∙ placed.own;
     idle_apart = placed.idle_apart;
     idle_began = placed.idle_began;
     idle_unused = λ n is. put n ∙ (λ i. not_true (number == n) (λ h. true≢false (sym (placed.idle_began n is) ∙ ap (λ k. has_number k began) (sym (same number n h)) ∙ other)) i || placed.idle_unused n is i);
@@ -188,8 +190,8 @@ module _ (began idle busy : List ℕ) (opened : List OpenMember) (placed : ArePl
     busy_used = λ n is. put n ∙ right_true (number == n) (is_used n opened) (placed.busy_used n is);
   }
     where
-      put : (n : ℕ) → is_used n (with_member (member_on 0 conn number None) opened) ≡ ((number == n) || is_used n opened)
-      put n = any_put member_before (λ m. m.listener == n) (member_on 0 conn number None) opened
+      put : (n : ℕ) → is_used n (with_member (member_on 0 conn (on_chain number)) opened) ≡ ((number == n) || is_used n opened)
+      put n = any_put member_before (λ m. m.listener == n) (member_on 0 conn (on_chain number)) opened
 
   -- ---- a connection closes
 
@@ -223,41 +225,41 @@ module _ (began idle busy : List ℕ) (opened : List OpenMember) (placed : ArePl
         by n false at is = still n at (within n is)
 
     -- it was the last on its chain
-    module _ (number : ℕ) (cluster : Option ℕ) (on : on_in 0 conn opened ≡ Some (number, cluster)) (none : has_open left number ≡ false)
-        (busy_then : List ℕ) (busies : (n : ℕ) → is_in busy_then n ≡ (not (nat_eq number n) && is_in busy n)) where
-      within : (n : ℕ) → is_in busy_then n ≡ true → ((number == n) ≡ false) × (is_in busy n ≡ true)
+    module _ (place : On) (on : on_in 0 conn opened ≡ Some place) (none : has_open left place.listener ≡ false)
+        (busy_then : List ℕ) (busies : (n : ℕ) → is_in busy_then n ≡ (not (nat_eq place.listener n) && is_in busy n)) where
+      within : (n : ℕ) → is_in busy_then n ≡ true → ((place.listener == n) ≡ false) × (is_in busy n ≡ true)
       within n is =
-          let parts = and_parts (not (nat_eq number n)) (is_in busy n) (sym (busies n) ∙ is) in
-          (not_true (number == n) (λ h. false≢true (ap not (sym h) ∙ parts.0)), parts.1)
+          let parts = and_parts (not (nat_eq place.listener n)) (is_in busy n) (sym (busies n) ∙ is) in
+          (not_true (place.listener == n) (λ h. false≢true (ap not (sym h) ∙ parts.0)), parts.1)
 
-      ended : (t : Bool) → is_in busy number ≡ t → ArePlaced began (cond t (idle ++ number ∷ []) idle) busy_then left
+      ended : (t : Bool) → is_in busy place.listener ≡ t → ArePlaced began (cond t (idle ++ place.listener ∷ []) idle) busy_then left
       ended true is =
-          more_idle began (number ∷ []) left (refl, tt) (λ n has. has) unused
-          (λ n has. by n (sym (or_false (number == n)) ∙ has)) busy_then own_left
+          more_idle began (place.listener ∷ []) left (refl, tt) (λ n has. has) unused
+          (λ n has. by n (sym (or_false (place.listener == n)) ∙ has)) busy_then own_left
           (λ n has. (placed.busy_began n (within n has).1, still n (ap (is_at n) on ∙ (within n has).0) (within n has).1))
         where
-          by : (n : ℕ) → (number == n) ≡ true → (has_number n began ≡ true) × ((is_used n left ≡ false) × (has_number n idle ≡ false))
+          by : (n : ℕ) → (place.listener == n) ≡ true → (has_number n began ≡ true) × ((is_used n left ≡ false) × (has_number n idle ≡ false))
           by n at =
-              subst (λ k. (has_number k began ≡ true) × ((is_used k left ≡ false) × (has_number k idle ≡ false))) (same number n at)
-              (placed.busy_began number is, (sym (open_used number left own_left) ∙ none, busy_other number is))
+              subst (λ k. (has_number k began ≡ true) × ((is_used k left ≡ false) × (has_number k idle ≡ false))) (same place.listener n at)
+              (placed.busy_began place.listener is, (sym (open_used place.listener left own_left) ∙ none, busy_other place.listener is))
       ended false is = placed_close busy_then (λ n has. (within n has).1) (λ n at has. absurd (true≢false (sym at ∙ ap (is_at n) on ∙ (within n has).0)))
 
-      pub placed_end : ArePlaced began (cond (is_in busy number) (idle ++ number ∷ []) idle) busy_then left
-      placed_end = ended (is_in busy number) refl
+      pub placed_end : ArePlaced began (cond (is_in busy place.listener) (idle ++ place.listener ∷ []) idle) busy_then left
+      placed_end = ended (is_in busy place.listener) refl
 
-      pub end_same : draining_in began (cond (is_in busy number) (idle ++ number ∷ []) idle) busy_then ≡ draining_in began idle busy
-      end_same = same_draining (cond (is_in busy number) (idle ++ number ∷ []) idle) busy_then (λ n. ap (λ b. has_number n (cond (is_in busy number) (idle ++ number ∷ []) idle) || b) (busies n) ∙ by (is_in busy number) refl n (number == n) refl)
+      pub end_same : draining_in began (cond (is_in busy place.listener) (idle ++ place.listener ∷ []) idle) busy_then ≡ draining_in began idle busy
+      end_same = same_draining (cond (is_in busy place.listener) (idle ++ place.listener ∷ []) idle) busy_then (λ n. ap (λ b. has_number n (cond (is_in busy place.listener) (idle ++ place.listener ∷ []) idle) || b) (busies n) ∙ by (is_in busy place.listener) refl n (place.listener == n) refl)
         where
-          by : (b : Bool) → is_in busy number ≡ b → (n : ℕ) (t : Bool) → (number == n) ≡ t
-              → (has_number n (cond b (idle ++ number ∷ []) idle) || (not t && is_in busy n)) ≡ drains idle busy n
+          by : (b : Bool) → is_in busy place.listener ≡ b → (n : ℕ) (t : Bool) → (place.listener == n) ≡ t
+              → (has_number n (cond b (idle ++ place.listener ∷ []) idle) || (not t && is_in busy n)) ≡ drains idle busy n
           by true is n t at =
-              ap (λ b. b || (not t && is_in busy n)) (list_any-append (λ k. k == n) idle (number ∷ []) ∙ ap (λ b. has_number n idle || (b || false)) at)
+              ap (λ b. b || (not t && is_in busy n)) (list_any-append (λ k. k == n) idle (place.listener ∷ []) ∙ ap (λ b. has_number n idle || (b || false)) at)
               ∙ if_at t at
             where
-              if_at : (t : Bool) → (number == n) ≡ t → ((has_number n idle || (t || false)) || (not t && is_in busy n)) ≡ drains idle busy n
-              if_at true at = or_false (has_number n idle || true) ∙ ap (λ b. has_number n idle || b) (sym is ∙ ap (is_in busy) (same number n at))
+              if_at : (t : Bool) → (place.listener == n) ≡ t → ((has_number n idle || (t || false)) || (not t && is_in busy n)) ≡ drains idle busy n
+              if_at true at = or_false (has_number n idle || true) ∙ ap (λ b. has_number n idle || b) (sym is ∙ ap (is_in busy) (same place.listener n at))
               if_at false at = ap (λ b. b || is_in busy n) (or_false (has_number n idle))
-          by false is n true at = ap (λ b. has_number n idle || b) (sym is ∙ ap (is_in busy) (same number n at))
+          by false is n true at = ap (λ b. has_number n idle || b) (sym is ∙ ap (is_in busy) (same place.listener n at))
           by false is n false at = refl
 
   -- ---- a drain timeout

@@ -8,3 +8,6 @@ pub mod NextLemmas
 pub mod RowLemmas
 pub mod NumberLemmas
 pub mod KeptLemmas
+pub mod PlaceLemmas
+pub mod PairLemmas
+pub mod ChainLemmas

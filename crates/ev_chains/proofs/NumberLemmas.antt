@@ -154,7 +154,7 @@ no_twin n chain (row ∷ rows) none (inl here) =
 no_twin n chain (row ∷ rows) none (inr there) =
     no_twin n chain rows (or_parts (clashes chain.matches (match_of row)) (list_any (clashes chain.matches) (map match_of rows)) none).1 there
 
--- where no number stands for two chains and no chain is there twice, those that go are apart
+-- where no number represents two chains and no chain is there twice, those that go are apart
 each_once : (next rows : List Row) → has_clash (map match_of rows) ≡ false
     → ((number : ℕ) (one other : Chain) → HasRow number one rows → HasRow number other rows → one ≡ other) → Apart (gone_in next rows)
 each_once next [] clear one = tt

@@ -1,4 +1,4 @@
--- The numbers of chains: none stands for two chains, and no chain that serves has two.
+-- The numbers of chains: none represents two chains, and no chain that serves has two.
 use Rattle.std.proofs.Common.{◌≡◌, ℕ, ◌+◌, ◌<◌, ◌≤◌, ◌==◌, Bool, true, false, ◌&&◌, ◌||◌, cond, List, [], ◌∷◌, map, Option, Some, None, refl, sym, ap, ◌∙◌, subst, arith, inl, inr, unwrap_or}
 use Rattle.std.specs.Prelude.{◌⊎◌}
 use Rattle.std.specs.List.{list_any, find}
@@ -148,7 +148,7 @@ module _ (old : List Row) where
   row_kept made (c ∷ chains) number chain (inl here) found = inl (ap (λ x. unwrap_or (number_for x old) (made + 1)) here ∙ ap (λ f. unwrap_or f (made + 1)) found, here)
   row_kept made (c ∷ chains) number chain (inr there) found = inr (row_kept (made_after (number_for c old) made) chains number chain there found)
 
-  -- numbers are no greater than those drawn
+  -- numbers are no greater than those allocated
   within : (made : ℕ) (chains : List Chain) (number : ℕ) (chain : Chain) (base : ℕ) → base ≤ made → ((n : ℕ) (x : Chain) → HasRow n x old → n ≤ base)
       → HasRow number chain (numbered made old chains) → number ≤ made_by made old chains
   within made [] number chain base le below has = elim has [ ]
@@ -164,7 +164,7 @@ module _ (old : List Row) where
       let up = later (number_for c old) made in
       within (made_after (number_for c old) made) chains number chain base (omega (arith, up, le)) below there
 
-  -- no number stands for two chains
+  -- no number represents two chains
   apart_head : (made base : ℕ) (c chain : Chain) (number : ℕ) → Sound base old → base ≤ made → GotNumber made old c number → unwrap_or (number_for c old) (made + 1) ≡ number
       → GotNumber (made_after (number_for c old) made) old chain number → c ≡ chain
   apart_head made base c chain number sound le (inl mine) head (inl other) = sound.one_chain number c chain (for_some c old number mine) (for_some chain old number other)

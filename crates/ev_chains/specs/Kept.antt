@@ -14,7 +14,7 @@ abbrev pub HasRow : ℕ → Chain → List Row → Type 0
 HasRow number chain [] = ⊥
 HasRow number chain (row ∷ rows) = ((row.number ≡ number) × (row.chain ≡ chain)) ⊎ HasRow number chain rows
 
--- the numbers of rows and their chains are apart, and those were drawn
+-- the numbers of rows and their chains are apart, and those were allocated
 pub record Sound (made : ℕ) (rows : List Row) : Type 0 where
   pub one_chain : (number : ℕ) (one other : Chain) → HasRow number one rows → HasRow number other rows → one ≡ other
   pub one_number : (chain : Chain) (one other : ℕ) → HasRow one chain rows → HasRow other chain rows → one ≡ other
@@ -47,7 +47,8 @@ is_foreign member = not (member.worker == 0) || is_some member.cluster
 abbrev pub is_in : List ℕ → ℕ → Bool
 is_in keys number = list_any (nat_eq number) keys
 
--- The chains that drain, as a list of those without a connection and a set of those with one: they are of those that began to.
+-- The chains that drain, as a list of those without a connection and a set of those with one:
+-- they are of those that began to.
 pub record ArePlaced (began idle busy : List ℕ) (opened : List OpenMember) : Type 0 where
   pub own : list_any is_foreign opened ≡ false
   pub idle_apart : Apart idle

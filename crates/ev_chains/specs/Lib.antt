@@ -10,3 +10,4 @@ pub mod Steps
 pub mod Kept
 pub mod Closing
 pub mod Events
+pub mod Laws

@@ -22,7 +22,8 @@ use Rattle.ev_chains.specs.Rows.{has_clash}
 unfoldable pub match_tree : Data → Data
 match_tree chain = inside (object_of (codes "filter_chain_match") chain)
 
--- the chain of a listener that listens there. One without a filter that serves breaks V17; it stands for a table with no hosts.
+-- the chain of a listener that listens there. One without a filter that serves breaks V17;
+-- it represents a table with no hosts.
 unfoldable pub chain_of : Listening → Data → Chain
 chain_of listening chain = record {
   listening = listening;
@@ -44,8 +45,9 @@ listening_of tree = record { address = address_text_of tree; port = port_of tree
 unfoldable pub chains_in : Data → List Chain
 chains_in tree = map (chain_of (listening_of tree)) (chains_of tree)
 
--- What a listener breaks, whatever its chains have in common: what one of its chains breaks, and what it breaks itself. V6: its
--- name is looked at for its form alone. V14: no usable address, or one for datagrams. V16: no chain, or a default chain.
+-- What a listener breaks, whatever its chains have in common:
+-- what one of its chains breaks, and what it breaks itself. V6: its name is looked at for its form alone. V14:
+-- no usable address, or one for datagrams. V16: no chain, or a default chain.
 unfoldable pub parts_broken : Data → BrokenRules
 parts_broken tree = either_broken (any_broken one_broken (chains_of tree)) (record none_broken {
   v6 =

@@ -55,8 +55,8 @@ names_in tree = map text_in (listed (texts_of (codes "server_names") tree))
 unfoldable pub match_read : Data → ChainMatch
 match_read tree = record { port = port_in (number_of (codes "destination_port") tree); names = names_in tree }
 
--- What a match breaks. V6: a wrong form, or a port that is too great. V16: a member that isn't read. V27: a server name that
--- isn't one.
+-- What a match breaks. V6: a wrong form, or a port that is too great. V16:
+-- a member that isn't read. V27: a server name that isn't one.
 unfoldable pub match_broken : Data → BrokenRules
 match_broken tree = record none_broken {
   v6 =

@@ -12,8 +12,9 @@ use Rattle.ev_chains.specs.declared.rows.Row.{Row}
 use Rattle.ev_chains.specs.Listed.{number_for}
 use Rattle.ev_chains.specs.Listeners.{chains_in, rule_told}
 
--- How many numbers were drawn; the chains that serve, in the order of the last listener; the numbers of those that drain, in the
--- order in which they began to; and the open connections, which are those of worker 0, each on its chain as its listener.
+-- How many numbers were allocated; the chains that serve, in the order of the last listener;
+-- the numbers of those that drain, in the order in which they began to;
+-- and the open connections, which are those of worker 0, each on its chain as its listener.
 pub record ChainState : Type 0 where
   pub made : ℕ
   pub serving : List Row
@@ -38,7 +39,7 @@ numbered made serving (chain ∷ chains) =
     record { number = unwrap_or (number_for chain serving) (made + 1); chain = chain }
     ∷ numbered (made_after (number_for chain serving) made) serving chains
 
--- how many numbers are drawn then
+-- how many numbers are allocated then
 abbrev pub made_by : ℕ → List Row → List Chain → ℕ
 made_by made serving [] = made
 made_by made serving (chain ∷ chains) = made_by (made_after (number_for chain serving) made) serving chains

@@ -1,10 +1,11 @@
--- What each event does to a listener's filter chains, and how it is answered. Source: Envoy's listener manager, which updates
--- filter chains in place: chains that are equal stay, the others drain.
+-- What each event does to a listener's filter chains, and how it is answered. Source:
+-- Envoy's listener manager, which updates filter chains in place: chains that are equal stay, the others drain.
 use Rattle.std.specs.Prelude.{ℕ, Bool, if◌then◌else◌, List, [], ◌∷◌, Option, Some, None}
 use Rattle.serde_json.specs.Data.{Data}
 use Rattle.ev_model.specs.Publishing.{ascending}
-use Rattle.ev_model.specs.Connections.{is_open, closed, closed_by, left_open, member_on}
-use Rattle.ev_ledger.specs.Members.{with_member}
+use Rattle.ev_model.specs.Connections.{is_open, closed}
+use Rattle.ev_ledger.specs.Members.{member_on, with_member}
+use Rattle.ev_chains.specs.Closing.{closed_by, left_open, on_chain}
 use Rattle.ev_chains.specs.declared.changes.Changed.{Changed}
 use Rattle.ev_chains.specs.declared.chains.ChainAnswer.{ChainAnswer}
 use Rattle.ev_chains.specs.declared.chains.ChainAnswer.TheVariants.{InUse, NoChain, Chain}
@@ -13,8 +14,9 @@ use Rattle.ev_chains.specs.Listed.{number_in}
 use Rattle.ev_chains.specs.Listeners.{chains_in, rule_told}
 use Rattle.ev_chains.specs.State.{ChainState, changed_by, accepted, idle_in, busy_in}
 
--- what happens: the listener comes in a version, which is its message's tree; a connection comes, by its number, its port and the
--- server that it names; a connection closes; the drain timeout comes; chains that nothing holds go
+-- what happens: the listener comes in a version, which is its message's tree;
+-- a connection comes, by its number, its port and the server that it names; a connection closes;
+-- the drain timeout comes; chains that nothing holds go
 pub data Event : Type 0 where
   Update : Data → Event
   Accept : ℕ → ℕ → List ℕ → Event
@@ -43,7 +45,7 @@ listener_by None tree state = (accepted (chains_in tree) state, Updated (changed
 -- the chain that takes a connection, by its number
 abbrev pub accept_by : Option ℕ → ℕ → ChainState → ChainState × ChainAnswer
 accept_by None conn state = (state, NoChain)
-accept_by (Some number) conn state = (record state { opened = with_member (member_on 0 conn number None) state.opened }, Chain number)
+accept_by (Some number) conn state = (record state { opened = with_member (member_on 0 conn (on_chain number)) state.opened }, Chain number)
 
 -- a connection of a number that is open is not accepted
 abbrev pub accept : ℕ → List ℕ → ℕ → ChainState → ChainState × ChainAnswer

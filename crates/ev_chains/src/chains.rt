@@ -8,7 +8,7 @@ ghost use Rattle.ev_chains.specs.State.{opening, accepted, listener_reading};
 ghost use Rattle.ev_chains.specs.Steps.{accept, close, drain, drained_by, reap, reaped_by};
 
 use crate::changes::{Changed, ascending, numbers_above, part_rows, plain_numbers};
-use crate::closing::{close_all, closing_conns, has_open};
+use crate::closing::{close_all, closing_conns, has_open, on_chain};
 use crate::draining::{Draining, push_all};
 use crate::listed::Listed;
 use crate::next::{Next, read_next};
@@ -73,19 +73,19 @@ impl Chains {
         }
     }
 
-    /// How many numbers were drawn so far: the greatest number of a chain.
+    /// How many numbers were allocated so far: the greatest number of a chain.
     pub fn made(&self) -> u32
         ensures { result ≡ self.now.made }
     {
         self.made
     }
 
-    /// The listener comes in a version: each serving chain that equals one of its chains goes on, the others drain, and its
-    /// other chains serve under new numbers. Numbers are drawn from 1 to 2^32 - 1.
+    /// The listener comes in a version: each serving chain that equals one of its chains goes on,
+    /// the others drain, and its other chains serve under new numbers. Numbers are allocated from 1 to 2^32 - 1.
     ///
     /// # Errors
-    /// `Rule` with the least rule that it breaks, of V2, V6, V10, V14, V16 to V24, V26 and V27; then, and where there is no
-    /// memory, all stays as it was.
+    /// `Rule` with the lowest-numbered rule that it breaks, of V2, V6, V10, V14, V16 to V24, V26 and V27;
+    /// then, and where there is no memory, all stays as it was.
     pub fn listener(&mut self, alloc: Global, body: &Value) -> Result<Changed, ReadError>
         requires room { self.old.made + length (chains_of (view body.now)) < 2 ^ 32 }
         ensures answer { ReadsAs result (listener_reading (view body.now) self.old) }
@@ -125,7 +125,7 @@ impl Chains {
         }
         match self.serving.choose(alloc, server, port)? {
             Some(number) => {
-                self.ledger.open(0, conn, number, None)?;
+                self.ledger.open(0, conn, on_chain(number))?;
                 Ok(ChainAnswer::Chain(number.number()))
             }
             None => Ok(ChainAnswer::NoChain),
@@ -139,16 +139,16 @@ impl Chains {
     {
         let on = self.ledger.on(0, conn);
         let was_open = self.ledger.close(0, conn);
-        if let Some(place) = on {
-            if !has_open(&self.ledger, place.0) {
-                self.draining.end(place.0);
+        if let Some(on) = on {
+            if !has_open(&self.ledger, on.listener) {
+                self.draining.end(on.listener);
             }
         }
         was_open
     }
 
-    /// The drain timeout comes: the connections on chains that drain are closed. Their numbers, from the least. Out of memory,
-    /// all stays as it was.
+    /// The drain timeout comes: the connections on chains that drain are closed.
+    /// Their numbers, from the least. Out of memory, all stays as it was.
     pub fn drain(&mut self, alloc: Global) -> Result<Vec<u64>, AllocError>
         ensures answer { IfOk result (λ closed. closed.items ≡ drained_by self.old) }
         ensures state { OnOk result (self.new ≡ drain self.old) }
@@ -160,7 +160,8 @@ impl Chains {
         Ok(closed)
     }
 
-    /// The chains go that drain without a connection. Their numbers, from the least. Out of memory, all stays as it was.
+    /// The chains go that drain without a connection. Their numbers, from the least.
+    /// Out of memory, all stays as it was.
     pub fn reap(&mut self, alloc: Global) -> Result<Vec<u32>, AllocError>
         ensures answer { IfOk result (λ reaped. reaped.items ≡ reaped_by self.old) }
         ensures state { OnOk result (self.new ≡ reap self.old) }

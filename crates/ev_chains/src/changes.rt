@@ -20,7 +20,7 @@ pub struct Changed {
     pub made: Seq<u32>,
 }
 
-// The chains of a listener with their numbers, and how many numbers are drawn then.
+// The chains of a listener with their numbers, and how many numbers are allocated then.
 #[derive(Drop)]
 pub(crate) struct Numbered {
     pub rows: Vec<Row>,

@@ -1,13 +1,12 @@
 ghost use Rattle.std.specs.Prelude.{◌≡◌, ◌+◌, ◌==◌, ◌&&◌, length, vec_len, IfOk, OnOk};
 ghost use Rattle.std.specs.BTreeSet.{contains, IsOrdered};
 ghost use Rattle.std.specs.Ordering.{nat_cmp};
-ghost use Rattle.ev_model.specs.Connections.{closed_by, left_open};
 ghost use Rattle.ev_ledger.specs.Members.{has_place};
 ghost use Rattle.ev_chains.specs.Sets.{Gains};
 ghost use Rattle.ev_chains.specs.State.{has_open, idle_among, busy_among};
-ghost use Rattle.ev_chains.specs.Closing.{AreConnectionsOn, closed_all};
+ghost use Rattle.ev_chains.specs.Closing.{AreConnectionsOn, closed_all, closed_by, left_open, on_chain};
 
-use ev_ledger::Ledger;
+use ev_ledger::{Ledger, On};
 use ev_types::Gen;
 use std::alloc::{AllocError, Global};
 use std::collections::BTreeSet;
@@ -46,6 +45,17 @@ pub(crate) fn has_open(ledger: &Ledger, number: Gen) -> bool
     ensures { result ≡ has_open ledger.now number }
 {
     ledger.count(number) != 0
+}
+
+// What a connection on a chain is open on: the chain is its listener.
+pub(crate) fn on_chain(number: Gen) -> On
+    ensures { result ≡ on_chain number }
+{
+    On {
+        listener: number,
+        cluster: None,
+        origin: None,
+    }
 }
 
 // Closes connections, one after another. It takes no memory.

@@ -114,7 +114,8 @@ impl Listed {
         }
     }
 
-    /// The number of the chain that equals this one, where there is one. No two of the chains take the same connections.
+    /// The number of the chain that equals this one, where there is one.
+    /// No two of the chains take the same connections.
     pub(crate) fn number_of(&self, alloc: Global, chain: &Chain) -> Result<Option<Gen>, AllocError>
         requires { has_clash (map match_of self.now) ≡ false }
         ensures { IfOk result (λ number. number ≡ number_for chain.now self.now) }
@@ -126,8 +127,9 @@ impl Listed {
         }
     }
 
-    /// The number of the chain that takes a connection to this server and port: of those with the port, or with none where no
-    /// chain has it, the one with this server name, else the one with the longest form `*.x` of it, else the one for any.
+    /// The number of the chain that takes a connection to this server and port:
+    /// of those with the port, or with none where no chain has it, the one with this server name,
+    /// else the one with the longest form `*.x` of it, else the one for any.
     pub(crate) fn choose(
         &self,
         alloc: Global,

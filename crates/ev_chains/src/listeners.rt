@@ -13,8 +13,8 @@ use ev_types::{RouteTable, Seq, Serve, Shared, Text};
 use serde_json::Value;
 use std::alloc::{AllocError, Global};
 
-/// Inspects a listener (`envoy.config.listener.v3.Listener`) with several filter chains: its chains, which count where no rule is
-/// broken, and the rules that it breaks but V26.
+/// Inspects a listener (`envoy.config.listener.v3.Listener`) with several filter chains:
+/// its chains, which count where no rule is broken, and the rules that it breaks but V26.
 pub(crate) fn inspect_listener(
     alloc: Global,
     value: &Value,

@@ -13,8 +13,8 @@ use ev_types::{Seq, Text};
 use serde_json::{Map, Value};
 use std::alloc::{AllocError, Global};
 
-/// Which connections a chain takes: those to a port, or to any that no other chain names, and with one of these server names, or
-/// with any.
+/// Which connections a chain takes: those to a port, or to any that no other chain names,
+/// and with one of these server names, or with any.
 #[derive(Drop)]
 pub struct ChainMatch {
     pub port: Option<u16>,

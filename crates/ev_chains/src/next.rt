@@ -13,7 +13,7 @@ use ev_tree::{BrokenRules, ReadError};
 use serde_json::Value;
 use std::alloc::Global;
 
-// What serves once a listener is accepted, and how many numbers are drawn then.
+// What serves once a listener is accepted, and how many numbers are allocated then.
 #[derive(Drop)]
 pub(crate) struct Next {
     pub rows: Listed,

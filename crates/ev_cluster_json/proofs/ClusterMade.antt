@@ -17,8 +17,10 @@ use Rattle.ev_tree.specs.Broken.{none_broken, either_broken, broken_where, least
 use Rattle.ev_tree.specs.Sources.{source_is_limited}
 use Rattle.ev_tree.proofs.Unions.{least_none}
 use Rattle.ev_tree.specs.Floats.{body_text_of}
+use Rattle.ev_cluster_json.specs.declared.sockets.ClusterSecrets.{ClusterSecrets}
 use Rattle.ev_cluster_json.specs.Assignments.{rows_of}
 use Rattle.ev_cluster_json.specs.Clusters.{name_of, holds_hosts, asks_hosts, eds_source_of, service_name_of, service_with, service_of, load_assignment_of, is_checked, cluster_own_broken, eds_broken, load_assignment_broken, cluster_broken, discovery_of, cluster_of}
+use Rattle.ev_cluster_json.specs.Sockets.{cluster_secrets}
 use Rattle.ev_cluster_json.specs.Made.{name_in, discovery_with, cluster_with, made_rows, made_where}
 use Rattle.ev_cluster_json.proofs.RowsMade.{left_false, right_false, not_false, rows_made}
 
@@ -70,7 +72,8 @@ pub discovery_made : (profile : Profile) (tree : Data) → cluster_broken profil
 unfolding cluster_broken discovery_of
 discovery_made profile tree clear =
     by_type (holds_hosts profile tree) (asks_hosts profile tree) (clear_service profile tree clear)
-    (right_false _ _ (right_false _ _ (ap (λ (b : BrokenRules). b.v12) clear))) (right_false _ _ (right_false _ _ (ap (λ (b : BrokenRules). b.v13) clear)))
+    (left_false _ _ (right_false _ _ (right_false _ _ (ap (λ (b : BrokenRules). b.v12) clear))))
+    (left_false _ _ (right_false _ _ (right_false _ _ (ap (λ (b : BrokenRules). b.v13) clear))))
   where
     by_type : (held asked : Bool) → is_name (service_of tree) ≡ true → (broken_where held (load_assignment_broken profile tree)).v12 ≡ false → (broken_where held (load_assignment_broken profile tree)).v13 ≡ false
         → discovery_with held asked (made_where profile held (load_assignment_of tree)) (service_of tree) (source_is_limited (eds_source_of tree)) (is_envoy profile)
@@ -81,31 +84,43 @@ discovery_made profile tree clear =
 
 -- and the cluster
 pub cluster_made : (profile : Profile) (tree : Data) → cluster_broken profile tree ≡ none_broken
-    → cluster_with (name_of tree) (Some (discovery_of profile tree)) (is_checked tree) (body_text_of profile tree) ≡ Some (cluster_of profile tree)
+    → cluster_with (name_of tree) (Some (discovery_of profile tree)) (is_checked tree) (cluster_secrets profile tree) (body_text_of profile tree) ≡ Some (cluster_of profile tree)
 cluster_made profile tree clear =
-    ap (option_and_then (λ own. Some (record { name = own; discovery = discovery_of profile tree; checked = is_checked tree; body_text = body_text_of profile tree }))) (name_in_known (name_of tree) (clear_name profile tree clear))
+    ap (option_and_then (λ own. Some (record {
+      name = own;
+      discovery = discovery_of profile tree;
+      checked = is_checked tree;
+      secrets = (cluster_secrets profile tree).own;
+      secrets_by_match = (cluster_secrets profile tree).by_match;
+      body_text = body_text_of profile tree;
+    }))) (name_in_known (name_of tree) (clear_name profile tree clear))
 
 -- the rules that the parts break are those of the tree
-pub rules_agree : (profile : Profile) (tree : Data) (by_eds in_cluster : Bool) (own eds hosts joined broken : BrokenRules) → by_eds ≡ asks_hosts profile tree → in_cluster ≡ holds_hosts profile tree
+pub rules_agree : (profile : Profile) (tree : Data) (by_eds in_cluster : Bool) (own eds hosts below joined broken : BrokenRules) (secrets : ClusterSecrets)
+    → by_eds ≡ asks_hosts profile tree → in_cluster ≡ holds_hosts profile tree
     → own ≡ cluster_own_broken profile tree → eds ≡ eds_broken profile by_eds tree → hosts ≡ broken_where in_cluster (load_assignment_broken profile tree)
-    → joined ≡ either_broken eds hosts → broken ≡ either_broken own joined → broken ≡ cluster_broken profile tree
+    → secrets ≡ cluster_secrets profile tree
+    → below ≡ either_broken hosts secrets.broken → joined ≡ either_broken eds below → broken ≡ either_broken own joined → broken ≡ cluster_broken profile tree
 unfolding cluster_broken
-rules_agree profile tree by_eds in_cluster own eds hosts joined broken asks holds of_own of_eds of_hosts join all =
+rules_agree profile tree by_eds in_cluster own eds hosts below joined broken secrets asks holds of_own of_eds of_hosts of_secrets join_below join all =
     let by : eds ≡ eds_broken profile (asks_hosts profile tree) tree = of_eds ∙ ap (λ b. eds_broken profile b tree) asks in
     let inside : hosts ≡ broken_where (holds_hosts profile tree) (load_assignment_broken profile tree) = of_hosts ∙ ap (λ b. broken_where b (load_assignment_broken profile tree)) holds in
-    all ∙ (λ i. either_broken (of_own i) ((join ∙ (λ j. either_broken (by j) (inside j))) i))
+    let under : below ≡ either_broken (broken_where (holds_hosts profile tree) (load_assignment_broken profile tree)) (cluster_secrets profile tree).broken =
+    join_below ∙ (λ i. either_broken (inside i) (of_secrets i).broken) in
+    all ∙ (λ i. either_broken (of_own i) ((join ∙ (λ j. either_broken (by j) (under j))) i))
 
 -- what is made of the parts of a cluster that breaks no rule is the cluster
-pub made_from : (profile : Profile) (tree : Data) (name service_name service : List ℕ) (by_eds in_cluster : Bool) (rows : List HostRowParts) (limited fresh checked : Bool) (discovery : Option Discovery) (text : List ℕ)
+pub made_from : (profile : Profile) (tree : Data) (name service_name service : List ℕ) (by_eds in_cluster : Bool) (rows : List HostRowParts) (limited fresh checked : Bool) (discovery : Option Discovery) (secrets : ClusterSecrets) (text : List ℕ)
     (cluster : Option Cluster)
     → least_of (cluster_broken profile tree) ≡ None → name ≡ name_of tree → service_name ≡ service_name_of tree → by_eds ≡ asks_hosts profile tree → in_cluster ≡ holds_hosts profile tree
     → limited ≡ source_is_limited (eds_source_of tree) → fresh ≡ is_envoy profile → checked ≡ is_checked tree → rows ≡ made_where profile in_cluster (load_assignment_of tree)
-    → service ≡ service_with name service_name → discovery ≡ discovery_with in_cluster by_eds rows service limited fresh → text ≡ body_text_of profile tree
-    → cluster ≡ cluster_with name discovery checked text → cluster ≡ Some (cluster_of profile tree)
-made_from profile tree name service_name service by_eds in_cluster rows limited fresh checked discovery text cluster none own asked asks holds limit new check row serve find body make =
+    → service ≡ service_with name service_name → discovery ≡ discovery_with in_cluster by_eds rows service limited fresh → secrets ≡ cluster_secrets profile tree
+    → text ≡ body_text_of profile tree
+    → cluster ≡ cluster_with name discovery checked secrets text → cluster ≡ Some (cluster_of profile tree)
+made_from profile tree name service_name service by_eds in_cluster rows limited fresh checked discovery secrets text cluster none own asked asks holds limit new check row serve find referred body make =
     let clear = least_none (cluster_broken profile tree) none in
     let all_rows : rows ≡ made_where profile (holds_hosts profile tree) (load_assignment_of tree) = row ∙ ap (λ b. made_where profile b (load_assignment_of tree)) holds in
     let by : service ≡ service_of tree = serve ∙ (λ i. service_with (own i) (asked i)) in
     let found : discovery ≡ Some (discovery_of profile tree) =
     find ∙ (λ i. discovery_with (holds i) (asks i) (all_rows i) (by i) (limit i) (new i)) ∙ discovery_made profile tree clear in
-    make ∙ (λ i. cluster_with (own i) (found i) (check i) (body i)) ∙ cluster_made profile tree clear
+    make ∙ (λ i. cluster_with (own i) (found i) (check i) (referred i) (body i)) ∙ cluster_made profile tree clear

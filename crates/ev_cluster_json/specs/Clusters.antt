@@ -1,4 +1,5 @@
--- Clusters (`envoy.config.cluster.v3.Cluster`), and the rules that they break, by this project's own rules and as Envoy reads them.
+-- Clusters (`envoy.config.cluster.v3.Cluster`), and the rules that they break,
+-- by this project's own rules and as Envoy reads them.
 use Rattle.std.specs.Prelude.{ℕ, ◌||◌, ◌&&◌, ◌==◌, List, [], length, Bool, not, nat_lt, nat_le, if◌then◌else◌, Result, codes}
 use Rattle.serde_json.specs.Data.{Data}
 use Rattle.ev_types.specs.declared.clusters.Cluster.{Cluster}
@@ -18,6 +19,7 @@ use Rattle.ev_tree.specs.Floats.{body_text_of}
 use Rattle.ev_tree.specs.Sources.{source_broken_in, source_is_limited}
 use Rattle.ev_cluster_json.specs.declared.parts.TheConstants.{STATIC, LOGICAL_DNS, EDS}
 use Rattle.ev_cluster_json.specs.Assignments.{rows_of, assignment_broken}
+use Rattle.ev_cluster_json.specs.Sockets.{cluster_secrets}
 
 -- ---- the parts of a cluster
 
@@ -40,8 +42,8 @@ is_eds tree = type_of tree == EDS
 abbrev pub has_custom_type : Data → Bool
 has_custom_type tree = is_given (object_of (codes "cluster_type") tree)
 
--- the hosts stand in a cluster of this type: by the own rules of type STATIC alone; as Envoy reads it also of STRICT_DNS and
--- LOGICAL_DNS, whose hosts may be names, unless a custom type decides
+-- the hosts stand in a cluster of this type: by the own rules of type STATIC alone;
+-- as Envoy reads it also of STRICT_DNS and LOGICAL_DNS, whose hosts may be names, unless a custom type decides
 abbrev pub is_in_cluster : Profile → Bool → ℕ → Bool
 is_in_cluster Own custom type = type == STATIC
 is_in_cluster Envoy custom type = not custom && nat_le type LOGICAL_DNS
@@ -84,8 +86,8 @@ is_checked tree = not (length (listed (objects_of (codes "health_checks") tree))
 
 -- What the fields of the cluster itself break.
 -- V3, in the one case that shows in the cluster alone: a name that is no name differs from each outer name.
--- V7, by the own rules alone: the type is neither STATIC nor EDS, or a custom type is given. V11: a connect timeout is given that isn't
--- positive.
+-- V7, by the own rules alone: the type is neither STATIC nor EDS, or a custom type is given. V11:
+-- a connect timeout is given that isn't positive.
 unfoldable pub cluster_own_broken : Profile → Data → BrokenRules
 cluster_own_broken profile tree = record none_broken {
   v3 = not (is_wrong (text_of (codes "name") tree)) && not (is_name (name_of tree));
@@ -99,7 +101,8 @@ cluster_own_broken profile tree = record none_broken {
   v11 = is_not_positive (duration_of (codes "connect_timeout") tree);
 }
 
--- What the configuration of EDS breaks, by whether the hosts come by it: what its source breaks, and what it breaks itself.
+-- What the configuration of EDS breaks, by whether the hosts come by it:
+-- what its source breaks, and what it breaks itself.
 -- V2: the service's name is too long, whatever the type is. V8: EDS without its configuration. V9: the configuration of
 -- EDS where the hosts don't come by it.
 unfoldable pub eds_broken : Profile → Bool → Data → BrokenRules
@@ -123,11 +126,13 @@ load_assignment_broken profile tree = either_broken (assignment_broken profile (
 unfoldable pub cluster_broken : Profile → Data → BrokenRules
 cluster_broken profile tree =
     either_broken (cluster_own_broken profile tree)
-    (either_broken (eds_broken profile (asks_hosts profile tree) tree) (broken_where (holds_hosts profile tree) (load_assignment_broken profile tree)))
+    (either_broken (eds_broken profile (asks_hosts profile tree) tree)
+    (either_broken (broken_where (holds_hosts profile tree) (load_assignment_broken profile tree)) (cluster_secrets profile tree).broken))
 
 -- ---- the value
 
--- As Envoy reads it, endpoints have to come anew for each generation. What is neither in the cluster nor by EDS is found elsewhere;
+-- As Envoy reads it, endpoints have to come anew for each generation.
+-- What is neither in the cluster nor by EDS is found elsewhere;
 -- by the own rules that breaks V7, so it never shows.
 unfoldable pub discovery_of : Profile → Data → Discovery
 discovery_of profile tree =
@@ -140,6 +145,8 @@ cluster_of profile tree = record {
   name = name_of tree;
   discovery = discovery_of profile tree;
   checked = is_checked tree;
+  secrets = (cluster_secrets profile tree).own;
+  secrets_by_match = (cluster_secrets profile tree).by_match;
   body_text = body_text_of profile tree;
 }
 

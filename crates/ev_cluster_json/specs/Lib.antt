@@ -2,3 +2,4 @@ pub mod Assignments
 pub mod Clusters
 pub mod Made
 pub mod Tallies
+pub mod Sockets

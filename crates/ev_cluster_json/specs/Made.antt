@@ -10,6 +10,7 @@ use Rattle.ev_types.specs.declared.events.Profile.{Profile}
 use Rattle.ev_tree.specs.Addresses.{text_in_profile, port_in_profile}
 use Rattle.ev_tree.specs.Rules.{is_name}
 use Rattle.ev_cluster_json.specs.declared.groups.TheConstants.{MAX_PRIORITY}
+use Rattle.ev_cluster_json.specs.declared.sockets.ClusterSecrets.{ClusterSecrets}
 use Rattle.ev_cluster_json.specs.Assignments.{endpoint_of, weight_of, is_usable, priority_of, hosts_of, groups_of}
 
 -- the name that a text is, if it is one
@@ -53,6 +54,13 @@ discovery_with in_cluster by_eds rows service limited fresh =
     else if by_eds then option_map (λ name. Eds name limited fresh) (name_in service)
     else Some Elsewhere
 
-abbrev pub cluster_with : List ℕ → Option Discovery → Bool → List ℕ → Option Cluster
-cluster_with name discovery checked text =
-    option_and_then (λ own. option_map (λ found. record { name = own; discovery = found; checked = checked; body_text = text }) discovery) (name_in name)
+abbrev pub cluster_with : List ℕ → Option Discovery → Bool → ClusterSecrets → List ℕ → Option Cluster
+cluster_with name discovery checked secrets text =
+    option_and_then (λ own. option_map (λ found. record {
+      name = own;
+      discovery = found;
+      checked = checked;
+      secrets = secrets.own;
+      secrets_by_match = secrets.by_match;
+      body_text = text;
+    }) discovery) (name_in name)

@@ -10,13 +10,16 @@ ghost use Rattle.ev_cluster_json.specs.Made.{discovery_with, cluster_with};
 use crate::assignments::make_assignment;
 use crate::hosts::make_name;
 use crate::parts::{inspect_eds, inspect_hosts, inspect_own, is_by_eds, is_in_cluster};
+use crate::sockets::{ClusterSecrets, inspect_secrets};
 use ev_tree::{ReadError, body_text};
 use ev_types::{Cluster, Discovery, HostRow, Profile, Shared, Text};
 use serde_json::Value;
 use std::alloc::{AllocError, Global};
 
-/// Reads a cluster (`envoy.config.cluster.v3.Cluster`): its name, how it finds its hosts, and whether they
-/// are health checked. All other fields are passed over; as Envoy reads it, the text of the whole body is kept.
+/// Reads a cluster (`envoy.config.cluster.v3.Cluster`):
+/// its name, how it finds its hosts, whether they are health checked, and, as Envoy reads it,
+/// the secrets that its transport sockets refer to. All other fields are passed over;
+/// as Envoy reads it, the text of the whole body is kept.
 ///
 /// # Errors
 /// `Rule` has the least form rule of the profile that it breaks: V2 and V3 as far as they show in the cluster alone,
@@ -29,7 +32,10 @@ pub fn read_cluster(alloc: Global, profile: Profile, value: &Value) -> Result<Cl
     let in_cluster = is_in_cluster(profile, own.custom, own.kind);
     let eds = inspect_eds(alloc, profile, value, by_eds)?;
     let hosts = inspect_hosts(alloc, profile, value, in_cluster)?;
-    let broken = own.broken.or(eds.broken.or(hosts.broken));
+    let secrets = inspect_secrets(alloc, profile, value)?;
+    let broken = own
+        .broken
+        .or(eds.broken.or(hosts.broken.or(secrets.broken)));
     if let Some(rule) = broken.least() {
         return Err(ReadError::Rule(rule));
     }
@@ -42,7 +48,7 @@ pub fn read_cluster(alloc: Global, profile: Profile, value: &Value) -> Result<Cl
     };
     let discovery = make_discovery(alloc, way, hosts.rows, service)?;
     let text = body_text(alloc, profile, value)?;
-    let cluster = make_cluster(alloc, own.name, discovery, own.checked, text)?;
+    let cluster = make_cluster(alloc, own.name, discovery, own.checked, secrets, text)?;
     Ok(cluster.unwrap())
 }
 
@@ -106,15 +112,18 @@ fn make_cluster(
     name: &str,
     discovery: Option<Discovery>,
     checked: bool,
+    secrets: ClusterSecrets,
     body_text: Text,
 ) -> Result<Option<Cluster>, AllocError>
-    ensures { IfOk result (λ c. c ≡ cluster_with name.now discovery checked body_text) }
+    ensures { IfOk result (λ c. c ≡ cluster_with name.now discovery checked secrets body_text) }
 {
     match (make_name(alloc, name)?, discovery) {
         (Some(name), Some(discovery)) => Ok(Some(Cluster {
             name,
             discovery,
             checked,
+            secrets: secrets.own,
+            secrets_by_match: secrets.by_match,
             body_text,
         })),
         _ => Ok(None),

@@ -1,4 +1,5 @@
-//! Clusters and assignments out of JSON: a resource is read whole, or refused by the least rule that it breaks.
+//! Clusters and assignments out of JSON: a resource is read whole,
+//! or refused by the lowest-numbered rule that it breaks.
 //!
 //! # Choices
 //!
@@ -10,6 +11,7 @@
 //! - V9 and V10 are both broken at a cluster of another type than EDS with a bad config source: V9 is the answer.
 //! - A type of the wrong form counts as STATIC for the question whether `load_assignment` is read. It doesn't show
 //!   either, since V6 is broken already, and V2 and V3 don't depend on it.
+//! - Transport sockets are read as Envoy reads them alone, for the secrets that a cluster waits for.
 #![tactic(auto)]
 
 mod assignments;
@@ -17,6 +19,7 @@ mod clusters;
 mod groups;
 mod hosts;
 mod parts;
+mod sockets;
 mod tally;
 
 pub use assignments::{assignment_rule_is_least, read_assignment};

@@ -1,5 +1,5 @@
--- The commits of a journal in which no batch is broken: their entries are the journal, entries after it are further commits, and
--- each has entries of its own seat alone.
+-- The commits of a journal in which no batch is broken:
+-- their entries are the journal, entries after it are further commits, and each has entries of its own seat alone.
 use Rattle.std.proofs.Common.{◌≡◌, ◌==◌, ℕ, Bool, true, false, ◌⊎◌, inl, inr, if◌then◌else◌, List, [], ◌∷◌, ◌++◌, refl, ap, sym, ◌∙◌, subst, append_assoc, append-nil}
 use Rattle.std.specs.List.{AllByRecursion as ByRecursion}
 use Rattle.std.proofs.lemmas.Grind.{flat_map-append}

@@ -23,7 +23,7 @@ use Rattle.ev_model.specs.Runs.{RunsFrom, is_batched, world_after}
 use Rattle.ev_model.specs.Step.{step}
 use Rattle.ev_model_laws.proofs.KeepLemmas.{either, step-each}
 use Rattle.ev_model_laws.proofs.SeenLemmas.{same_seen}
-use Rattle.ev_run_laws.proofs.NumberLemmas.{rest_made}
+use Rattle.ev_model_laws.proofs.RunNumberLemmas.{rest_made}
 use Rattle.ev_gate.specs.History.{GrowsWithout, Knowledge, seen_of}
 use Rattle.ev_worker.specs.Batches.{entries_of}
 use Rattle.ev_worker.specs.Workers.{AreAnswered, HasWorker, IsAnswer, WorkerParts}

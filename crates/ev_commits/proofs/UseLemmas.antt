@@ -21,7 +21,7 @@ use Rattle.ev_model_laws.proofs.OperationLists.{IsIn, any_at, in_filter}
 use Rattle.ev_model_laws.proofs.PictureLemmas.{in_use_is}
 use Rattle.ev_model_laws.proofs.PlaceLemmas.{Runs}
 use Rattle.ev_model_laws.specs.Kept.{numbers_gone}
-use Rattle.ev_run_laws.proofs.InUseLemmas.{runs_use}
+use Rattle.ev_model_laws.proofs.InUseLemmas.{runs_use}
 use Rattle.ev_worker.specs.Workers.{IsWorkerIn, SameOpen, WorkerParts}
 use Rattle.ev_actors.proofs.SettleLemmas.{held_now}
 use Rattle.ev_actors.proofs.SinceLemmas.{in_kept}
@@ -61,7 +61,7 @@ own_used worker number opened others same any =
     any_at (is_open_on number) m others (in_filter (is_member worker m.connection) m others kept).0
     (second_so (m.worker == worker) (is_open_on number m) found.2)
 
--- what a worker names is in use in a world that it stands for
+-- what a worker names is in use in a world that it represents
 named_used : (worker : WorkerParts) (number : ℕ) (world : World) → worker.number < length world.held → IsWorkerIn worker world
     → is_named_by worker number ≡ true → is_in_use world number ≡ true
 named_used worker number world within stands named =

@@ -16,8 +16,9 @@ seat_of Timer = 2
 seat_of Main = 3
 seat_of (Worker worker) = worker + 4
 
--- The commits of these entries, where those before them have begun one: a batch goes with the settle that ends it, and each other
--- entry is a commit of its own. An open batch is no commit yet.
+-- The commits of these entries, where those before them have begun one:
+-- a batch goes with the settle that ends it, and each other entry is a commit of its own.
+-- An open batch is no commit yet.
 abbrev pub commits_from : List Entry → List Entry → List (ℕ × List Entry)
 commits_from begun [] = []
 commits_from begun (entry ∷ entries) =

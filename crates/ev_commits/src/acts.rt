@@ -13,8 +13,8 @@ use ev_types::{Actor, Event, GenRow, Seq};
 use ev_worker::Worker;
 use std::alloc::AllocError;
 
-// An event of the main side is entered, and the rows that it reaped are taken. What it asks of the journal it asks of a run, since
-// only the value shows that it is one.
+// An event of the main side is entered, and the rows that it reaped are taken.
+// What it asks of the journal it asks of a run, since only the value shows that it is one.
 pub(crate) fn apply_in<J: Journaled>(
     kept: &mut Kept<J>,
     actor: Actor,
@@ -41,7 +41,8 @@ pub(crate) fn apply_in<J: Journaled>(
     Ok(kept.journaled.take_deferred())
 }
 
-// A worker that has taken its memory settles: its batch is entered with the settle after it, and it takes over the last picture.
+// A worker that has taken its memory settles: its batch is entered with the settle after it,
+// and it takes over the last picture.
 pub(crate) fn settle_in<J: Journaled>(
     kept: &mut Kept<J>,
     worker: &mut Worker,

@@ -14,7 +14,7 @@ pub struct Began {
     pub node: Text,
 }
 
-/// What the gate of a threaded run keeps. It stands for the commits of the journal.
+/// What the gate of a threaded run keeps. It represents the commits of the journal.
 #[derive(Drop)]
 pub struct Kept<J> {
     pub journaled: J,

@@ -2,10 +2,12 @@
 //!
 //! # Choices
 //!
-//! - The commits are a function of the journal and stored nowhere: a batch goes with the settle that ends it, each other entry by
-//!   itself. In a run no batch is broken, so the commits' entries are the journal.
-//! - What an actor knows is a fact about the journal that its pass has seen. Others' entries go between that and the turn, and the
-//!   fact is taken over them: none of them is of its seat, and each is answered as the machine answers it.
+//! - The commits are a function of the journal and stored nowhere:
+//!   a batch goes with the settle that ends it, each other entry by itself.
+//!   In a run no batch is broken, so the commits' entries are the journal.
+//! - What an actor knows is a fact about the journal that its pass has seen.
+//!   Others' entries go between that and the turn, and the fact is taken over them:
+//!   none of them is of its seat, and each is answered as the machine answers it.
 //! - Rows that were reaped leave the turn and are dropped after it. A worker takes its memory before the turn.
 #![tactic(auto)]
 

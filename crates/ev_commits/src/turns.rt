@@ -18,8 +18,8 @@ use std::mem::drop;
 use std::sync::Wait;
 use std::thread::Threads;
 
-/// An actor of the main side takes its turn and enters one event. The rows that it reaped are dropped after the turn. Out of
-/// memory, the journal is as it was at the turn.
+/// An actor of the main side takes its turn and enters one event.
+/// The rows that it reaped are dropped after the turn. Out of memory, the journal is as it was at the turn.
 pub fn enter<R: Threads + Wait + Sync, J: Journaled>(
     rt: &R,
     gate: &Gate<Kept<J>>,
@@ -54,10 +54,11 @@ pub fn enter<R: Threads + Wait + Sync, J: Journaled>(
     }
 }
 
-/// A worker settles. One that did nothing since it settled and has nothing open asks for the newest version first: where that is
-/// its snapshot's, the settle is left out, without a turn, and the answer is false. Otherwise its batch and its settle are entered
-/// in one turn, and the answer is true. The memory is taken before the turn. Out of memory, the worker is as it was, but for the
-/// room that it has, and the journal as it was at the turn.
+/// A worker settles. One that did nothing since it settled and has nothing open asks
+/// for the newest version first: where that is its snapshot's, the settle is left out, without a turn,
+/// and the answer is false. Otherwise its batch and its settle are entered in one turn, and the answer is true.
+/// The memory is taken before the turn. Out of memory, the worker is as it was, but for the room that it has,
+/// and the journal as it was at the turn.
 pub fn settle<R: Threads + Wait + Sync, J: Journaled>(
     rt: &R,
     gate: &Gate<Kept<J>>,

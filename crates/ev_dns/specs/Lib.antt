@@ -7,3 +7,4 @@ pub mod Marking
 pub mod Known
 pub mod Waiting
 pub mod State
+pub mod LastAnswers

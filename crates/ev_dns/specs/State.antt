@@ -22,7 +22,8 @@ pub record AreAnswers (answers : Answers) (lines : List Data) : Type 0 where
   pub answered : (name : List ℕ) → has_answer answers name ≡ is_answered lines name
   pub addresses : (name : List ℕ) → known_addresses answers name ≡ addresses_of lines name
 
--- what is known is what the lines say, as they are read in a profile, and by it each of what is guarded in them waits or is complete
+-- what is known is what the lines say, as they are read in a profile, and by it each of what is guarded in them waits
+-- or is complete
 pub record IsBehind (profile : Profile) (s : Resolutions) (lines : List Data) : Type 0 where
   pub stream : s.connected ≡ stream_at profile lines
   pub answers : AreAnswers s.answers lines

@@ -1,5 +1,5 @@
--- Templates: clusters whose hosts are names to be resolved. They are of the type STRICT_DNS of Envoy's clusters, have socket
--- addresses alone, and are good with the type STATIC in its place.
+-- Templates: clusters whose hosts are names to be resolved. They are of the type STRICT_DNS of Envoy's clusters, have
+-- socket addresses alone, and are good with the type STATIC in its place.
 use Rattle.std.specs.Prelude.{ℕ, ◌==◌, ◌&&◌, ◌||◌, Bool, not, List, [], Option, Some, None, if◌then◌else◌, codes}
 use Rattle.std.specs.List.{list_any, list_all}
 use Rattle.std.specs.Str.{bytes_eq}
@@ -9,7 +9,7 @@ use Rattle.ev_types.specs.declared.contents.Kind.TheVariants.{Cds}
 use Rattle.ev_types.specs.declared.contents.Body.{Body}
 use Rattle.ev_types.specs.declared.contents.Body.TheVariants.{Good, Bad, Beat}
 use Rattle.ev_types.specs.declared.contents.Content.{Content}
-use Rattle.ev_types.specs.declared.contents.Content.TheVariants.{Cluster as a_cluster, Assignment as an_assignment, Listener as a_listener, Routes as routes}
+use Rattle.ev_types.specs.declared.contents.Content.TheVariants.{Cluster as a_cluster}
 use Rattle.ev_types.specs.declared.clusters.Discovery.{Discovery}
 use Rattle.ev_types.specs.declared.clusters.Discovery.TheVariants.{Static, Eds, Elsewhere}
 use Rattle.ev_types.specs.declared.events.Profile.{Profile}
@@ -59,9 +59,7 @@ read_static profile entry = resource_of profile Cds (entry_name entry) (ttl_of e
 -- the key of a good cluster
 abbrev pub content_key : Content → Option Key
 content_key (a_cluster cluster) = Some (key_with cluster [])
-content_key (an_assignment rows) = None
-content_key (a_listener listener) = None
-content_key (routes table) = None
+content_key content = None
 
 abbrev pub body_key : Body → Option Key
 body_key (Good content) = content_key content

@@ -88,7 +88,8 @@ pub fn resolution_in(alloc: Global, tree: &Value) -> Result<Option<Resolution>, 
     resolution_of(alloc, tree)
 }
 
-/// Each line of an input is written exactly where it is a line of a script, in either profile: a law of the definitions.
+/// Each line of an input is written exactly where it is a line of a script, in either profile: a law of the
+/// definitions.
 #[tactic(auto, using(crate::proofs::LineLemmas::written_where_plain))]
 pub fn script_lines_are_written()
     ensures { (profile : Profile) (at : ℕ) (tree : Data) → is_some (dns_lines.lines profile at tree) ≡ true

@@ -197,13 +197,13 @@ fn open_after(connected: bool, event: &Option<Event>) -> bool
     }
 }
 
-/// The text of a script whose clusters have names to be resolved, by its header and its lines, which are read by this profile:
-/// resolutions of host names are lines of their own. Its tables hash by these keys.
+/// The text of a script whose clusters have names to be resolved, by its header and its lines, which are read by this
+/// profile: resolutions of host names are lines of their own. Its tables hash by these keys.
 ///
 /// # Errors
-/// `Private` exactly for the first line that uses a name that begins with `dns/` for endpoints. `Large` where there is
-/// none, exactly for the line with whose output the text goes above a limit of inputs. `OutOfMemory` where memory runs out,
-/// and for 4,294,967,290 lines or more, which no input has.
+/// `Private` exactly for the first line that uses a name that begins with `dns/` for endpoints. `Large` where there
+/// is none, exactly for the line with whose output the text goes above a limit of inputs. `OutOfMemory` where memory
+/// runs out, and for 4,294,967,290 lines or more, which no input has.
 pub fn expand(
     alloc: Global,
     keys: Keys,

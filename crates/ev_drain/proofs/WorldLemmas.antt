@@ -96,7 +96,7 @@ dead_same format shown opened world shows opens row =
     by Draining held = refl
     by Dropped held = refl
 
--- the dead rows of a drain are those of the world that it stands for
+-- the dead rows of a drain are those of the world that it represents
 pub dead_stands : (format : Format) (shown : ℕ → Bool) (drain : List Retired) (opened : List OpenMember) (world : World)
     → HasRetired drain world.rows world.expired → opened ≡ sorted_by member_before world.opened
     → ((n : ℕ) → shown n ≡ has_number n (numbers_in_use world)) → dead_of format shown opened drain ≡ dead_numbers format world

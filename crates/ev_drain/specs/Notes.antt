@@ -43,8 +43,8 @@ is_waiting_among name numbers entry = has_number entry.0 numbers && is_waiting_n
 abbrev pub marked_among : List ℕ → List ℕ → ℕ × Note → ℕ × Note
 marked_among name numbers entry = (entry.0, if has_number entry.0 numbers then marked_note name entry.1 else entry.1)
 
--- a picture or a connection holds the generation of an entry, by a test of what is shown and the open connections' counts, or its
--- drain timeout is awaited
+-- a picture or a connection holds the generation of an entry,
+-- by a test of what is shown and the open connections' counts, or its drain timeout is awaited
 abbrev pub is_held_note : Format → (ℕ → Bool) → List OpenMember → ℕ × Note → Bool
 is_held_note format shown opened entry =
     (shown entry.0 || not (count_of entry.0 opened == 0)) || (waits_for_timer format entry.1.kind && not entry.1.expired)

@@ -42,7 +42,8 @@ abbrev pub Enters : (List ℕ → Bool) → ℕ → WaitersKept → WaitersKept 
 Enters test number before after =
     (name : List ℕ) → numbers_under after name ≡ numbers_under before name ++ (if test name then number ∷ [] else [])
 
--- the number of a row comes after the others under each name under which it waits, and the same as before under each other name
+-- the number of a row comes after the others under each name under which it waits,
+-- and the same as before under each other name
 abbrev pub EntersWaiter : Retired → WaitersKept → WaitersKept → Type 0
 EntersWaiter row before after = Enters (λ name. is_waiting name row) row.number before after
 

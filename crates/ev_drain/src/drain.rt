@@ -20,7 +20,8 @@ use std::marker::Model;
 #[derive(Drop)]
 pub struct Drain {
     notes: Notes,
-    // By name the numbers of the listeners among them that wait for their drain timeout. One that waits for nothing does no harm.
+    // By name the numbers of the listeners among them that wait for their drain timeout.
+    // One that waits for nothing does no harm.
     waiters: Waiters,
 }
 
@@ -50,8 +51,8 @@ impl Drain {
         }
     }
 
-    /// Notes a generation that drains from now on, or was dropped. It takes the memory for its mark too. Out of memory, all
-    /// stays as it was.
+    /// Notes a generation that drains from now on, or was dropped.
+    /// It takes the memory for its mark too. Out of memory, all stays as it was.
     pub fn retire(
         &mut self,
         alloc: Global,
@@ -101,8 +102,9 @@ impl Drain {
         }
     }
 
-    /// The drain timeout of a listener's old generations: it came for those of this name that drain. It answers whether there
-    /// was one for which it hadn't come. It takes no memory, and looks at those alone that wait under this name.
+    /// The drain timeout of a listener's old generations: it came for those of this name that drain.
+    /// It returns whether there was one for which it hadn't come.
+    /// It takes no memory, and looks at those alone that wait under this name.
     pub fn expire(&mut self, name: &Name) -> bool
         ensures answer { result ≡ list_any (is_waiting name.now) self.old }
         ensures marked { self.new ≡ map (marked name.now) self.old }
@@ -117,7 +119,8 @@ impl Drain {
         mark(&mut self.notes, name.as_str(), numbers.as_slice())
     }
 
-    /// Numbers of generations among which are all draining listeners of this name whose drain timeout hasn't come. They are lent:
+    /// Numbers of generations among which are all draining listeners of this name
+    /// whose drain timeout hasn't come. They are lent:
     /// it takes no memory, and walks nothing.
     pub fn waiting(&self, name: &Name) -> &[Gen]
         ensures waiting { AreAmong (numbers_waiting name.now self.now) result.now }
@@ -125,8 +128,9 @@ impl Drain {
         self.waiters.under(name)
     }
 
-    /// The numbers of the generations that nothing holds any more, from the least, by a journal's format: `ledger` has the open
-    /// connections, and `shown` says what pictures in use show. It asks both by number, and looks at no connection.
+    /// The numbers of the generations that nothing holds any more, from the least,
+    /// by a journal's format: `ledger` has the open connections, and `shown` says what pictures in use show.
+    /// It asks both by number, and looks at no connection.
     pub fn dead<S: Shows>(
         &self,
         alloc: Global,
@@ -140,8 +144,8 @@ impl Drain {
         dead_notes(alloc, &self.notes, format, ledger, shown)
     }
 
-    /// Whether nothing holds a generation any more that was retired, and not removed since; the rest is as in `dead`. It looks at
-    /// no other generation, and takes no memory.
+    /// Whether nothing holds a generation any more that was retired, and not removed since;
+    /// the rest is as in `dead`. It looks at no other generation, and takes no memory.
     pub fn is_dead<S: Shows>(&self, format: Format, ledger: &Ledger, shown: &S, number: Gen) -> bool
         ensures dead { result ≡ is_dead_in format (S.has shown.now) ledger.now number self.now }
     {
@@ -153,8 +157,9 @@ impl Drain {
         }
     }
 
-    /// Takes a generation out. It takes no memory, and is a look-up; of a listener that still waits for its drain timeout it goes
-    /// over the numbers of those that wait under its name, to take its own out.
+    /// Takes a generation out. It takes no memory, and is a look-up;
+    /// of a listener that still waits for its drain timeout it goes over the numbers of those
+    /// that wait under its name, to take its own out.
     pub fn remove(&mut self, number: Gen)
         ensures removed { self.new ≡ filter (λ row. not (is_numbered number row)) self.old }
         ensures world { Removes number self.old self.new }

@@ -1,4 +1,5 @@
-//! Generations that no longer serve: which of them nothing holds any more, and those that are to be dropped outside the lock.
+//! Generations that no longer serve: which of them nothing holds any more,
+//! and those that are to be dropped outside the lock.
 //!
 //! # Choices
 //!

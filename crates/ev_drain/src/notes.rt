@@ -73,8 +73,9 @@ pub(crate) fn put(notes: &mut Notes, number: Gen, note: Note) -> Result<(), Allo
     Ok(())
 }
 
-/// The drain timeout of this name came: marks the draining listeners of the name among the notes of these numbers, and answers
-/// whether there was one for which it hadn't come. It looks at no other note, and takes no memory.
+/// The drain timeout of this name came: marks the draining listeners of the name among the notes
+/// of these numbers, and returns whether there was one for which it hadn't come.
+/// It looks at no other note, and takes no memory.
 pub(crate) fn mark(notes: &mut Notes, name: &str, numbers: &[Gen]) -> bool
     ensures answer { result ≡ list_any (is_waiting_among name.now numbers.now) notes.old.entries }
     ensures entries { notes.new.entries ≡ map (marked_among name.now numbers.now) notes.old.entries }
@@ -86,8 +87,8 @@ pub(crate) fn mark(notes: &mut Notes, name: &str, numbers: &[Gen]) -> bool
     meant
 }
 
-// Marks the note of this number, where it is a draining listener of this name, and answers whether its drain timeout hadn't
-// come.
+// Marks the note of this number, where it is a draining listener of this name,
+// and returns whether its drain timeout hadn't come.
 fn mark_numbered(notes: &mut Notes, name: &str, number: Gen) -> bool
     ensures answer { result ≡ list_any (is_waiting_among name.now (number ∷ [])) notes.old.entries }
     ensures entries { notes.new.entries ≡ map (marked_among name.now (number ∷ [])) notes.old.entries }
@@ -100,7 +101,7 @@ fn mark_numbered(notes: &mut Notes, name: &str, number: Gen) -> bool
     }
 }
 
-// Marks it where it is a draining listener of this name, and answers whether its drain timeout hadn't come.
+// Marks it where it is a draining listener of this name, and returns whether its drain timeout hadn't come.
 fn mark_one(note: &mut Note, name: &str) -> bool
     ensures answer { result ≡ is_waiting_note name.now note.old }
     ensures marked { note.new ≡ marked_note name.now note.old }

@@ -13,7 +13,8 @@ use std::marker::Model;
 
 type Numbers = IndexMap<Name, Seq<Gen>, Keys>;
 
-/// By a listener's name the numbers of the generations that may wait for its drain timeout. A name without any has no entry.
+/// By a listener's name the numbers of the generations that may wait for its drain timeout.
+/// A name without any has no entry.
 #[derive(Drop)]
 pub(crate) struct Waiters {
     numbers: Numbers,
@@ -49,8 +50,8 @@ impl Waiters {
         }
     }
 
-    /// Appends the number of a generation that is retired to those of its name, where it is a draining listener. Out of memory,
-    /// the numbers stay as they were.
+    /// Appends the number of a generation that is retired to those of its name,
+    /// where it is a draining listener. Out of memory, the numbers stay as they were.
     pub(crate) fn await_timeout(
         &mut self,
         alloc: Global,

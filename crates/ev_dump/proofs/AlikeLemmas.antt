@@ -11,7 +11,7 @@ use Rattle.ev_types.specs.declared.contents.Body.{Body}
 use Rattle.ev_types.specs.declared.contents.Body.TheVariants.{Good, Bad, Beat}
 use Rattle.ev_types.specs.declared.contents.Content.{Content}
 use Rattle.ev_types.specs.declared.contents.Kind.{Kind}
-use Rattle.ev_types.specs.declared.contents.Kind.TheVariants.{Cds, Eds, Lds, Rds}
+use Rattle.ev_types.specs.declared.contents.Kind.TheVariants.{Cds, Eds, Lds, Rds, Sds, Ecds}
 use Rattle.ev_types.specs.declared.events.Actor.{Actor}
 use Rattle.ev_types.specs.declared.events.Actor.TheVariants.{Stream, Health as health_checker, Timer, Main, Worker}
 use Rattle.ev_types.specs.declared.events.Answer.{Answer}
@@ -20,7 +20,7 @@ use Rattle.ev_types.specs.declared.events.Entry.{Entry}
 use Rattle.ev_types.specs.declared.events.Event.{Event}
 use Rattle.ev_types.specs.declared.events.Event.TheVariants.{Connect, Disconnect, Response, Health, FetchTimeout, DrainTimeout, TtlExpired, Publish, Reap, Accept, Close, Settle}
 use Rattle.ev_types.specs.declared.events.Verdict.{Verdict}
-use Rattle.ev_types.specs.declared.events.Verdict.TheVariants.{New, Same, Kept, Unasked, Renewed, Refused}
+use Rattle.ev_types.specs.declared.events.Verdict.TheVariants.{New, InPlace, Back, Same, Kept, Unasked, Renewed, Refused}
 use Rattle.ev_types.specs.declared.hosts.Host.{Host}
 use Rattle.ev_types.specs.declared.journals.Format.{Format}
 use Rattle.ev_types.specs.declared.rows.GenRow.{GenRow}
@@ -32,7 +32,7 @@ use Rattle.ev_model.specs.Phase.{is_clusters}
 use Rattle.ev_model.specs.Picture.{has_number, numbers_shown, shown_of, shown_same}
 use Rattle.ev_model.specs.Verdicts.{verdicts_of}
 use Rattle.ev_model.specs.Versions.{is_bounded}
-use Rattle.ev_model.specs.Rows.{add_item, add_items, add_row, keep_value, keep_version, made_names, refuse, told_of_refusal, with_content, with_first, with_removals}
+use Rattle.ev_model.specs.Rows.{add_in_place, add_item, add_items, add_row, go_back, keep_value, keep_version, made_names, refuse, told_of_refusal, with_content, with_first, with_removals}
 use Rattle.ev_model.specs.Tidy.{tidy}
 use Rattle.ev_model.specs.Signals.{expire, fetch_timeout, forget_version, health_of, is_awaited, name_timeout_of, rows_meant, unexpired, with_end}
 use Rattle.ev_model.specs.Dead.{is_dead, is_dead_at, is_open_on, numbers_in_use, picture_at, shown_at, shown_in_use, waits_for_timer}
@@ -66,6 +66,8 @@ module _ (held : List ℕ) (node : List ℕ) where
   removals-but Eds response world = refl
   removals-but Lds response world = refl
   removals-but Rds response world = refl
+  removals-but Sds response world = refl
+  removals-but Ecds response world = refl
 
   told-but : (kind : Kind) (name : List ℕ) (world : World) → told_of_refusal kind name (but held node world) ≡ but held node (told_of_refusal kind name world)
   told-but kind name world = if-world (is_watched (lives_of world) kind name) _ _ _ _ refl refl
@@ -75,6 +77,8 @@ module _ (held : List ℕ) (node : List ℕ) where
   refuse-but Eds name world = told-but Eds name world
   refuse-but Lds name world = refl
   refuse-but Rds name world = told-but Rds name world
+  refuse-but Sds name world = told-but Sds name world
+  refuse-but Ecds name world = told-but Ecds name world
 
   content-but : (change : Content → World → World) (body : Body) (world : World)
       → ((content : Content) → change content (but held node world) ≡ but held node (change content world))
@@ -85,7 +89,9 @@ module _ (held : List ℕ) (node : List ℕ) where
 
   item-but : (kind : Kind) (verdict : Verdict) (item : ItemParts) (world : World)
       → add_item kind verdict item (but held node world) ≡ but held node (add_item kind verdict item world)
-  item-but kind New item world = content-but (add_row kind item) item.body world (λ content. refl)
+  item-but kind New item world = content-but (λ content. add_row kind item content []) item.body world (λ content. refl)
+  item-but kind InPlace item world = content-but (add_in_place kind item) item.body world (λ content. refl)
+  item-but kind Back item world = content-but (λ content. go_back kind item) item.body world (λ content. refl)
   item-but kind Same item world = content-but (λ content. keep_version kind item) item.body world (λ content. refl)
   item-but kind Kept item world = content-but (keep_value kind item) item.body world (λ content. refl)
   item-but kind Unasked item world = refl
@@ -104,6 +110,8 @@ module _ (held : List ℕ) (node : List ℕ) where
   first-but Eds names world = refl
   first-but Lds names world = refl
   first-but Rds names world = refl
+  first-but Sds names world = refl
+  first-but Ecds names world = refl
 
   answered-but : (kind : Kind) (response : ResponseParts) (verdicts : List Verdict) (world : World)
       → (answered kind response verdicts (but held node world)).0 ≡ but held node (answered kind response verdicts world).0
@@ -135,6 +143,8 @@ module _ (held : List ℕ) (node : List ℕ) where
   timeout-but Eds name world = name-but Eds name world
   timeout-but Lds name world = if-but (is_clusters world.phase || (is_some world.first_listeners || world.late_listeners)) _ _ _ _ refl refl
   timeout-but Rds name world = name-but Rds name world
+  timeout-but Sds name world = name-but Sds name world
+  timeout-but Ecds name world = name-but Ecds name world
 
   expire-but : (numbers : List ℕ) (world : World) → (expire numbers (but held node world)).0 ≡ but held node (expire numbers world).0
   expire-but [] world = refl
@@ -145,6 +155,8 @@ module _ (held : List ℕ) (node : List ℕ) where
   end-but Eds name world = refl
   end-but Lds name world = refl
   end-but Rds name world = refl
+  end-but Sds name world = refl
+  end-but Ecds name world = refl
 
   managed-but : (format : Format) (world : World) (actor : Actor) (event : Event) → is_for_managers event ≡ true
       → (step format (but held node world) actor event).0 ≡ but held node (step format world actor event).0
@@ -256,7 +268,8 @@ module _ (world : World) (held : List ℕ) (node : List ℕ) (begins : BeginsEmp
   accept-but ask worker =
       ap (λ version. but held node (with_worked world (accepted (picture_at world version) ask worker world.opened)).0) (sym (same worker))
 
--- the two differ in what workers hold and in the node alone, and hold the same but for the first version of idle workers
+-- the two differ in what workers hold and in the node alone,
+-- and hold the same but for the first version of idle workers
 pub record Alike (world other : World) : Type 0 where
   pub rest : other ≡ but other.held other.node world
   pub same : SameHeld world.held other.held

@@ -1,3 +1,6 @@
+pub mod LineLemmas
+pub mod ToldLemmas
+pub mod FrontLemmas
 pub mod FloatLemmas
 pub mod AlikeLemmas
 pub mod PrefixLemmas

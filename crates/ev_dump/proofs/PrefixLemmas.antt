@@ -8,8 +8,8 @@ use Rattle.ev_model.specs.Runs.{RunsFrom, world_after}
 use Rattle.ev_model.specs.Finding.{journal_told}
 use Rattle.ev_actors.specs.Journals.{JournalParts, world_now}
 use Rattle.ev_registry.specs.Views.{view_of}
-use Rattle.ev_fronts.specs.Fronts.{IsFront}
-use Rattle.ev_fronts.proofs.FrontLemmas.{fronts_are_runs}
+use Rattle.ev_dump.specs.Fronts.{IsFront}
+use Rattle.ev_dump.proofs.FrontLemmas.{fronts_are_runs}
 use Rattle.ev_dump.specs.Texts.{dump_text, dump_tree}
 use Rattle.ev_dump.specs.Dumps.{DumpsByPrefix}
 use Rattle.ev_dump.proofs.AlikeLemmas.{Alike, run_alike}

@@ -5,7 +5,7 @@ use Rattle.ev_types.specs.declared.journals.Format.{Format}
 use Rattle.ev_model.specs.World.{World, opening}
 use Rattle.ev_model.specs.Step.{step}
 use Rattle.ev_model.specs.Runs.{IsRun, RunsFrom}
-use Rattle.ev_fronts.specs.Fronts.{SufficeFrom}
+use Rattle.ev_dump.specs.Fronts.{SufficeFrom}
 use Rattle.ev_registry.specs.Registries.{HaveStepped}
 
 pub steps_again : (format : Format) (workers : ℕ) (world : World) (entries : List Entry) → RunsFrom format workers world entries

@@ -6,7 +6,7 @@ use Rattle.ev_types.specs.declared.journals.Format.{Format}
 use Rattle.ev_types.specs.declared.journals.Row.{Row}
 use Rattle.ev_model.specs.Finding.{finding_of, journal_told}
 use Rattle.ev_actors.specs.Journals.{JournalParts}
-use Rattle.ev_fronts.specs.Fronts.{ends_commit}
+use Rattle.ev_dump.specs.Fronts.{ends_commit}
 use Rattle.ev_dump.specs.Texts.{dump_text}
 
 -- the first n entries of a journal that rows record, with its format, workers and node
@@ -24,14 +24,15 @@ pub record IsDump (format : Format) (script : ScriptParts) (rows : List Row) (en
 abbrev pub end_line : ScriptParts → List Row → ℕ
 end_line script rows = script.count + length rows + 2
 
--- the rows are found legal, but no commit ends with this many entries, which is reported at the end line: there are fewer, or the last
--- of them is an accept or a close
+-- the rows are found legal, but no commit ends with this many entries, which is reported at the end line:
+-- there are fewer, or the last of them is an accept or a close
 pub record IsNoCommit (format : Format) (script : ScriptParts) (rows : List Row) (entries line : ℕ) : Type 0 where
   pub legal : finding_of format script rows ≡ Legal
   pub goes_on : IsTrue (not (ends_commit rows entries))
   pub told : line ≡ end_line script rows
 
--- dumps of journals that agree in their first entries are the same, whatever comes after, and whatever their workers and nodes
+-- dumps of journals that agree in their first entries are the same, whatever comes after,
+-- and whatever their workers and nodes
 abbrev pub DumpsByPrefix : Type 0
 DumpsByPrefix =
     (format : Format) (script other : ScriptParts) (rows others : List Row) (entries : ℕ) (text another : List ℕ) → IsScript script → IsScript other

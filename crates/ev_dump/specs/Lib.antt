@@ -1,2 +1,4 @@
+pub mod Told
+pub mod Fronts
 pub mod Texts
 pub mod Dumps

@@ -6,9 +6,10 @@ use ev_actors::Journaled;
 use ev_registry::Registry;
 use std::alloc::{AllocError, Global};
 
-/// Writes the line that says what is known after a registry's journal: the generations of clusters and of listeners, each with its
-/// status and how many connections are open on it, what the journal counts up to, how many entries it has, how far the proxy has
-/// booted, and the version of the last picture. Where the registry ran out of memory in its last event, so does this.
+/// Writes the line that says what is known after a registry's journal:
+/// the generations of clusters and of listeners, each with its status and how many connections are open on it,
+/// what the journal counts up to, how many entries it has, how far the proxy has booted,
+/// and the version of the last picture. Where the registry ran out of memory in its last event, so does this.
 #[tactic(auto, using(crate::proofs::FloatLemmas::dump_whole), unfolding(crate::specs::Texts::dump_text))]
 pub fn dump(alloc: Global, registry: &Registry) -> Result<Vec<u8>, AllocError>
     ensures text { IfOk result (λ text. text.items ≡ dump_text registry.now.journaled) }

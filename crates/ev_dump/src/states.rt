@@ -1,16 +1,16 @@
 ghost use Rattle.std.specs.Prelude.{◌≡◌, IfOk, IsTrue, take};
 ghost use Rattle.ev_types.specs.declared.journals.Finding.TheVariants.{Legal};
 ghost use Rattle.ev_model.specs.Finding.{finding_of, journal_told};
-ghost use Rattle.ev_fronts.specs.Fronts.{ends_commit};
+ghost use Rattle.ev_dump.specs.Fronts.{ends_commit};
 
-use ev_fronts::entries_told;
+use crate::entries_told;
 use ev_keys::Keys;
 use ev_registry::Registry;
 use ev_types::{Format, Row, Script};
 use std::alloc::{AllocError, Global};
 
-/// The registry in which the first n entries were done of a journal whose rows are found legal with their script, up to where a
-/// commit ends. The tables by what the input names hash by these keys.
+/// The registry in which the first n entries were done of a journal whose rows are found legal
+/// with their script, up to where a commit ends. The tables by what the input names hash by these keys.
 pub fn state_after(
     alloc: Global,
     keys: Keys,

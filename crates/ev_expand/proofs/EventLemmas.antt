@@ -4,8 +4,9 @@ use Rattle.std.specs.Str.{bytes_eq}
 use Rattle.serde_json.specs.Data.{Data, null}
 use Rattle.serde_json.specs.Find.{get, as_str, as_bool}
 use Rattle.ev_types.specs.Items.{ResponseParts}
+use Rattle.ev_types.specs.Kinds.{is_by_name}
 use Rattle.ev_types.specs.declared.contents.Kind.{Kind}
-use Rattle.ev_types.specs.declared.contents.Kind.TheVariants.{Cds, Eds, Lds, Rds}
+use Rattle.ev_types.specs.declared.contents.Kind.TheVariants.{Cds}
 use Rattle.ev_types.specs.declared.events.Actor.{Actor}
 use Rattle.ev_types.specs.declared.events.Actor.TheVariants.{Stream, Health as health, Timer, Main, Worker}
 use Rattle.ev_types.specs.declared.events.Event.{Event}
@@ -17,7 +18,7 @@ use Rattle.ev_script.specs.Members.{has_only, name_of, member_of}
 use Rattle.ev_script.specs.LineForms.{line_at, host_in, kind_in}
 use Rattle.ev_script.specs.StreamLines.{connect_line, disconnect_line, response_line}
 use Rattle.ev_script.specs.HealthLines.{health_line}
-use Rattle.ev_script.specs.TimerLines.{timeout_of, timeout_line, drain_line, expired_line}
+use Rattle.ev_script.specs.TimerLines.{named_timeout, whole_timeout, timeout_of, timeout_line, drain_line, expired_line}
 use Rattle.ev_script.specs.MainLines.{publish_line, reap_line}
 use Rattle.ev_script.specs.Asks.{conn_in, ask_in}
 use Rattle.ev_script.specs.WorkerLines.{worker_in, worker_line, accept_line, close_line, settle_line}
@@ -67,10 +68,11 @@ message_said profile tree None is = tt
 message_said profile tree (Some message) is = response_said profile tree message (response_of profile message) is refl
 
 timeout_said : (profile : Profile) (kind : Kind) (tree : Data) → IfSome (timeout_of kind tree) (AsSaid profile tree)
-timeout_said profile Cds tree = tested (AsSaid profile tree) _ (Some (FetchTimeout (record { kind = Cds; name = None }))) tt
-timeout_said profile Eds tree = tested (AsSaid profile tree) _ _ (mapped (AsSaid profile tree) (λ name. FetchTimeout (record { kind = Eds; name = Some name })) (member_of name_of (codes "name") tree) (λ name. tt))
-timeout_said profile Lds tree = tested (AsSaid profile tree) _ (Some (FetchTimeout (record { kind = Lds; name = None }))) tt
-timeout_said profile Rds tree = tested (AsSaid profile tree) _ _ (mapped (AsSaid profile tree) (λ name. FetchTimeout (record { kind = Rds; name = Some name })) (member_of name_of (codes "name") tree) (λ name. tt))
+timeout_said profile kind tree =
+    let P : Event → Type 0 = AsSaid profile tree in
+    either P (is_by_name kind) (named_timeout kind tree) (whole_timeout kind tree)
+    (tested P _ _ (mapped P (λ name. FetchTimeout (record { kind = kind; name = Some name })) (member_of name_of (codes "name") tree) (λ name. tt)))
+    (tested P _ (Some (FetchTimeout (record { kind = kind; name = None }))) tt)
 
 main_side_said : (profile : Profile) (op : List ℕ) (at : ℕ) (tree : Data) → IfSome (main_side_line profile op at tree) (LineAsSaid profile tree)
 main_side_said profile op at tree =
@@ -82,11 +84,11 @@ main_side_said profile op at tree =
     (either P (bytes_eq op (codes "health")) (health_line at tree) _
     (tested P _ _ (said_at profile at tree health _
     (chained Q _ (member_of name_of (codes "cluster") tree) (λ cluster. chained Q _ (host_in tree) (λ host. mapped Q (λ healthy. Health cluster host healthy) (member_of as_bool (codes "healthy") tree) (λ healthy. tt))))))
-    (either P (bytes_eq op (codes "fetchTimeout")) (timeout_line at tree) _ (said_at profile at tree Timer _ (chained Q (λ kind. timeout_of kind tree) (kind_in tree) (λ kind. timeout_said profile kind tree)))
+    (either P (bytes_eq op (codes "fetchTimeout")) (timeout_line profile at tree) _ (said_at profile at tree Timer _ (chained Q (λ kind. timeout_of kind tree) (kind_in profile tree) (λ kind. timeout_said profile kind tree)))
     (either P (bytes_eq op (codes "drainTimeout")) (drain_line at tree) _
     (tested P _ _ (said_at profile at tree Timer _ (mapped Q (λ name. DrainTimeout name) (member_of name_of (codes "listener") tree) (λ name. tt))))
-    (either P (bytes_eq op (codes "ttlExpired")) (expired_line at tree) _
-    (tested P _ _ (said_at profile at tree Timer _ (chained Q _ (kind_in tree) (λ kind. mapped Q (λ name. TtlExpired kind name) (member_of name_of (codes "name") tree) (λ name. tt)))))
+    (either P (bytes_eq op (codes "ttlExpired")) (expired_line profile at tree) _
+    (tested P _ _ (said_at profile at tree Timer _ (chained Q _ (kind_in profile tree) (λ kind. mapped Q (λ name. TtlExpired kind name) (member_of name_of (codes "name") tree) (λ name. tt)))))
     (either P (bytes_eq op (codes "publish")) (publish_line at tree) _ (tested P (has_only (codes "op" ∷ []) tree) _ (said_at profile at tree Main (Some Publish) tt))
     (either P (bytes_eq op (codes "reap")) (reap_line at tree) None (tested P (has_only (codes "op" ∷ []) tree) _ (said_at profile at tree Main (Some Reap) tt)) tt))))))))
 
@@ -133,7 +135,7 @@ parts_items profile (Some other) nonce message response kind e h =
 
 read_items : (profile : Profile) (message : Data) (response : ResponseParts) (kind : Kind) → response_of profile message ≡ Some response → response.kind ≡ Some kind → response.items ≡ map (item_of profile kind) (entries_of message)
 unfolding response_of
-read_items profile message response kind e h = parts_items profile (response_kind message) (nonce_of message) message response kind (given (is_response message) _ response e) h
+read_items profile message response kind e h = parts_items profile (response_kind profile message) (nonce_of message) message response kind (given (is_response profile message) _ response e) h
 
 -- the items of a response are what its resources are read as
 pub items_read : (profile : Profile) (line : Data) (response : ResponseParts) (kind : Kind) → event_of profile line ≡ Some (Response response) → response.kind ≡ Some kind
@@ -146,9 +148,7 @@ as_listed : (profile : Profile) (line : Data) (response : ResponseParts) (kind :
     → items_as kind response.items ≡ map (item_of profile Cds) (listed_as kind (message_of line))
 as_listed profile line response None is e = refl
 as_listed profile line response (Some Cds) is e = items_read profile line response Cds e (sym is)
-as_listed profile line response (Some Eds) is e = refl
-as_listed profile line response (Some Lds) is e = refl
-as_listed profile line response (Some Rds) is e = refl
+as_listed profile line response (Some kind) is e = refl
 
 -- the items of clusters of a line's event are what its resources of clusters are read as
 pub cluster_items_read : (profile : Profile) (line : Data) (event : Option Event) → event ≡ event_of profile line → items_by event ≡ map (item_of profile Cds) (clusters_by event line)

@@ -1,5 +1,5 @@
--- The text that a command makes of the lines of a script: each line, guarded resources in it as they wait, and after it the line
--- that follows it, where some number is due.
+-- The text that a command makes of the lines of a script: each line, guarded resources in it as they wait, and after
+-- it the line that follows it, where some number is due.
 use Rattle.std.specs.Prelude.{◌≡◌, ℕ, ◌+◌, ◌-◌, ◌<◌, ◌≤◌, Bool, List, [], ◌∷◌, ◌++◌, map, filter, flat_map, length, take, Option, Some, None, Result, Ok, Err, if◌then◌else◌, decimal, All, Vec, ⊤}
 use Rattle.std.specs.List.{enumerate_from}
 use Rattle.std.specs.declared.alloc.Global.{Global}
@@ -13,9 +13,9 @@ use Rattle.ev_expand.specs.Guarding.{Guard, Guarded, guarded_by, waiting_line}
 use Rattle.ev_expand.specs.Following.{DueParts, following_line}
 use Rattle.ev_expand.specs.Private.{first_use}
 
--- What a command does. `prefix` begins its private names, and `nonce` the nonces of the lines that it adds. `guard`: which
--- resources wait. `is_written`: whether a line itself is written. `is_due`: whether something guarded is due at a line.
--- `endpoints_of`: its endpoints after these lines, where there are some.
+-- What a command does. `prefix` begins its private names, and `nonce` the nonces of the lines that it adds. `guard`:
+-- which resources wait. `is_written`: whether a line itself is written. `is_due`: whether something guarded is due at
+-- a line. `endpoints_of`: its endpoints after these lines, where there are some.
 pub record Rules : Type 0 where
   pub prefix : List ℕ
   pub nonce : List ℕ
@@ -75,8 +75,8 @@ pub record GrowsTooLarge (rules : Rules) (head : Data) (lines : List Data) (line
 abbrev pub ReadBack : List Data → Type 0
 ReadBack trees = All (λ tree. IsReadable tree → ReadsBack (whole tree)) trees
 
--- what an answer means: the text, or the first line that uses a private name, or where there is none the line that makes it too
--- large
+-- what an answer means: the text, or the first line that uses a private name, or where there is none the line that
+-- makes it too large
 abbrev pub IsExpanded : Rules → Data → List Data → Result (Vec ℕ Global) ExpandError → Type 0
 IsExpanded rules head lines (Ok text) =
     (first_use rules.guard.profile rules.prefix lines ≡ None) × AreWithinLimits (written_by rules head lines) × ReadBack (given_by rules head lines)

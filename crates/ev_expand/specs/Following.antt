@@ -6,7 +6,7 @@ use Rattle.serde_json.specs.View.{view, items_of, members_view}
 use Rattle.serde_json.specs.declared.value.Value.{Value}
 use Rattle.ev_types.specs.declared.contents.Kind.TheVariants.{Eds}
 use Rattle.ev_expand.specs.declared.following.Due.{Due}
-use Rattle.ev_wire.specs.Requests.{type_url}
+use Rattle.ev_types.specs.Kinds.{type_url}
 use Rattle.ev_expand.specs.Guarding.{private_name, response_tree}
 
 -- a place that is due, and its endpoints, where there are some
@@ -48,8 +48,8 @@ with_list name values members = if length values == 0 then members else put name
 abbrev pub PutsList : List ℕ → List Value → List (String Global × Value) → List (String Global × Value) → Type 0
 PutsList name values old new = members_view new ≡ with_list name (map view values) (members_view old)
 
--- the line that follows a line of this version, where these are due: those that have endpoints as resources, and the names of the
--- others as removed ones
+-- the line that follows a line of this version, where these are due: those that have endpoints as resources, and the
+-- names of the others as removed ones
 abbrev pub following_line : List ℕ → List ℕ → List ℕ → List DueParts → Data
 following_line prefix nonce version due = response_tree (object
     (with_list (codes "resources") (filter_map (entry_due prefix version) due)

@@ -16,8 +16,8 @@ use Rattle.ev_expand.specs.Keys.{key_same}
 use Rattle.ev_expand.specs.Fronts.{event_of, message_of}
 use Rattle.ev_expand.specs.Editing.{without, with_value}
 
--- What a command guards. `profile`: how the lines are read. `key_of`: the key of a resource of a response of clusters, where it is
--- guarded. `own_of`: what is kept of the first resource of a key.
+-- What a command guards. `profile`: how the lines are read. `key_of`: the key of a resource of a response of
+-- clusters, where it is guarded. `own_of`: what is kept of the first resource of a key.
 pub record Guard : Type 0 where
   pub profile : Profile
   pub key_of : Data → Option Key

@@ -1,6 +1,6 @@
--- Keys: what is guarded. Guarded items of equal keys have one number. The text of a body is no part of a key, so two bodies that differ
--- only where nothing is read share one.
-use Rattle.std.specs.Prelude.{◌≡◌, ℕ, Bool, ◌&&◌, List, ◌++◌, []}
+-- Keys: what is guarded. Guarded items of equal keys have one number. The text of a body and the secrets that a
+-- cluster waits for are no part of a key, so two bodies that differ only there share one.
+use Rattle.std.specs.Prelude.{◌≡◌, ℕ, Bool, ◌&&◌, List, ◌++◌, [], None}
 use Rattle.std.specs.Bool.{Decides}
 use Rattle.std.specs.List.{flat_map}
 use Rattle.std.specs.Hash as fed
@@ -16,9 +16,9 @@ use Rattle.ev_types.specs.declared.clusters.Discovery.{Discovery}
 use Rattle.ev_types.specs.declared.clusters.Discovery.TheVariants.{Static, Eds, Elsewhere}
 use Rattle.ev_expand.specs.declared.keys.Key.{Key}
 
--- the cluster without the text of its body
+-- the cluster without the text of its body and without its secrets
 abbrev pub typed_cluster : Cluster → Cluster
-typed_cluster cluster = record cluster { body_text = [] }
+typed_cluster cluster = record cluster { secrets = []; secrets_by_match = None; body_text = [] }
 
 -- the key of a cluster that refers to these names
 abbrev pub key_with : Cluster → List (List ℕ) → Key

@@ -9,3 +9,7 @@ pub mod Numbers
 pub mod Expanding
 pub mod Growing
 pub mod Placing
+pub mod Said
+pub mod Waiting
+pub mod Scripts
+pub mod Runs

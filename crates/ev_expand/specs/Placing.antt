@@ -22,7 +22,8 @@ placed_line prefix entries line places =
     then response_tree (with_value (codes "resources") (array (items_of (placed_entries prefix entries places))) (message_of line))
     else line
 
--- what is made of a line, or the line itself where nothing is made, is the line of these resources, which have these places
+-- what is made of a line, or the line itself where nothing is made, is the line of these resources, which have these
+-- places
 abbrev pub IsPlaced : List ℕ → List Data → Data → List (Option ℕ) → Option Value → Type 0
 IsPlaced prefix entries line places made = unwrap_or (option_map view made) line ≡ placed_line prefix entries line places
 

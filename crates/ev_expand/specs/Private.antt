@@ -7,9 +7,9 @@ use Rattle.ev_types.specs.Kinds.{kind_same}
 use Rattle.ev_types.specs.declared.clusters.Discovery.{Discovery}
 use Rattle.ev_types.specs.declared.clusters.Discovery.TheVariants as is
 use Rattle.ev_types.specs.declared.contents.Kind.{Kind}
-use Rattle.ev_types.specs.declared.contents.Kind.TheVariants.{Cds, Eds, Lds, Rds}
+use Rattle.ev_types.specs.declared.contents.Kind.TheVariants.{Cds, Eds}
 use Rattle.ev_types.specs.declared.contents.Content.{Content}
-use Rattle.ev_types.specs.declared.contents.Content.TheVariants.{Cluster as a_cluster, Assignment as an_assignment, Listener as a_listener, Routes as routes}
+use Rattle.ev_types.specs.declared.contents.Content.TheVariants.{Cluster as a_cluster}
 use Rattle.ev_types.specs.declared.contents.Body.{Body}
 use Rattle.ev_types.specs.declared.contents.Body.TheVariants.{Good, Bad, Beat}
 use Rattle.ev_types.specs.declared.events.Event.{Event}
@@ -29,21 +29,19 @@ discovery_uses prefix is.Elsewhere = false
 
 abbrev pub content_uses : List ℕ → Content → Bool
 content_uses prefix (a_cluster cluster) = discovery_uses prefix cluster.discovery
-content_uses prefix (an_assignment rows) = false
-content_uses prefix (a_listener listener) = false
-content_uses prefix (routes table) = false
+content_uses prefix content = false
 
 abbrev pub body_uses : List ℕ → Body → Bool
 body_uses prefix (Good content) = content_uses prefix content
 body_uses prefix (Bad rule) = false
 body_uses prefix Beat = false
 
--- a resource of this kind uses a private name: one of endpoints by its own name, a good one of clusters by its service's
+-- a resource of this kind uses a private name: one of endpoints by its own name, a good one of clusters by its
+-- service's
 abbrev pub item_uses : List ℕ → Kind → ItemParts → Bool
 item_uses prefix Cds item = body_uses prefix item.body
 item_uses prefix Eds item = is_private prefix item.name
-item_uses prefix Lds item = false
-item_uses prefix Rds item = false
+item_uses prefix kind item = false
 
 -- a name of this kind is private: one of endpoints
 abbrev pub named_uses : List ℕ → Kind → List ℕ → Bool

@@ -27,12 +27,13 @@ use std::alloc::{AllocError, Global};
 /// An input has fewer lines after the first: `expand_with` takes fewer than this many.
 pub const MOST_LINES: usize = 4_294_967_290;
 
-/// The text that a command makes of the header and the lines of a script, which are read by this profile. Its tables hash by these
-/// keys.
+/// The text that a command makes of the header and the lines of a script, which are read by this profile. Its tables
+/// hash by these keys.
 ///
 /// # Errors
-/// `Private` exactly for the first line that uses a private name. `Large` where there is none, exactly for the line with whose
-/// output the text goes above a limit of inputs. `OutOfMemory` where memory runs out, and for `MOST_LINES` lines or more.
+/// `Private` exactly for the first line that uses a private name. `Large` where there is none, exactly for the line
+/// with whose output the text goes above a limit of inputs. `OutOfMemory` where memory runs out, and for `MOST_LINES`
+/// lines or more.
 pub fn expand_with<E: Expansion + Drop>(
     alloc: Global,
     keys: Keys,
@@ -91,7 +92,7 @@ fn grown_text<E: Expansion + Drop>(
     Ok(text.bytes)
 }
 
-// Appends what the next line gives to the text, and answers whether it had room there.
+// Appends what the next line gives to the text, and returns whether it had room there.
 fn push_line<E: Expansion>(
     alloc: Global,
     profile: Profile,

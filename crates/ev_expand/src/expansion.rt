@@ -5,7 +5,8 @@ use ev_types::{Event, Item, Profile};
 use serde_json::Value;
 use std::alloc::{AllocError, Global};
 
-/// What a command makes of the lines of a script, one after another. The profile is how the lines are read: that of the header.
+/// What a command makes of the lines of a script, one after another. The profile is how the lines are read: that of
+/// the header.
 pub trait Expansion {
     ghost use Rattle.std.specs.Prelude.{◌≡◌, List, IfOk};
     ghost use Rattle.serde_json.specs.Data.{Data};
@@ -60,11 +61,12 @@ pub trait Expansion {
     fn own(&self, alloc: Global, profile: Profile, entry: &Value) -> Result<Value, AllocError>
         ensures { IfOk result (λ own. view own ≡ (rules profile).guard.own_of (view entry.now)) };
 
-    /// Takes the next line, and says which places are due after it, with their endpoints. The event is what the line is read
-    /// as, the numbers are those after the line, and `items` are the places of the keys of its guarded resources.
+    /// Takes the next line, and says which places are due after it, with their endpoints. The event is what the line
+    /// is read as, the numbers are those after the line, and `items` are the places of the keys of its guarded
+    /// resources.
     ///
     /// # Errors
-    /// `AllocError` where there is no memory for it; nothing is promised of what the command knows then.
+    /// `AllocError` where there is no memory for it; what the command knows then is unspecified.
     fn due(
         &mut self,
         alloc: Global,

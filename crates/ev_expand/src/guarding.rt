@@ -164,10 +164,7 @@ fn listed_as<'a>(
 {
     match kind {
         Some(Kind::Cds) => Ok(member::elements(member::objects(alloc, message, "resources")?)),
-        Some(Kind::Eds) => Ok(&[]),
-        Some(Kind::Lds) => Ok(&[]),
-        Some(Kind::Rds) => Ok(&[]),
-        None => Ok(&[]),
+        Some(Kind::Eds | Kind::Lds | Kind::Rds | Kind::Sds | Kind::Ecds) | None => Ok(&[]),
     }
 }
 
@@ -196,15 +193,12 @@ fn response_items(response: &Response) -> &[Item]
 {
     match response.kind {
         Some(Kind::Cds) => response.items.as_slice(),
-        Some(Kind::Eds) => &[],
-        Some(Kind::Lds) => &[],
-        Some(Kind::Rds) => &[],
-        None => &[],
+        Some(Kind::Eds | Kind::Lds | Kind::Rds | Kind::Sds | Kind::Ecds) | None => &[],
     }
 }
 
-// The places of the keys of a line's resources of clusters, where they are guarded. A new key goes after the others. The event is
-// what the line is read as.
+// The places of the keys of a line's resources of clusters, where they are guarded. A new key goes after the others.
+// The event is what the line is read as.
 pub(crate) fn places_in<E: Expansion>(
     alloc: Global,
     profile: Profile,

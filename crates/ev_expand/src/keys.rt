@@ -6,8 +6,8 @@ use ev_types::{Cluster, Discovery, HostRow, Name, Seq, Text, TryCopy};
 use std::alloc::{AllocError, Global};
 use std::hash::{Hash, Hasher};
 
-/// What is guarded: a cluster as it was read, its name included and the text of its body left out, and the names that it refers
-/// to. Guarded items of equal keys have one number.
+/// What is guarded: a cluster as it was read, its name included, the text of its body and the secrets that it waits
+/// for left out, and the names that it refers to. Guarded items of equal keys have one number.
 #[derive(Drop)]
 pub struct Key {
     pub cluster: Cluster,
@@ -30,6 +30,8 @@ impl Key {
                 name: cluster.name.copy(alloc)?,
                 discovery: cluster.discovery.copy(alloc)?,
                 checked: cluster.checked,
+                secrets: Seq::new(alloc),
+                secrets_by_match: None,
                 body_text: Text::from_string(String::new(alloc)),
             },
             names,
@@ -73,8 +75,8 @@ impl Hash for Key {
     }
 }
 
-// Feeds a discovery, with all its hosts: many contents under one name are apart. Whether endpoints have to come anew is fed
-// to nothing, since it is one for all clusters of a script.
+// Feeds a discovery, with all its hosts: many contents under one name are apart. Whether endpoints have to come anew
+// is fed to nothing, since it is one for all clusters of a script.
 fn hash_discovery<H: Hasher>(discovery: &Discovery, state: &mut H)
     ensures { state.new ≡ fold H.write state.old (discovery_hash_input discovery.now) }
 {

@@ -12,8 +12,8 @@ use indexmap::IndexMap;
 use serde_json::Value;
 use std::alloc::{AllocError, Global};
 
-/// What is guarded so far: each key once, in the order of first appearance, and what is kept of its first item. A key is found by
-/// a look-up; its place, from 0, is one below its number.
+/// What is guarded so far: each key once, in the order of first appearance, and what is kept of its first item. A key
+/// is found by a look-up; its place, from 0, is one below its number.
 #[derive(Drop)]
 pub struct Numbers {
     /// By key what is kept of its first item, as its text.

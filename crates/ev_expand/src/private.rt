@@ -91,8 +91,7 @@ fn item_uses(prefix: &str, kind: Kind, item: &Item) -> bool
     match kind {
         Kind::Cds => body_uses(prefix, &item.body),
         Kind::Eds => is_private(prefix, item.name.as_str()),
-        Kind::Lds => false,
-        Kind::Rds => false,
+        Kind::Lds | Kind::Rds | Kind::Sds | Kind::Ecds => false,
     }
 }
 
@@ -122,6 +121,7 @@ fn content_uses(prefix: &str, content: &Content) -> bool
         Content::Assignment(_) => false,
         Content::Listener(_) => false,
         Content::Routes(_) => false,
+        Content::Secret | Content::Extension => false,
     }
 }
 

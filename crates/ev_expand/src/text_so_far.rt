@@ -30,8 +30,8 @@ impl TextSoFar {
         }
     }
 
-    /// Appends the line of a tree to the text, with -1 for each float in it, and answers whether it had room there, by the
-    /// limits of inputs. Where it hadn't, the text stays as it was.
+    /// Appends the line of a tree to the text, with -1 for each float in it, and returns whether it had room there,
+    /// by the limits of inputs. Where it hadn't, the text stays as it was.
     ///
     /// # Errors
     /// `AllocError` where there is no memory for it; the text stays as it was then.

@@ -448,7 +448,8 @@ module _ {V O C : Type 0} (opening : V → O) (commits : V → List (ℕ × C)) 
   word_2 : (words : List ℕ) (a b c n : ℕ) → words ≡ a ∷ b ∷ c ∷ [] → set words 2 n ≡ a ∷ b ∷ n ∷ []
   word_2 words a b c n e = ap (λ ws. set ws 2 n) e
 
-  -- the word becomes the version of a beginning, and is not below what it was; an idle seat may have heard of a beginning
+  -- the word becomes the version of a beginning, and is not below what it was;
+  -- an idle seat may have heard of a beginning
   topped : (s : State (Option V) (View O C)) (h : Kept s) (i : ℕ) (v : View O C) → get_elem? s.views i ≡ some v → v.spent ≡ false → v.queued ≡ false → v.serving ≡ false
       → (heard newest : List (ℕ × C)) (known raised n : ℕ) → Continues heard h.since → known ≡ version heard → Continues newest h.since → n ≡ version newest → version h.newest ≤ n → raised ≤ n
       → Kept record { words = set s.words 2 n; homes = s.homes; views = set s.views i (record v { heard = heard; version = known; raised = raised }) }
@@ -803,7 +804,7 @@ module _ {V O C : Type 0} (opening : V → O) (commits : V → List (ℕ × C)) 
           (at_set s.views i j (joined_view v w) u t.1))
           (at_set (set s.views i (joined_view v w)) other j spent_view u e)
 
-  -- ---- the end: where a seat has taken in all others, the slot has a value that stands for the whole history
+  -- ---- the end: where a seat has taken in all others, the slot has a value that represents the whole history
   pub closes : (i : ℕ) (v : View O C) (ws : List ℕ) (xs : List (Option V)) → v.spent ≡ false → v.serving ≡ false → length v.told + 1 ≡ terms.seats → Final (Seen Kept i v) ws xs → (value : V) × (get_elem? xs 0 ≡ some (Some value)) × IsLast opening commits terms v value
   closes i v ws xs live out all f = at_home f.1.0.slot
     where

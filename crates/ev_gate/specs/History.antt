@@ -13,7 +13,8 @@ GrowsWithout {C} n earlier later = (more : List (ℕ × C)) × (later ≡ earlie
 abbrev pub Continues : {C : Type 0} → List (ℕ × C) → List (ℕ × C) → Type 0
 Continues {C} earlier later = (more : List (ℕ × C)) × (later ≡ earlier ++ more)
 
--- What a seat knows: its number, the opening of the gate's value, the commits that the value stood for at the start, and the commits since then that it has seen.
+-- What a seat knows: its number, the opening of the gate's value, the commits that the value represented at the start,
+-- and the commits since then that it has seen.
 pub record Knowledge (O C : Type 0) : Type 0 where
   pub number : ℕ
   pub opening : Option O

@@ -35,7 +35,8 @@ module _ {V O C : Type 0} where
     pub ticket_is : it.me.0.ticket % 2 ^ 64 ≡ ticket
     pub holds_nothing : it.me.1 ≡ []
 
-  -- the seat is served: it holds the slot with a value that stands for all that it has now seen, of which nothing new is its own
+  -- the seat is served: it holds the slot with a value that represents all that it has now seen,
+  -- of which nothing new is its own
   pub record IsServed (opening : V → O) (commits : V → List (ℕ × C)) (version_of : O → List (ℕ × C) → ℕ) (before it : Seat (Option V) (View O C)) : Type 0 where
     pub value : V
     pub gate_is : it.table_id ≡ before.table_id

@@ -1,5 +1,6 @@
 -- The rule of a gate's table, and what each step shows.
--- The words are the ticket to be drawn next, the ticket that is served, and the newest version; the one slot has the value.
+-- The words are the ticket to be drawn next, the ticket that is served, and the newest version;
+-- the one slot has the value.
 use Rattle.std.specs.Prelude.{◌≡◌, ◌⊎◌, ℕ, ◌+◌, ◌%◌, ◌^◌, ◌<◌, ◌≤◌, ◌==◌, Bool, true, false, not, max, List, [], ◌∷◌, ◌++◌, length, drop, slice_get, if◌then◌else◌, Option, Some, None, MatchBool}
 use mathlib.Core.Option.{some, none}
 use mathlib.Core.Option as maybe
@@ -15,11 +16,13 @@ abbrev pub count_where : {A : Type 0} → (A → Bool) → List A → ℕ
 count_where p [] = 0
 count_where p (x ∷ xs) = (if p x then 1 else 0) + count_where p xs
 
--- No beginning of these commits has a version above that of all of them. The version is given as a function of the commits since the start.
+-- No beginning of these commits has a version above that of all of them.
+-- The version is given as a function of the commits since the start.
 abbrev pub NoneAbove : {C : Type 0} → (List (ℕ × C) → ℕ) → List (ℕ × C) → Type 0
 NoneAbove {C} version since = (earlier : List (ℕ × C)) → Continues earlier since → version earlier ≤ version since
 
--- what a joined seat knew is so: it had the start, it had seen a beginning of the commits since, of which the rest is not its own, and had heard of a beginning
+-- what a joined seat knew is so: it had the start, it had seen a beginning of the commits since,
+-- of which the rest is not its own, and had heard of a beginning
 pub record WasTold {C : Type 0} (start since : List (ℕ × C)) (e : Joined C) : Type 0 where
   pub start_is : e.start ≡ start
   pub seen : GrowsWithout e.number e.since since
@@ -42,9 +45,12 @@ module _ {O C : Type 0} where
   abbrev pub new_view : ℕ → ℕ → Option O → List (ℕ × C) → ℕ → View O C
   new_view number made opening start version = record { spent = false; number = number; queued = false; serving = false; ticket = 0; opening = opening; start = start; since = []; heard = []; version = version; raised = version; made = made; told = [] }
 
-  -- A seat's number is its place. It knows the opening and the start, it has seen a beginning of the commits since, and what it has not seen is not its own.
-  -- A ticket lies between the served one and the next to be drawn. Who has the value has the served ticket, and has seen all.
-  -- The version that a seat has heard of is that of a beginning of the commits since. What it raised the word to is not above the word.
+  -- A seat's number is its place. It knows the opening and the start, it has seen a beginning of the commits since,
+  -- and what it has not seen is not its own.
+  -- A ticket lies between the served one and the next to be drawn.
+  -- Who has the value has the served ticket, and has seen all.
+  -- The version that a seat has heard of is that of a beginning of the commits since.
+  -- What it raised the word to is not above the word.
   pub record Fits (opening : O) (start : List (ℕ × C)) (version : List (ℕ × C) → ℕ) (since newest : List (ℕ × C)) (drawn served : ℕ) (i : ℕ) (v : View O C) : Type 0 where
     pub number_is : v.number ≡ i
     pub opening_is : v.opening ≡ Some opening
@@ -79,7 +85,7 @@ module _ {O C : Type 0} where
     pub told_is : (k : ℕ) (e : Joined C) → slice_get v.told k ≡ Some e → WasTold start since e
 
 module _ {V O C : Type 0} (opening : V → O) (commits : V → List (ℕ × C)) where
-  -- the slot is at home, with a value that stands for the start and the commits since
+  -- the slot is at home, with a value that represents the start and the commits since
   pub record AtHome (first : V) (since : List (ℕ × C)) (homes : List (maybe.Option (Option V))) : Type 0 where
     pub value : V
     pub there : homes ≡ some (Some value) ∷ []
@@ -132,7 +138,8 @@ module _ {V O C : Type 0} (opening : V → O) (commits : V → List (ℕ × C)) 
   abbrev pub first_view : Terms V → View O C
   first_view terms = new_view 0 1 (Some (opening terms.value.value)) (commits terms.value.value) (version_of (opening terms.value.value) (commits terms.value.value))
 
-  -- The seat is served: it holds the slot, has seen all commits, of which those it had not seen are not its own, and the value stands for them.
+  -- The seat is served: it holds the slot, has seen all commits, of which those it had not seen are not its own,
+  -- and the value represents them.
   -- What it had heard of is a beginning of them, and had no greater version.
   pub record Takes (m n : Me (Option V) (View O C)) : Type 0 where
     pub value : V
@@ -148,7 +155,7 @@ module _ {V O C : Type 0} (opening : V → O) (commits : V → List (ℕ × C)) 
   abbrev pub Looks : Me (Option V) (View O C) → ℕ → Me (Option V) (View O C) → Type 0
   Looks m found n = MatchBool (found == m.0.ticket % 2 ^ 64) (Takes m n) (n ≡ m)
 
-  -- The seat gave the slot back and has no ticket. It has seen what the value stands for, and heard of nothing newer.
+  -- The seat gave the slot back and has no ticket. It has seen what the value represents, and heard of nothing newer.
   pub record Ends (m n : Me (Option V) (View O C)) : Type 0 where
     pub value : V
     pub was : m.1 ≡ (0, Some value) ∷ rest m.1

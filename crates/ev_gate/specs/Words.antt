@@ -49,7 +49,8 @@ module _ {V O C : Type 0} {g : Ghosts V O C} where
   abbrev pub IsPassOf : TableId → ℕ → Pass V O C g → Type 0
   IsPassOf gate number it = (pass_gate it ≡ gate) × ((pass_knows it).number ≡ number)
 
-  -- the passes of a new gate: as many as it has seats, and each with its place for its number, the start seen and no commit of its own
+  -- the passes of a new gate: as many as it has seats, and each with its place for its number,
+  -- the start seen and no commit of its own
   pub record AreNew (gate : TableId) (seats : ℕ) (opening : O) (start : List (ℕ × C)) (passes : List (Pass V O C g)) : Type 0 where
     pub count_is : length passes ≡ seats
     pub gate_is : (k : ℕ) (p : Pass V O C g) → slice_get passes k ≡ Some p → pass_gate p ≡ gate
@@ -61,7 +62,8 @@ module _ {V O C : Type 0} {g : Ghosts V O C} where
     pub count_is : length passes ≡ seats
     pub gate_is : (k : ℕ) (p : Pass V O C g) → slice_get passes k ≡ Some p → pass_gate p ≡ gate
 
-  -- The whole history: the start, and then commits that each bear the number of a seat. Those of a seat are what its pass counts as its own.
+  -- The whole history: the start, and then commits that each bear the number of a seat.
+  -- Those of a seat are what its pass counts as its own.
   -- What a pass has seen, and what it has heard of, are beginnings of it.
   pub record IsWhole (start commits : List (ℕ × C)) (passes : List (Pass V O C g)) : Type 0 where
     pub since : List (ℕ × C)

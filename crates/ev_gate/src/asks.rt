@@ -10,15 +10,15 @@ use crate::view::{GateSeat, NEWEST};
 use std::marker::Brand;
 
 impl<V: Stands> Gate<V> {
-    /// A version that the value's history had at this step, without a turn and without waiting. It is not below any that
-    /// this pass has seen, and counts as one that it has seen. How new it is, no promise says.
+    /// A version that the value's history had at this step, without a turn and without waiting.
+    /// It is not below any that this pass has seen, and counts as one that it has seen. How new it is, no promise says.
     pub fn newest(&self, pass: &mut Pass<V>) -> u64
         requires { pass_gate pass.old ≡ gate_id self.now }
         ensures gate { pass_gate pass.new ≡ gate_id self.now }
         ensures knows { pass_knows pass.new ≡ pass_knows pass.old }
 
-        // The pass has heard of the history that had the version: what the value stood for when the gate was made, and
-        // then perhaps more.
+        // The pass has heard of the history that had the version:
+        // what the value represented when the gate was made, and then perhaps more.
         ensures begins { Continues (V.commits (first_of self.now)) (pass_heard pass.new) }
         ensures version { result ≡ V.version_of (V.opening (first_of self.now)) (pass_heard pass.new) }
         ensures not_below { V.version_of (V.opening (first_of self.now)) (pass_heard pass.old) ≤ result }

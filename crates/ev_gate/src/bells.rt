@@ -11,8 +11,8 @@ const SILENT: u64 = 0;
 
 const SOMEBODY_SLEEPS: u64 = 1;
 
-/// A bell for each of this many tickets in a row. A ring or a sleep that is lost does no harm but to time: who wakes looks
-/// again.
+/// A bell for each of this many tickets in a row. A ring or a sleep that is lost does no harm but
+/// to time: who wakes looks again.
 #[derive(Drop)]
 pub(crate) struct Bells {
     bells: [AtomicU64; BELLS],

@@ -15,7 +15,8 @@ pub struct Gate<V: Stands> {
     ghost some_seat: { 0 < table.shared.key.seats },
 }
 
-/// A seat's right to take its turn at the gate that made it. It must be spent: give it to a turn, and at last to `close`.
+/// A seat's right to take its turn at the gate that made it. It must be spent:
+/// give it to a turn, and at last to `close`.
 pub struct Pass<V: Stands> {
     pub(crate) seat: GateSeat<V>,
     // The greatest version that the seat has heard of.

@@ -1,6 +1,6 @@
 //! A lock whose history can be told.
 //!
-//! A gate keeps one value and lets one seat at a time have it. A value stands for a list of commits, each with the
+//! A gate keeps one value and lets one seat at a time have it. A value represents a list of commits, each with the
 //! number of the seat that made it. Who has the value knows the whole list, and that its own commits in it are those
 //! that it made and no others; who closes the gate knows it of every seat.
 //! A gate also reports the newest version of its value without a turn.
@@ -8,7 +8,7 @@
 //!
 //! # What it is
 //!
-//! A gate is a lock around one value whose history can be told. The value *stands for* a list of commits, each beside
+//! A gate is a lock around one value whose history can be told. The value *represents* a list of commits, each beside
 //! the number of the seat that made it, and has an *opening* that no commit changes. It also has a *version*, a
 //! number that opening and commits determine and that does not fall along its history. It implements the trait
 //! `Stands`, whose ghost members say what the three are. A gate has 1 to 20 seats. `Gate::new` gives a pass for each;
@@ -53,7 +53,7 @@
 //!
 //! # The rule, in plain words
 //!
-//! Beside its number a seat knows the opening, the commits that the value stood for at the start, the commits since
+//! Beside its number a seat knows the opening, the commits that the value represented at the start, the commits since
 //! then that it has seen, and whether it has a ticket, which one, and whether that is served. Tickets are counted
 //! without end here, and modulo 2^64 in the words. It also knows the greatest version that it has heard of, *the
 //! beginning of the history that had it*, and the version to which it has raised the word `newest`. The first seat
@@ -69,7 +69,7 @@
 //!    `since`, and the rest of `since` has no commit of this seat;
 //! 4. a ticket is not below `served` and is below `drawn`; no two seats have the same;
 //! 5. who is served has the ticket `served`, and has seen all of `since`;
-//! 6. the slot is at home, with a value of the gate's opening that stands for the start and then `since`; or it is
+//! 6. the slot is at home, with a value of the gate's opening that represents the start and then `since`; or it is
 //!    out, and a seat is served;
 //! 7. the number of a seat that is not made yet has no commit in `since`;
 //! 8. the first seat's count of seats is right; what a seat was told by those that it took in is so (3 and 9 hold of
@@ -106,7 +106,7 @@
 //! `Turn::quit` raises the word too, to the version of the value that it saw, which the seat that made the commit may
 //! not have done yet. So a pass at rest has always raised the word to the version that it knows: its type says so,
 //! and a turn's end that left the raise out would not give a pass. `Gate::newest` is one step, a maximum of the word
-//! and the version that the pass knows, and answers the greater.
+//! and the version that the pass knows, and returns the greater.
 //!
 //! - *The answer is a version that the history had at that step.* The word is the version of a beginning of `since`
 //!   (1), and so is the version that the pass knows (9). Which beginning, the pass then knows: a bare number could be
@@ -128,7 +128,7 @@
 //!
 //! Of `newest`: that an answer is the last version there is, or that it comes within some time after a commit.
 //! Between the end of a turn and its raise the word lags, and a pass that has seen nothing new can be told the
-//! older version. No clause says that the call looks at the word at all: a body that answers the version that the
+//! older version. No clause says that the call looks at the word at all: a body that returns the version that the
 //! pass knows would meet every clause. The tests alone refuse it: a pass that made no turn is told a version that
 //! another published, and after two seats have published 300 times each, every pass is told 600.
 //!
@@ -162,10 +162,11 @@
 //!   it.
 //! - `Turn::value` says by a clause on the loan what the turn has after the write, so a caller needs no proof file
 //!   for it.
-//! - A waiting thread sleeps at a bell of its own, and the end of a turn wakes the one that is next, if it sleeps: to wake
-//!   all that wait took run twice to three times the time. Bells are kept beside the table, and no clause speaks of them: a
-//!   wake that is spurious does no harm, since a thread looks again, and none is lost, since a thread looks once more after
-//!   it has said that it will sleep.
+//! - A waiting thread sleeps at a bell of its own, and the end of a turn wakes the one
+//!   that is next, if it sleeps: to wake all that wait took run twice to three times the time.
+//!   Bells are kept beside the table, and no clause speaks of them:
+//!   a wake that is spurious does no harm, since a thread looks again, and none is lost,
+//!   since a thread looks once more after it has said that it will sleep.
 //! - `Gate` has no `Drop` either: its value need not be `Drop`, so a gate ends in `close`.
 //! - `turn` asks for a runtime that may start threads and wait (`Threads + Wait + Sync`), as each call of the
 //!   threaded run does; it uses `Wait` alone.
@@ -179,9 +180,9 @@
 //! - `quit` raises the word as well. It costs one step, and with it 'a pass at rest has raised the word to the
 //!   version that it knows' is a fact of the type `Pass`, so that a `done` that raises nothing is refused by the
 //!   proof and not by tests alone.
-//! - `newest` is one maximum of the word and the version that the pass knows, and answers the greater. Since no pass
+//! - `newest` is one maximum of the word and the version that the pass knows, and returns the greater. Since no pass
 //!   at rest knows a version above the word, a load would do.
-//! - No clause refuses a `newest` that answers the version known and looks at no word, so that one is left to the
+//! - No clause refuses a `newest` that returns the version known and looks at no word, so that one is left to the
 //!   tests; the other wrong bodies of `newest` are must-fail edits.
 #![tactic(auto)]
 

@@ -14,8 +14,8 @@ use std::marker::Brand;
 use std::sync::Wait;
 use std::thread::Threads;
 
-// How often a seat looks whether its ticket is served before it sleeps. Where seats contend for short turns, a sleep and its
-// wake cost far more than the turn.
+// How often a seat looks whether its ticket is served before it sleeps.
+// Where seats contend for short turns, a sleep and its wake cost far more than the turn.
 const LOOKS: u32 = 100;
 
 impl<V: Stands> Gate<V> {
@@ -29,7 +29,7 @@ impl<V: Stands> Gate<V> {
         ensures seen { let k = pass_knows pass in GrowsWithout k.number k.since (turn_knows result).since }
         ensures mine { mine_of (turn_knows result) ≡ mine_of (pass_knows pass) }
 
-        // The value has the gate's opening, and stands for all that the seat has now seen.
+        // The value has the gate's opening, and represents all that the seat has now seen.
         ensures opening { Some (V.opening (turn_value result)) ≡ (turn_knows result).opening }
         ensures history { V.commits (turn_value result) ≡ seen_of (turn_knows result) }
 
@@ -66,8 +66,8 @@ impl<V: Stands> Gate<V> {
         unreachable!()
     }
 
-    // Between two looks of a seat that has looked so often since it slept: after enough of them it says that it will sleep, looks
-    // once more, and sleeps.
+    // Between two looks of a seat that has looked so often since it slept:
+    // after enough of them it says that it will sleep, looks once more, and sleeps.
     fn wait<R: Wait>(&self, rt: &R, ticket: u64, looks: u32) {
         if looks == LOOKS {
             self.bells.announce(ticket);
@@ -120,8 +120,8 @@ impl<'a, V: Stands> Turn<'a, V> {
         self.put_back()
     }
 
-    /// Ends the turn without a commit: the value stands for what it stood for at the turn. The pass has seen that. The
-    /// gate's newest version is then not below the value's.
+    /// Ends the turn without a commit: the value represents what it represented at the turn.
+    /// The pass has seen that. The gate's newest version is then not below the value's.
     pub fn quit(self) -> Pass<V>
         requires opening { Some (V.opening (turn_value self)) ≡ (turn_knows self).opening }
         requires same { V.commits (turn_value self) ≡ seen_of (turn_knows self) }

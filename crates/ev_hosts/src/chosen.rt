@@ -11,8 +11,8 @@ use ev_types::{Assignment, Host, HostRow, Seq, Shared, TryCopy};
 use std::alloc::{AllocError, Global};
 use std::marker::Model;
 
-/// The hosts of a cluster that may be chosen, in the order of its assignment: the assignment, which is shared, and a mark for each
-/// of its rows. Contracts see the rows that are marked.
+/// The hosts of a cluster that may be chosen, in the order of its assignment:
+/// the assignment, which is shared, and a mark for each of its rows. Contracts see the rows that are marked.
 #[derive(Drop)]
 pub struct ChosenHosts {
     rows: Shared<Assignment>,
@@ -56,8 +56,8 @@ impl ChosenHosts {
         host_at(self.rows.get().rows(), &self.marks, place)
     }
 
-    /// The place of the host that a pick takes: the first of the lowest priority where the sum of the first weights is above the
-    /// pick modulo the whole sum. There is none where there is no host.
+    /// The place of the host that a pick takes: the first of the lowest priority where the sum
+    /// of the first weights is above the pick modulo the whole sum. There is none where there is no host.
     pub fn host_place(&self, pick: u64) -> Option<u32>
         ensures { result ≡ host_place self.now pick }
     {

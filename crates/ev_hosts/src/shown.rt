@@ -1,10 +1,11 @@
 use crate::chosen::ChosenHosts;
+use ev_model::Secrets;
 use ev_types::{Gen, Name, TryCopy};
 use std::alloc::{AllocError, Global};
 use std::marker::Model;
 
-/// An active cluster as workers see it, with the hosts that may be chosen, in the order of its assignment, which it shares. Contracts
-/// see it as the model's cluster of a picture.
+/// An active cluster as workers see it, with the hosts that may be chosen, in the order of its assignment,
+/// which it shares. Contracts see it as the model's cluster of a picture.
 #[derive(Drop)]
 pub struct ShownCluster {
     pub number: Gen,
@@ -12,6 +13,8 @@ pub struct ShownCluster {
     pub hosts: ChosenHosts,
     /// Whether Envoy, or an extension of it, finds the host of each connection by itself.
     pub elsewhere: bool,
+    /// What is known of its secrets.
+    pub secrets: Secrets,
 }
 
 impl Model for ShownCluster {
@@ -24,6 +27,7 @@ impl Model for ShownCluster {
       name = c.name;
       hosts = c.hosts;
       elsewhere = c.elsewhere;
+      secrets = c.secrets;
     } };
 }
 
@@ -34,6 +38,7 @@ impl TryCopy for ShownCluster {
             name: self.name.copy(alloc)?,
             hosts: self.hosts.copy(alloc)?,
             elsewhere: self.elsewhere,
+            secrets: self.secrets,
         })
     }
 }
@@ -51,6 +56,7 @@ impl PartialEq for ShownCluster {
             && self.name == other.name
             && self.hosts == other.hosts
             && self.elsewhere == other.elsewhere
+            && self.secrets == other.secrets
     }
 }
 

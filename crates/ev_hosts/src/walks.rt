@@ -10,7 +10,8 @@ ghost use Rattle.ev_hosts.specs.Chosen.{chosen_by, lowest_of, lowest_with, Skips
 use crate::marks::Marks;
 use ev_types::{Host, HostRow};
 
-/// The lowest priority of the rows that are marked, if there is one. No priority is lower than 0, so a row of 0 ends the walk.
+/// The lowest priority of the rows that are marked, if there is one.
+/// No priority is lower than 0, so a row of 0 ends the walk.
 pub(crate) fn lowest_priority(rows: &[HostRow], marks: &Marks) -> Option<u8>
     requires { length marks.now ≡ length rows.now }
     ensures { result ≡ lowest_of (chosen_by marks.now rows.now) }
@@ -67,7 +68,8 @@ pub(crate) fn weight_sum(rows: &[HostRow], marks: &Marks, priority: u8) -> u64
     sum
 }
 
-/// The first place where the weights of this priority up to it, and its own, sum to more than n, among the rows that are marked.
+/// The first place where the weights of this priority up to it, and its own, sum to more than n,
+/// among the rows that are marked.
 pub(crate) fn place_above(rows: &[HostRow], marks: &Marks, priority: u8, n: u64) -> Option<u32>
     requires marked { length marks.now ≡ length rows.now }
     requires few { length rows.now < ROW_LIMIT }

@@ -1,4 +1,4 @@
--- A host that is as healthy as a result says, of a state and of the worlds that it stands for.
+-- A host that is as healthy as a result says, of a state and of the worlds that it represents.
 use Rattle.std.proofs.Common.{◌≡◌, ◌∙◌, ℕ, Bool, true, false, true≢false, ◌||◌, nat_eq, List, [], ◌∷◌, Option, None, Some, IsSome, unwrap_or, refl, sym, ap}
 use Rattle.std.specs.List.{list_all}
 use Rattle.std.proofs.lemmas.Bool.{and_parts, eqb-true}
@@ -7,8 +7,9 @@ use Rattle.ev_types.specs.declared.hosts.Host.{Host}
 use Rattle.ev_types.specs.declared.rows.GenRow.{GenRow}
 use Rattle.ev_model.specs.Warming.{is_healthy}
 use Rattle.ev_model.specs.World.{World}
-use Rattle.ev_endpoints.specs.Kept.{result_in}
-use Rattle.ev_generations.specs.Tables.{row_in}
+use Rattle.ev_indexes.specs.KeptEndpoints.{result_in}
+use Rattle.ev_indexes.specs.Tables.{row_in}
+use Rattle.ev_mentions.specs.declared.kind_keys.Key.{Key}
 use Rattle.ev_indexes.specs.declared.state.State.{State}
 use Rattle.ev_indexes.specs.Due.{is_one_of}
 use Rattle.ev_indexes.specs.Indexes.{IsIndexed, numbers_where, passes, serves}
@@ -27,14 +28,14 @@ all-one p (m ∷ ns) n all one =
     by here true e h rest = ap p (eqb-true n m e) ∙ here
     by here false e h rest = rest h
 
-pub as-healthy-world : (s : State) (world : World) → HasRows s world → IsIndexed s → (name : List ℕ) (host : Host) (healthy : Bool)
-    → is_as_healthy s name host healthy ≡ true → (n : ℕ) → is_one_of (numbers_where (serves name) s.table.rows) n ≡ true
+pub as-healthy-world : (s : State) (world : World) → HasRows s world → IsIndexed s → (key : Key) (host : Host) (healthy : Bool)
+    → is_as_healthy s key host healthy ≡ true → (n : ℕ) → is_one_of (numbers_where (serves key) s.table.rows) n ≡ true
     → is_healthy world.results n host ≡ healthy
-as-healthy-world s world stands x name host healthy all n one =
-    sym (stands.healthy n host (found (row_in n s.table.rows) (sym (among-row (serves name) n s.table.rows x.table.apart) ∙ one)))
+as-healthy-world s world stands x key host healthy all n one =
+    sym (stands.healthy n host (found (row_in n s.table.rows) (sym (among-row (serves key) n s.table.rows x.table.apart) ∙ one)))
     ∙ (bool_decides (unwrap_or (result_in s.results n host) false) healthy).0
-    (all-one (λ m. bool_same (unwrap_or (result_in s.results m host) false) healthy) (numbers_where (serves name) s.table.rows) n all one)
+    (all-one (λ m. bool_same (unwrap_or (result_in s.results m host) false) healthy) (numbers_where (serves key) s.table.rows) n all one)
   where
-    found : (o : Option GenRow) → passes (serves name) o ≡ true → IsSome o
+    found : (o : Option GenRow) → passes (serves key) o ≡ true → IsSome o
     found None h = absurd (true≢false (sym h))
     found (Some row) h = refl

@@ -1,24 +1,18 @@
 -- Who holds an address: by the index, by the rows, and in the world.
-use Rattle.std.proofs.Common.{◌≡◌, ◌∙◌, Bool, true, false, cond, List, [], ◌∷◌, ◌++◌, Some, option_to_list, filter, map, refl, sym, ap, true≢false}
+use Rattle.std.proofs.Common.{◌≡◌, ◌∙◌, ◌&&◌, Bool, true, false, cond, List, [], ◌∷◌, ◌++◌, Some, option_to_list, filter, map, refl, ap}
 use Rattle.std.specs.List.{flat_map, AllByRecursion}
-use Rattle.ev_types.specs.Items.{content_kind}
-use Rattle.ev_types.specs.Kinds.{kind_same}
 use Rattle.ev_types.specs.Statuses.{is_live}
-use Rattle.ev_types.specs.declared.contents.Kind.{Kind}
-use Rattle.ev_types.specs.declared.contents.Kind.TheVariants.{Lds}
-use Rattle.ev_types.specs.declared.contents.Content.{Content}
-use Rattle.ev_types.specs.declared.contents.Content.TheVariants.{Cluster, Assignment, Listener, Routes}
 use Rattle.ev_types.specs.declared.hosts.SocketAddress.{SocketAddress}
 use Rattle.ev_types.specs.declared.rows.GenRow.{GenRow}
 use Rattle.ev_model.specs.World.{World}
 use Rattle.ev_model.specs.Live.{live_of}
-use Rattle.ev_generations.specs.Tables.{row_in, numbers_of}
+use Rattle.ev_indexes.specs.Tables.{row_in, numbers_of}
 use Rattle.ev_mentions.specs.Lives.{is_at}
 use Rattle.ev_indexes.specs.declared.state.State.{State}
 use Rattle.ev_indexes.specs.Addresses.{listens_at, lives_numbered, lives_listed}
 use Rattle.ev_indexes.specs.Indexes.{IsIndexed, holds, numbers_where}
 use Rattle.ev_indexes.specs.Reads.{holders_in, holders_of}
-use Rattle.ev_indexes.specs.Worlds.{HasRows, rows_of_kind}
+use Rattle.ev_indexes.specs.Worlds.{HasRows}
 use Rattle.ev_indexes.proofs.WhereLemmas.{own-rows}
 
 found_all : (test : GenRow → Bool) (full rows : List GenRow) → AllByRecursion (λ (r : GenRow). row_in r.number full ≡ Some r) rows
@@ -31,37 +25,25 @@ found_all test full (row ∷ rows) own = by (test row) (found_all test full rows
     by true more = λ i. option_to_list (own.0 i) ++ more i
     by false more = more
 
-kind_by : (address : SocketAddress) (content : Content) (kind : Kind) → content_kind content ≡ kind → listens_at address content ≡ true → kind ≡ Lds
-kind_by address (Cluster cluster) kind typed at = absurd (true≢false (sym at))
-kind_by address (Assignment rows) kind typed at = absurd (true≢false (sym at))
-kind_by address (Listener listener) kind typed at = sym typed
-kind_by address (Routes table) kind typed at = absurd (true≢false (sym at))
-
--- who holds an address in the world, of which only listeners can
-among_holders : (address : SocketAddress) (rows : List GenRow) → AllByRecursion (λ (row : GenRow). content_kind row.content ≡ row.kind) rows
-    → map live_of (filter (holds address) (rows_of_kind Lds rows)) ≡ filter (is_at address) (map live_of (filter (λ (row : GenRow). is_live row.status) rows))
-among_holders address [] typed = refl
-among_holders address (row ∷ rows) typed =
-    by (kind_same row.kind Lds) (is_live row.status) (listens_at address row.content) refl refl refl (among_holders address rows typed.1)
+-- who holds an address in the world
+among_holders : (address : SocketAddress) (rows : List GenRow)
+    → map live_of (filter (holds address) rows) ≡ filter (is_at address) (map live_of (filter (λ (row : GenRow). is_live row.status) rows))
+among_holders address [] = refl
+among_holders address (row ∷ rows) = by (is_live row.status) (listens_at address row.content) refl (among_holders address rows)
   where
-    by : (k l a : Bool) → kind_same row.kind Lds ≡ k → is_live row.status ≡ l → listens_at address row.content ≡ a
-        → map live_of (filter (holds address) (rows_of_kind Lds rows)) ≡ filter (is_at address) (map live_of (filter (λ (r : GenRow). is_live r.status) rows))
-        → map live_of (filter (holds address) (cond k (row ∷ rows_of_kind Lds rows) (rows_of_kind Lds rows)))
+    by : (l a : Bool) → listens_at address row.content ≡ a
+        → map live_of (filter (holds address) rows) ≡ filter (is_at address) (map live_of (filter (λ (r : GenRow). is_live r.status) rows))
+        → map live_of (cond (l && a) (row ∷ filter (holds address) rows) (filter (holds address) rows))
         ≡ filter (is_at address) (map live_of (cond l (row ∷ filter (λ (r : GenRow). is_live r.status) rows) (filter (λ (r : GenRow). is_live r.status) rows)))
-    by true true true k l a more = simp (l, a) (ap (λ ls. live_of row ∷ ls) more)
-    by true true false k l a more = simp (l, a) more
-    by true false a k l at more = simp (l) more
-    by false true true k l a more = absurd (true≢false (sym (ap (λ q. kind_same q Lds) (kind_by address row.content row.kind typed.0 a)) ∙ k))
-    by false true false k l a more = simp (a) more
-    by false false a k l at more = more
+    by true true a more = simp (a) (ap (λ ls. live_of row ∷ ls) more)
+    by true false a more = simp (a) more
+    by false a at more = more
 
 module _ (s : State) (x : IsIndexed s) (address : SocketAddress) where
   -- the generations that the index has at an address are the rows that hold it
   pub holders-rows : lives_listed s.table.rows s.addresses address ≡ holders_in s.table.rows address
   holders-rows = ap (lives_numbered s.table.rows) (x.holders address) ∙ ap (map live_of) (found_all (holds address) s.table.rows s.table.rows (own-rows s.table.rows x.table.apart))
 
-  -- and of listeners those of the world
-  pub holders-world : (world : World) → s.kind ≡ Lds → HasRows s world → holders_in s.table.rows address ≡ holders_of world address
-  holders-world world lds stands =
-      ap (λ (rows : List GenRow). holders_in rows address) (stands.rows ∙ (λ i. rows_of_kind (lds i) world.rows))
-      ∙ among_holders address world.rows stands.sound.typed
+  -- and those of the world
+  pub holders-world : (world : World) → HasRows s world → holders_in s.table.rows address ≡ holders_of world address
+  holders-world world stands = ap (λ (rows : List GenRow). holders_in rows address) stands.rows ∙ among_holders address world.rows

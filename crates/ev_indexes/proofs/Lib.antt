@@ -1,8 +1,13 @@
+pub mod ResultLemmas
+pub mod RoundLemmas
+pub mod MarkLemmas
+pub mod TableLemmas
+pub mod StoredLemmas
 pub mod KeptLemmas
 pub mod NumberLemmas
 pub mod WhereLemmas
 pub mod SoundLemmas
-pub mod PlaceLemmas
+pub mod NeedLemmas
 pub mod DependencyLemmas
 pub mod WorldLemmas
 pub mod NewLemmas
@@ -18,3 +23,4 @@ pub mod MovedLemmas
 pub mod RowLemmas
 pub mod HealthyLemmas
 pub mod HolderLemmas
+pub mod OriginLemmas

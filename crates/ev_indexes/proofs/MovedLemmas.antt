@@ -4,11 +4,12 @@ use Rattle.std.proofs.lemmas.List.{append-nil}
 use Rattle.std.specs.Prelude.{nat_le}
 use Rattle.std.specs.List.{list_any, flat_map}
 use Rattle.std.specs.Map.{lookup}
-use Rattle.std.specs.Str.{bytes_eq}
 use Rattle.std.proofs.lemmas.Bool.{leb-true, leb-false}
 use Rattle.std.proofs.lemmas.Grind.{flat_map-append}
 use Rattle.ev_types.specs.declared.rows.GenRow.{GenRow}
-use Rattle.ev_generations.specs.Tables.{numbers_of}
+use Rattle.ev_indexes.specs.Tables.{numbers_of}
+use Rattle.ev_mentions.specs.Keys.{key_same}
+use Rattle.ev_mentions.specs.declared.kind_keys.Key.{Key}
 use Rattle.ev_indexes.specs.declared.state.State.{State}
 use Rattle.ev_indexes.specs.declared.watches.Watch.{Watch}
 use Rattle.ev_indexes.specs.Watched.{unwatched}
@@ -70,22 +71,22 @@ first-where made test (row ∷ rows) = by (test row) (first-where made test rows
     by false rest = rest ∙ (λ i. and_false (nat_le row.number made) i || list_any (λ (row : GenRow). nat_le row.number made && test row) rows)
 
 -- a name is held where one of those that wait for it, without a limit or within one, is one of the first
-held-by : (made : ℕ) (name : List ℕ) (rows : List GenRow)
-    → (list_any (λ n. nat_le n made) (numbers_where (waits name false) rows) || list_any (λ n. nat_le n made) (numbers_where (waits name true) rows)) ≡ is_held made rows name
-held-by made name rows =
-    (λ i. first-where made (waits name false) rows i || first-where made (waits name true) rows i)
-    ∙ sym (any-either (λ (row : GenRow). nat_le row.number made && depends_on name row) (λ (row : GenRow). nat_le row.number made && waits name false row)
-    (λ (row : GenRow). nat_le row.number made && waits name true row)
-    (λ row. ap (λ b. nat_le row.number made && b) (depends_on-waits name row) ∙ spread (nat_le row.number made) (waits name false row) (waits name true row)) rows)
+held-by : (made : ℕ) (key : Key) (rows : List GenRow)
+    → (list_any (λ n. nat_le n made) (numbers_where (waits key false) rows) || list_any (λ n. nat_le n made) (numbers_where (waits key true) rows)) ≡ is_held made rows key
+held-by made key rows =
+    (λ i. first-where made (waits key false) rows i || first-where made (waits key true) rows i)
+    ∙ sym (any-either (λ (row : GenRow). nat_le row.number made && depends_on key row) (λ (row : GenRow). nat_le row.number made && waits key false row)
+    (λ (row : GenRow). nat_le row.number made && waits key true row)
+    (λ row. ap (λ b. nat_le row.number made && b) (depends_on-waits key row) ∙ spread (nat_le row.number made) (waits key false row) (waits key true row)) rows)
   where
     spread : (m a b : Bool) → (m && (a || b)) ≡ ((m && a) || (m && b))
     spread true a b = refl
     spread false a b = refl
 
-pub held-found : (s : State) (x : IsIndexed s) (made : ℕ) (name : List ℕ) (o : Option Watch) → lookup (bytes_eq name) s.watches ≡ o
-    → (list_any (λ n. nat_le n made) (unwrap_or o unwatched).unlimited || list_any (λ n. nat_le n made) (unwrap_or o unwatched).limited) ≡ is_held made s.table.rows name
-held-found s x made name o found =
-    (λ i. list_any (λ n. nat_le n made) (sym (kept_at-found unwatched s.watches name o found) i).unlimited
-    || list_any (λ n. nat_le n made) (sym (kept_at-found unwatched s.watches name o found) i).limited)
-    ∙ (λ i. list_any (λ n. nat_le n made) (x.unlimited name i) || list_any (λ n. nat_le n made) (x.limited name i))
-    ∙ held-by made name s.table.rows
+pub held-found : (s : State) (x : IsIndexed s) (made : ℕ) (key : Key) (o : Option Watch) → lookup (key_same key) s.watches ≡ o
+    → (list_any (λ n. nat_le n made) (unwrap_or o unwatched).unlimited || list_any (λ n. nat_le n made) (unwrap_or o unwatched).limited) ≡ is_held made s.table.rows key
+held-found s x made key o found =
+    (λ i. list_any (λ n. nat_le n made) (sym (kept_at-found unwatched s.watches key o found) i).unlimited
+    || list_any (λ n. nat_le n made) (sym (kept_at-found unwatched s.watches key o found) i).limited)
+    ∙ (λ i. list_any (λ n. nat_le n made) (x.unlimited key i) || list_any (λ n. nat_le n made) (x.limited key i))
+    ∙ held-by made key s.table.rows

@@ -1,5 +1,5 @@
--- Lists of names, sorted and each once: what stands in them, that two with the same names are one, and the names that are watched, as a
--- list and by a test.
+-- Lists of names, sorted and each once: what stands in them, that two with the same names are one,
+-- and the names that are watched, as a list and by a test.
 use Rattle.std.proofs.Common.{◌≡◌, ℕ, Bool, true, false, not, ◌||◌, ◌&&◌, cond, List, [], ◌∷◌, filter, map, refl, sym, ap, subst, ◌∙◌}
 use Rattle.std.specs.Cmp.Lexicographic.{slice_cmp}
 use Rattle.std.specs.List.{AllByRecursion, list_any, flat_map, dedup, dedup_from}
@@ -23,10 +23,11 @@ use Rattle.ev_model.specs.Versions.{is_before}
 use Rattle.ev_model.specs.Verdicts.{is_among}
 use Rattle.ev_model.specs.Watching.{Dependency, dependencies_of, is_dependency, is_watched, names_awaited, sorted_names, watched_by}
 use Rattle.ev_model.specs.Requests.{other_than}
+use Rattle.ev_mentions.specs.Keys.{named}
 use Rattle.ev_indexes.specs.Indexes.{depends_on}
-use Rattle.ev_indexes.specs.Needs.{is_needed, names_of, needs_at, places_of}
+use Rattle.ev_indexes.specs.Needs.{is_on, is_needed, needs_of}
 use Rattle.ev_indexes.specs.Reads.{live_rows, names_needed, names_watched}
-use Rattle.ev_indexes.proofs.PlaceLemmas.{any-places}
+use Rattle.ev_indexes.proofs.NeedLemmas.{any_needs}
 use Rattle.ev_indexes.proofs.SortLemmas.{sorted-unique, sorted_by-dedup}
 
 or_turn : (a b c : Bool) → (a || (b || c)) ≡ (b || (a || c))
@@ -163,27 +164,24 @@ pub among_flat : {X : Type 0} (f : X → List (List ℕ)) (xs : List X) (name : 
 among_flat f [] name = refl
 among_flat f (x ∷ xs) name = list_any-append (λ n. bytes_eq n name) (f x) (flat_map f xs) ∙ ap (λ b. is_among name (f x) || b) (among_flat f xs name)
 
-among_names : (name : List ℕ) (ds : List Dependency) → is_among name (names_of ds) ≡ is_needed name ds
-among_names name [] = refl
-among_names name (d ∷ ds) = ap (λ b. bytes_eq d.name name || b) (among_names name ds)
-
--- a name stands among those that a content depends on at its places where it depends on it
-pub among_places : (name : List ℕ) (content : Content) → is_among name (names_of (needs_at (places_of content))) ≡ is_needed name (dependencies_of content)
-among_places name content =
-    among_names name (needs_at (places_of content)) ∙ any-places (λ (d : Dependency). bytes_eq d.name name) content
+-- a name stands among those of a kind that a content depends on at its places where it depends on it
+pub among_places : (kind : Kind) (name : List ℕ) (content : Content)
+    → is_among name (names_awaited kind (needs_of content)) ≡ is_needed (named kind name) (dependencies_of content)
+among_places kind name content =
+    awaited_is kind name (needs_of content) ∙ any_needs (is_on (named kind name)) content
 
 -- and among those that live rows depend on where one of them does
-pub among-watched : (rows : List GenRow) (name : List ℕ) → is_among name (names_watched rows) ≡ list_any (depends_on name) rows
-among-watched rows name = among_sorted (names_needed rows) name ∙ by rows
+pub among-watched : (kind : Kind) (rows : List GenRow) (name : List ℕ) → is_among name (names_watched kind rows) ≡ list_any (depends_on (named kind name)) rows
+among-watched kind rows name = among_sorted (names_needed kind rows) name ∙ by rows
   where
-    by : (rs : List GenRow) → is_among name (names_needed rs) ≡ list_any (depends_on name) rs
+    by : (rs : List GenRow) → is_among name (names_needed kind rs) ≡ list_any (depends_on (named kind name)) rs
     by [] = refl
     by (row ∷ rs) = over (is_live row.status) (by rs)
       where
-        over : (b : Bool) → is_among name (names_needed rs) ≡ list_any (depends_on name) rs
-            → is_among name (flat_map (λ (r : GenRow). names_of (needs_at (places_of r.content))) (cond b (row ∷ live_rows rs) (live_rows rs)))
-            ≡ ((b && is_needed name (dependencies_of row.content)) || list_any (depends_on name) rs)
+        over : (b : Bool) → is_among name (names_needed kind rs) ≡ list_any (depends_on (named kind name)) rs
+            → is_among name (flat_map (λ (r : GenRow). names_awaited kind (needs_of r.content)) (cond b (row ∷ live_rows rs) (live_rows rs)))
+            ≡ ((b && is_needed (named kind name) (dependencies_of row.content)) || list_any (depends_on (named kind name)) rs)
         over true rest =
-            list_any-append (λ n. bytes_eq n name) (names_of (needs_at (places_of row.content))) (names_needed rs)
-            ∙ (λ i. among_places name row.content i || rest i)
+            list_any-append (λ n. bytes_eq n name) (names_awaited kind (needs_of row.content)) (names_needed kind rs)
+            ∙ (λ i. among_places kind name row.content i || rest i)
         over false rest = rest

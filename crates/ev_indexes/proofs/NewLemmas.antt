@@ -1,10 +1,11 @@
--- A state in which nothing is known: its indexes are searches of no rows, and it stands for a world in which nothing happened.
+-- A state in which nothing is known: its indexes are searches of no rows,
+-- and it represents a world in which nothing happened.
 use Rattle.std.proofs.Common.{◌≡◌, ◌∙◌, ℕ, true, false, List, [], IsSome, option_to_list, refl, sym, subst}
-use Rattle.std.specs.List.{IsDistinct, AllByRecursion}
+use Rattle.std.specs.List.{IsDistinct}
 use Rattle.ev_types.specs.declared.rows.GenRow.{GenRow}
 use Rattle.ev_model.specs.World.{opening}
-use Rattle.ev_endpoints.specs.Kept.{result_in, marked_in}
-use Rattle.ev_generations.specs.Tables.{IsTable, row_in}
+use Rattle.ev_indexes.specs.KeptEndpoints.{result_in, marked_in}
+use Rattle.ev_indexes.specs.Tables.{IsTable, row_in}
 use Rattle.ev_indexes.specs.declared.state.State.{State}
 use Rattle.ev_indexes.specs.Addresses.{numbers_at}
 use Rattle.ev_indexes.specs.Due.{is_one_of}
@@ -18,13 +19,12 @@ empty_table : (made : ℕ) → IsTable (record { rows = []; made = made })
 unfolding IsDistinct
 empty_table made = record { apart = tt; drawn = λ number above. refl }
 
-module _ (s : State) (rows : s.table.rows ≡ []) (names : s.names ≡ []) (watches : s.watches ≡ []) (addresses : s.addresses ≡ []) (results : s.results ≡ record { hosts = []; marked = [] }) (due : s.due ≡ []) where
+module _ (s : State) (rows : s.table.rows ≡ []) (made : s.table.made ≡ 0) (names : s.names ≡ []) (watches : s.watches ≡ []) (addresses : s.addresses ≡ []) (results : s.results ≡ record { hosts = []; marked = [] }) (due : s.due ≡ []) where
   pub indexed-new : IsIndexed s
   indexed-new = record {
     table =
         let same : s.table ≡ record { rows = []; made = s.table.made } = λ i. record { rows = rows i; made = s.table.made } in
         subst IsTable (sym same) (empty_table s.table.made);
-    kinds = subst (AllByRecursion (λ (row : GenRow). row.kind ≡ s.kind)) (sym rows) tt;
     active = λ q. (λ i. option_to_list (standing_in (names i) q).active) ∙ (λ i. numbers_where (serves q) (sym rows i));
     warming = λ q. (λ i. option_to_list (standing_in (names i) q).warming) ∙ (λ i. numbers_where (warms q) (sym rows i));
     unlimited = λ q. (λ i. (watch_in (watches i) q).unlimited) ∙ (λ i. numbers_where (waits q false) (sym rows i));
@@ -39,6 +39,7 @@ module _ (s : State) (rows : s.table.rows ≡ []) (names : s.names ≡ []) (watc
   stands-new workers node = record {
     sound = record { table = empty_table 0; typed = tt; named = tt; heard = λ n h above. refl };
     rows = rows;
+    made = made;
     told = λ q. λ i. (watch_in (watches i) q).told;
     timed = λ q. λ i. (watch_in (watches i) q).timed;
     value = λ q. λ i. (watch_in (watches i) q).value;

@@ -1,11 +1,8 @@
 -- The newest live generation of a name is the later one of the one that serves it and the one that warms under it.
 use Rattle.std.proofs.Common.{◌≡◌, ◌∙◌, ◌⊎◌, ◌<◌, ◌≤◌, ℕ, Bool, true, false, cond, not, ◌&&◌, ◌||◌, nat_eq, nat_lt, List, [], ◌∷◌, Option, None, Some, is_some, option_to_list, option_map, map, filter, refl, sym, ap, subst, inl, inr, true≢false, arith}
 use Rattle.std.specs.List.{list_any, IsDistinct, AllByRecursion}
-use Rattle.std.specs.Str.{bytes_eq}
-use Rattle.std.proofs.lemmas.Bool.{and_parts, ltb-true, ltb-false}
-use Rattle.ev_types.specs.Kinds.{kind_same, kind_decides}
+use Rattle.std.proofs.lemmas.Bool.{ltb-true, ltb-false}
 use Rattle.ev_types.specs.Statuses.{is_warming, is_active, is_live}
-use Rattle.ev_types.specs.declared.contents.Kind.{Kind}
 use Rattle.ev_types.specs.declared.rows.RowStatus.{RowStatus}
 use Rattle.ev_types.specs.declared.rows.RowStatus.TheVariants.{Warming, Active, Draining, Dropped}
 use Rattle.ev_types.specs.declared.rows.GenRow.{GenRow}
@@ -14,19 +11,19 @@ use Rattle.ev_model.specs.World.{World}
 use Rattle.ev_model.specs.Live.{live_of, lives_of, is_named, later_of, latest, newest_of}
 use Rattle.ev_model.specs.Phase.{has_come}
 use Rattle.ev_model.specs.Rows.{is_row_of}
-use Rattle.ev_generations.specs.Tables.{row_in, numbers_of}
+use Rattle.ev_indexes.specs.Tables.{row_in, numbers_of}
+use Rattle.ev_mentions.specs.declared.kind_keys.Key.{Key}
 use Rattle.ev_indexes.specs.declared.names.Standing.{Standing}
 use Rattle.ev_indexes.specs.declared.state.State.{State}
 use Rattle.ev_indexes.specs.Due.{has_number}
 use Rattle.ev_indexes.specs.Standings.{standing_in}
-use Rattle.ev_indexes.specs.Indexes.{IsIndexed, serves, warms, numbers_where}
+use Rattle.ev_indexes.specs.Indexes.{IsIndexed, is_of, serves, warms, numbers_where}
 use Rattle.ev_indexes.specs.Newest.{is_live_as, newest_in, later_of_two, later_number, found_in}
 use Rattle.ev_indexes.specs.Reads.{live_rows}
-use Rattle.ev_indexes.specs.Worlds.{HasRows, rows_of_kind}
-use Rattle.ev_indexes.proofs.RowLemmas.{any-some, any_agrees, all_then}
+use Rattle.ev_indexes.specs.Worlds.{HasRows}
+use Rattle.ev_indexes.proofs.RowLemmas.{any-some}
 use Rattle.ev_indexes.proofs.ShownLemmas.{all_left}
 use Rattle.ev_indexes.proofs.WhereLemmas.{own-rows}
-use Rattle.ev_indexes.proofs.WorldLemmas.{any-rows_of_kind}
 
 -- a live row of a name serves it or warms under it, and not both
 live-either : (status : RowStatus) (n : Bool) → (is_live status && n) ≡ ((is_active status && n) || (is_warming status && n))
@@ -113,9 +110,9 @@ alone test rows r apart one = (
         by true e rest = (e, rest)
         by false e rest = rest
 
-module _ (rows : List GenRow) (name : List ℕ) (apart : IsDistinct nat_eq (numbers_of rows)) where
-  abbrev either_one : (r : GenRow) → is_live_as name r ≡ (serves name r || warms name r)
-  either_one = λ r. live-either r.status (bytes_eq r.name name)
+module _ (rows : List GenRow) (key : Key) (apart : IsDistinct nat_eq (numbers_of rows)) where
+  abbrev either_one : (r : GenRow) → is_live_as key r ≡ (serves key r || warms key r)
+  either_one = λ r. live-either r.status (is_of key r)
 
   -- of two rows with different numbers the one of the greater number
   two : (a w : GenRow) → row_in a.number rows ≡ Some a → row_in w.number rows ≡ Some w → found_in rows (later_of_two (Some a.number) (Some w.number)) ≡ later_of (live_of a) (Some (live_of w))
@@ -142,66 +139,60 @@ module _ (rows : List GenRow) (name : List ℕ) (apart : IsDistinct nat_eq (numb
           let least : a.number ≤ w.number = ltb-false w.number a.number f in
           absurd (differ (omega arith))
 
-  newest-rows : (active warming : Option ℕ) → option_to_list active ≡ numbers_where (serves name) rows → option_to_list warming ≡ numbers_where (warms name) rows
-      → newest_in rows name ≡ found_in rows (later_of_two active warming)
-  newest-rows active warming a w = by (shape active (filter (serves name) rows) a) (shape warming (filter (warms name) rows) w)
+  newest-rows : (active warming : Option ℕ) → option_to_list active ≡ numbers_where (serves key) rows → option_to_list warming ≡ numbers_where (warms key) rows
+      → newest_in rows key ≡ found_in rows (later_of_two active warming)
+  newest-rows active warming a w = by (shape active (filter (serves key) rows) a) (shape warming (filter (warms key) rows) w)
     where
-      by : ((active ≡ None) × (filter (serves name) rows ≡ [])) ⊎ ((r : GenRow) × (active ≡ Some r.number) × (filter (serves name) rows ≡ r ∷ []))
-          → ((warming ≡ None) × (filter (warms name) rows ≡ [])) ⊎ ((r : GenRow) × (warming ≡ Some r.number) × (filter (warms name) rows ≡ r ∷ []))
-          → newest_in rows name ≡ found_in rows (later_of_two active warming)
+      by : ((active ≡ None) × (filter (serves key) rows ≡ [])) ⊎ ((r : GenRow) × (active ≡ Some r.number) × (filter (serves key) rows ≡ r ∷ []))
+          → ((warming ≡ None) × (filter (warms key) rows ≡ [])) ⊎ ((r : GenRow) × (warming ≡ Some r.number) × (filter (warms key) rows ≡ r ∷ []))
+          → newest_in rows key ≡ found_in rows (later_of_two active warming)
       by (inl (e, none)) (inl (f, nothing)) =
-          (λ i. latest (map live_of ((left-none (serves name) (warms name) (is_live_as name) either_one rows none ∙ nothing) i)))
+          (λ i. latest (map live_of ((left-none (serves key) (warms key) (is_live_as key) either_one rows none ∙ nothing) i)))
           ∙ (λ i. found_in rows (later_of_two (sym e i) (sym f i)))
       by (inl (e, none)) (inr (r, f, one)) =
-          (λ i. latest (map live_of ((left-none (serves name) (warms name) (is_live_as name) either_one rows none ∙ one) i)))
-          ∙ sym (ap (option_map live_of) (alone (warms name) rows r apart one).0)
+          (λ i. latest (map live_of ((left-none (serves key) (warms key) (is_live_as key) either_one rows none ∙ one) i)))
+          ∙ sym (ap (option_map live_of) (alone (warms key) rows r apart one).0)
           ∙ (λ i. found_in rows (later_of_two (sym e i) (sym f i)))
       by (inr (r, e, one)) (inl (f, none)) =
-          (λ i. latest (map live_of ((right-none (serves name) (warms name) (is_live_as name) either_one rows none ∙ one) i)))
-          ∙ sym (ap (option_map live_of) (alone (serves name) rows r apart one).0)
+          (λ i. latest (map live_of ((right-none (serves key) (warms key) (is_live_as key) either_one rows none ∙ one) i)))
+          ∙ sym (ap (option_map live_of) (alone (serves key) rows r apart one).0)
           ∙ (λ i. found_in rows (later_of_two (sym e i) (sym f i)))
       by (inr (r, e, one)) (inr (o, f, other)) =
-          orders (one-each (serves name) (warms name) (is_live_as name) either_one (λ x. never-both x.status (bytes_eq x.name name)) r o rows one other)
-          ∙ sym (two r o (alone (serves name) rows r apart one).0 (alone (warms name) rows o apart other).0)
+          orders (one-each (serves key) (warms key) (is_live_as key) either_one (λ x. never-both x.status (is_of key x)) r o rows one other)
+          ∙ sym (two r o (alone (serves key) rows r apart one).0 (alone (warms key) rows o apart other).0)
           ∙ (λ i. found_in rows (later_of_two (sym e i) (sym f i)))
         where
           differ : r.number ≡ o.number → ⊥
           differ same =
-              let own : Some r ≡ Some o = sym (alone (serves name) rows r apart one).0 ∙ (λ i. row_in (same i) rows) ∙ (alone (warms name) rows o apart other).0 in
+              let own : Some r ≡ Some o = sym (alone (serves key) rows r apart one).0 ∙ (λ i. row_in (same i) rows) ∙ (alone (warms key) rows o apart other).0 in
               let row : r ≡ o = cc in
-              never-both o.status (bytes_eq o.name name) (subst (λ (x : GenRow). serves name x ≡ true) row (alone (serves name) rows r apart one).1) (alone (warms name) rows o apart other).1
+              never-both o.status (is_of key o) (subst (λ (x : GenRow). serves key x ≡ true) row (alone (serves key) rows r apart one).1) (alone (warms key) rows o apart other).1
 
-          orders : (filter (is_live_as name) rows ≡ r ∷ o ∷ []) ⊎ (filter (is_live_as name) rows ≡ o ∷ r ∷ []) → newest_in rows name ≡ later_of (live_of r) (Some (live_of o))
+          orders : (filter (is_live_as key) rows ≡ r ∷ o ∷ []) ⊎ (filter (is_live_as key) rows ≡ o ∷ r ∷ []) → newest_in rows key ≡ later_of (live_of r) (Some (live_of o))
           orders (inl h) = λ i. latest (map live_of (h i))
           orders (inr h) = (λ i. latest (map live_of (h i))) ∙ order r o differ
 
 -- the live rows of a kind and name
-named-world : (kind : Kind) (name : List ℕ) (rows : List GenRow) → filter (is_named kind name) (map live_of (live_rows rows)) ≡ map live_of (filter (is_live_as name) (rows_of_kind kind rows))
-named-world kind name [] = refl
-named-world kind name (row ∷ rows) = by (kind_same row.kind kind) refl (is_live row.status) refl (bytes_eq row.name name) refl (named-world kind name rows)
+named-world : (key : Key) (rows : List GenRow) → filter (is_named key.kind key.name) (map live_of (live_rows rows)) ≡ map live_of (filter (is_live_as key) rows)
+named-world key [] = refl
+named-world key (row ∷ rows) = by (is_live row.status) (is_of key row) refl (named-world key rows)
   where
-    by : (k : Bool) → kind_same row.kind kind ≡ k → (l : Bool) → is_live row.status ≡ l → (n : Bool) → bytes_eq row.name name ≡ n
-        → filter (is_named kind name) (map live_of (live_rows rows)) ≡ map live_of (filter (is_live_as name) (rows_of_kind kind rows))
-        → filter (is_named kind name) (map live_of (cond l (row ∷ live_rows rows) (live_rows rows))) ≡ map live_of (filter (is_live_as name) (cond k (row ∷ rows_of_kind kind rows) (rows_of_kind kind rows)))
-    by true e true f true g rest =
-        (λ i. cond (e i && g i) (live_of row ∷ filter (is_named kind name) (map live_of (live_rows rows))) (filter (is_named kind name) (map live_of (live_rows rows))))
+    by : (l n : Bool) → is_of key row ≡ n → filter (is_named key.kind key.name) (map live_of (live_rows rows)) ≡ map live_of (filter (is_live_as key) rows)
+        → filter (is_named key.kind key.name) (map live_of (cond l (row ∷ live_rows rows) (live_rows rows)))
+        ≡ map live_of (cond (l && n) (row ∷ filter (is_live_as key) rows) (filter (is_live_as key) rows))
+    by true true g rest =
+        (λ i. cond (g i) (live_of row ∷ filter (is_named key.kind key.name) (map live_of (live_rows rows))) (filter (is_named key.kind key.name) (map live_of (live_rows rows))))
         ∙ ap (λ (ls : List Live). live_of row ∷ ls) rest
-        ∙ (λ i. map live_of (cond (sym f i && sym g i) (row ∷ filter (is_live_as name) (rows_of_kind kind rows)) (filter (is_live_as name) (rows_of_kind kind rows))))
-    by true e true f false g rest =
-        (λ i. cond (e i && g i) (live_of row ∷ filter (is_named kind name) (map live_of (live_rows rows))) (filter (is_named kind name) (map live_of (live_rows rows))))
+    by true false g rest =
+        (λ i. cond (g i) (live_of row ∷ filter (is_named key.kind key.name) (map live_of (live_rows rows))) (filter (is_named key.kind key.name) (map live_of (live_rows rows))))
         ∙ rest
-        ∙ (λ i. map live_of (cond (sym f i && sym g i) (row ∷ filter (is_live_as name) (rows_of_kind kind rows)) (filter (is_live_as name) (rows_of_kind kind rows))))
-    by true e false f n g rest =
-        rest ∙ (λ i. map live_of (cond (sym f i && bytes_eq row.name name) (row ∷ filter (is_live_as name) (rows_of_kind kind rows)) (filter (is_live_as name) (rows_of_kind kind rows))))
-    by false e true f n g rest =
-        (λ i. cond (e i && bytes_eq row.name name) (live_of row ∷ filter (is_named kind name) (map live_of (live_rows rows))) (filter (is_named kind name) (map live_of (live_rows rows)))) ∙ rest
-    by false e false f n g rest = rest
+    by false n g rest = rest
 
-pub newest-found : (s : State) (name : List ℕ) → IsIndexed s → newest_in s.table.rows name ≡ found_in s.table.rows (later_number (standing_in s.names name))
-newest-found s name x = newest-rows s.table.rows name x.table.apart (standing_in s.names name).active (standing_in s.names name).warming (x.active name) (x.warming name)
+pub newest-found : (s : State) (key : Key) → IsIndexed s → newest_in s.table.rows key ≡ found_in s.table.rows (later_number (standing_in s.names key))
+newest-found s key x = newest-rows s.table.rows key x.table.apart (standing_in s.names key).active (standing_in s.names key).warming (x.active key) (x.warming key)
 
-pub newest-world : (s : State) (world : World) (name : List ℕ) → HasRows s world → newest_in s.table.rows name ≡ newest_of (lives_of world) s.kind name
-newest-world s world name stands = (λ i. newest_in (stands.rows i) name) ∙ sym (ap latest (named-world s.kind name world.rows))
+pub newest-world : (s : State) (world : World) (key : Key) → HasRows s world → newest_in s.table.rows key ≡ newest_of (lives_of world) key.kind key.name
+newest-world s world key stands = (λ i. newest_in (stands.rows i) key) ∙ sym (ap latest (named-world key world.rows))
 
 -- a name is found to be live where a row passes the test
 some-listed : (test : GenRow → Bool) (rows : List GenRow) (o : Option ℕ) → option_to_list o ≡ numbers_where test rows → is_some o ≡ list_any test rows
@@ -211,22 +202,18 @@ some-listed test rows o e = by o ∙ ap has_number e ∙ sym (any-some test rows
     by None = refl
     by (Some n) = refl
 
-pub come-found : (s : State) (name : List ℕ) → IsIndexed s → (standing : Standing) → standing ≡ standing_in s.names name
-    → (is_some standing.active || not (is_some standing.warming)) ≡ (list_any (serves name) s.table.rows || not (list_any (warms name) s.table.rows))
-come-found s name x standing e =
+pub come-found : (s : State) (key : Key) → IsIndexed s → (standing : Standing) → standing ≡ standing_in s.names key
+    → (is_some standing.active || not (is_some standing.warming)) ≡ (list_any (serves key) s.table.rows || not (list_any (warms key) s.table.rows))
+come-found s key x standing e =
     (λ i. is_some (e i).active || not (is_some (e i).warming))
-    ∙ (λ i. some-listed (serves name) s.table.rows (standing_in s.names name).active (x.active name) i || not (some-listed (warms name) s.table.rows (standing_in s.names name).warming (x.warming name) i))
+    ∙ (λ i. some-listed (serves key) s.table.rows (standing_in s.names key).active (x.active key) i || not (some-listed (warms key) s.table.rows (standing_in s.names key).warming (x.warming key) i))
 
-module _ (s : State) (world : World) (name : List ℕ) (x : IsIndexed s) (stands : HasRows s world) where
+module _ (s : State) (world : World) (key : Key) (x : IsIndexed s) (stands : HasRows s world) where
   -- a test of the rows of a name
-  any-named : (test : RowStatus → Bool) → list_any (λ (row : GenRow). is_row_of s.kind name row && test row.status) world.rows ≡ list_any (λ (row : GenRow). test row.status && bytes_eq row.name name) s.table.rows
-  any-named test =
-      sym (any-rows_of_kind s.kind (λ (row : GenRow). is_row_of s.kind name row && test row.status)
-      (λ row h. (and_parts (kind_same row.kind s.kind) (bytes_eq row.name name) (and_parts (is_row_of s.kind name row) (test row.status) h).0).0) world.rows)
-      ∙ ap (list_any (λ (row : GenRow). is_row_of s.kind name row && test row.status)) (sym stands.rows)
-      ∙ any_agrees (λ (row : GenRow). is_row_of s.kind name row && test row.status) (λ (row : GenRow). test row.status && bytes_eq row.name name) s.table.rows
-      (all_then (λ (row : GenRow). row.kind ≡ s.kind) (λ (row : GenRow). (is_row_of s.kind name row && test row.status) ≡ (test row.status && bytes_eq row.name name)) s.table.rows
-      (λ row k. (λ i. ((kind_decides row.kind s.kind).1 k i && bytes_eq row.name name) && test row.status) ∙ turned (bytes_eq row.name name) (test row.status)) x.kinds)
+  any-named : (test : RowStatus → Bool) (rows : List GenRow)
+      → list_any (λ (row : GenRow). is_row_of key.kind key.name row && test row.status) rows ≡ list_any (λ (row : GenRow). test row.status && is_of key row) rows
+  any-named test [] = refl
+  any-named test (row ∷ rows) = λ i. turned (is_of key row) (test row.status) i || any-named test rows i
     where
       turned : (a b : Bool) → (a && b) ≡ (b && a)
       turned true true = refl
@@ -234,11 +221,11 @@ module _ (s : State) (world : World) (name : List ℕ) (x : IsIndexed s) (stands
       turned false true = refl
       turned false false = refl
 
-  any-either : (rows : List GenRow) → list_any (is_live_as name) rows ≡ (list_any (serves name) rows || list_any (warms name) rows)
+  any-either : (rows : List GenRow) → list_any (is_live_as key) rows ≡ (list_any (serves key) rows || list_any (warms key) rows)
   any-either [] = refl
   any-either (row ∷ rows) =
-      (λ i. live-either row.status (bytes_eq row.name name) i || any-either rows i)
-      ∙ mixed (serves name row) (warms name row) (list_any (serves name) rows) (list_any (warms name) rows)
+      (λ i. live-either row.status (is_of key row) i || any-either rows i)
+      ∙ mixed (serves key row) (warms key row) (list_any (serves key) rows) (list_any (warms key) rows)
     where
       mixed : (a b c d : Bool) → ((a || b) || (c || d)) ≡ ((a || c) || (b || d))
       mixed true b c d = refl
@@ -246,9 +233,12 @@ module _ (s : State) (world : World) (name : List ℕ) (x : IsIndexed s) (stands
       mixed false true false d = refl
       mixed false false c d = refl
 
-  pub come-world : (list_any (serves name) s.table.rows || not (list_any (warms name) s.table.rows)) ≡ has_come world.rows s.kind name
+  pub come-world : (list_any (serves key) s.table.rows || not (list_any (warms key) s.table.rows)) ≡ has_come world.rows key.kind key.name
   unfolding has_come
-  come-world = sym ((λ i. any-named is_active i || not ((any-named is_live ∙ any-either s.table.rows) i)) ∙ either (list_any (serves name) s.table.rows) (list_any (warms name) s.table.rows))
+  come-world =
+      (λ i. list_any (serves key) (stands.rows i) || not (list_any (warms key) (stands.rows i)))
+      ∙ sym ((λ i. any-named is_active world.rows i || not ((any-named is_live world.rows ∙ any-either world.rows) i))
+      ∙ either (list_any (serves key) world.rows) (list_any (warms key) world.rows))
     where
       either : (a b : Bool) → (a || not (a || b)) ≡ (a || not b)
       either true b = refl

@@ -1,4 +1,5 @@
--- Numbers that rise: one more after them, one of them left out, and what the first of them decides; and how they are stored.
+-- Numbers that rise: one more after them, one of them left out, and what the first of them decides;
+-- and how they are stored.
 use Rattle.std.proofs.Common.{◌≡◌, ◌∙◌, ℕ, zero, suc, ◌+◌, ◌-◌, drop, ◌<◌, ◌≤◌, Bool, true, false, cond, not, ◌||◌, List, [], ◌∷◌, ◌++◌, Result, Ok, Err, MatchResult, get_or, length, nat_eq, nat_le, nat_lt, nat_cmp, remove, slice_get, length-append, Less, refl, sym, ap, subst, arith}
 use Rattle.std.specs.Cmp.{ranks, nat_cmp_is}
 use Rattle.std.specs.Ordering.{MatchOrdering}

@@ -1,41 +1,12 @@
--- What holds of rows, of each of some and of those of one kind.
-use Rattle.std.proofs.Common.{◌≡◌, ◌∙◌, ℕ, Bool, true, false, cond, ◌||◌, nat_eq, List, [], ◌∷◌, None, Some, filter, refl, sym, ap, subst, true≢false}
-use Rattle.std.specs.List.{list_any, AllByRecursion, IsDistinct}
-use Rattle.std.proofs.lemmas.Bool.{eqb-true}
-use Rattle.std.proofs.lemmas.Map.Keys.{IsDistinct-head, IsDistinct-tail}
-use Rattle.ev_types.specs.Kinds.{kind_same}
-use Rattle.ev_types.specs.declared.contents.Kind.{Kind}
+-- What holds of each of some rows.
+use Rattle.std.proofs.Common.{◌≡◌, ◌∙◌, ℕ, Bool, true, false, cond, ◌||◌, nat_eq, List, [], ◌∷◌, Some, filter, refl, subst}
+use Rattle.std.specs.List.{list_any, AllByRecursion}
 use Rattle.ev_types.specs.declared.rows.GenRow.{GenRow}
-use Rattle.ev_generations.specs.Tables.{row_in, numbers_of}
+use Rattle.ev_indexes.specs.Tables.{row_in, numbers_of}
 use Rattle.ev_types.specs.declared.rows.RowStatus.{RowStatus}
 use Rattle.ev_model.specs.Rows.{with_statuses}
 use Rattle.ev_indexes.specs.Due.{has_number}
 use Rattle.ev_indexes.specs.Indexes.{numbers_where}
-use Rattle.ev_indexes.specs.Worlds.{rows_of_kind}
-
--- a row of the kind is the world's row of its number
-absent-far : (n : ℕ) (rows : List GenRow) → AllByRecursion (λ y. nat_eq n y ≡ false) (numbers_of rows) → row_in n rows ≡ None
-absent-far n [] far = refl
-absent-far n (row ∷ rows) far = (λ i. cond (far.0 i) (Some row) (row_in n rows)) ∙ absent-far n rows far.1
-
-pub found-of_kind : (kind : Kind) (n : ℕ) (row : GenRow) (rows : List GenRow) → IsDistinct nat_eq (numbers_of rows) → row_in n (rows_of_kind kind rows) ≡ Some row → row_in n rows ≡ Some row
-found-of_kind kind n row [] apart at = at
-found-of_kind kind n row (r ∷ rows) apart at = by (kind_same r.kind kind) at (found-of_kind kind n row rows (IsDistinct-tail nat_eq r.number (numbers_of rows) apart))
-  where
-    far : (b : Bool) → nat_eq n r.number ≡ b → row_in n rows ≡ Some row → cond b (Some r) (row_in n rows) ≡ Some row
-    far false e there = there
-    far true e there =
-        let none : row_in n rows ≡ None = (λ i. row_in (eqb-true n r.number e i) rows) ∙ absent-far r.number rows (IsDistinct-head nat_eq r.number (numbers_of rows) apart) in
-        cc
-
-    by : (k : Bool) → row_in n (cond k (r ∷ rows_of_kind kind rows) (rows_of_kind kind rows)) ≡ Some row → (row_in n (rows_of_kind kind rows) ≡ Some row → row_in n rows ≡ Some row)
-        → cond (nat_eq n r.number) (Some r) (row_in n rows) ≡ Some row
-    by true at rest = here (nat_eq n r.number) at
-      where
-        here : (b : Bool) → cond b (Some r) (row_in n (rows_of_kind kind rows)) ≡ Some row → cond b (Some r) (row_in n rows) ≡ Some row
-        here true h = h
-        here false h = rest h
-    by false at rest = far (nat_eq n r.number) refl (rest at)
 
 -- what holds of each row holds of one that is found
 pub all-at : (P : GenRow → Type 0) (n : ℕ) (row : GenRow) (rows : List GenRow) → row_in n rows ≡ Some row → AllByRecursion P rows → P row
@@ -55,19 +26,6 @@ any-some test (row ∷ rows) = by (test row) (any-some test rows)
     by : (t : Bool) → list_any test rows ≡ has_number (numbers_where test rows) → (t || list_any test rows) ≡ has_number (numbers_of (cond t (row ∷ filter test rows) (filter test rows)))
     by true rest = refl
     by false rest = rest
-
--- rows of other kinds pass no test that only rows of the kind pass
-pub filter-rows_of_kind : (kind : Kind) (f : GenRow → Bool) → ((row : GenRow) → f row ≡ true → kind_same row.kind kind ≡ true) → (rows : List GenRow)
-    → filter f (rows_of_kind kind rows) ≡ filter f rows
-filter-rows_of_kind kind f only [] = refl
-filter-rows_of_kind kind f only (row ∷ rows) = by (kind_same row.kind kind) refl (f row) refl (filter-rows_of_kind kind f only rows)
-  where
-    by : (b : Bool) → kind_same row.kind kind ≡ b → (t : Bool) → f row ≡ t → filter f (rows_of_kind kind rows) ≡ filter f rows
-        → filter f (cond b (row ∷ rows_of_kind kind rows) (rows_of_kind kind rows)) ≡ cond t (row ∷ filter f rows) (filter f rows)
-    by true e true h rest = (λ i. cond (h i) (row ∷ filter f (rows_of_kind kind rows)) (filter f (rows_of_kind kind rows))) ∙ ap (λ (rs : List GenRow). row ∷ rs) rest
-    by true e false h rest = (λ i. cond (h i) (row ∷ filter f (rows_of_kind kind rows)) (filter f (rows_of_kind kind rows))) ∙ rest
-    by false e true h rest = absurd (true≢false (sym (only row h) ∙ e))
-    by false e false h rest = rest
 
 -- tests that agree on each of these rows leave the same
 pub filter_agrees : (f g : GenRow → Bool) (rows : List GenRow) → AllByRecursion (λ (r : GenRow). f r ≡ g r) rows → filter f rows ≡ filter g rows

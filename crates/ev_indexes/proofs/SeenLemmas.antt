@@ -1,4 +1,4 @@
--- Worlds in which a state has the same to look at: where it stands for the one, it stands for the other.
+-- Worlds in which a state has the same to look at: where it represents the one, it represents the other.
 use Rattle.std.proofs.Common.{◌≡◌, ◌<◌, ◌∙◌, List, sym, ap, subst}
 use Rattle.std.specs.List.{AllByRecursion}
 use Rattle.ev_types.specs.Items.{content_kind}
@@ -6,9 +6,9 @@ use Rattle.ev_types.specs.Texts.{IsName}
 use Rattle.ev_types.specs.declared.rows.GenRow.{GenRow}
 use Rattle.ev_model.specs.World.{World, Arrived, HealthResult}
 use Rattle.ev_model.specs.Warming.{last_told, last_timed, value_by, has_result, is_healthy}
-use Rattle.ev_generations.specs.Tables.{GenerationsParts, IsTable}
+use Rattle.ev_indexes.specs.Tables.{GenerationsParts, IsTable}
 use Rattle.ev_indexes.specs.declared.state.State.{State}
-use Rattle.ev_indexes.specs.Worlds.{needs_of, rows_of_kind, IsSound, HasRows}
+use Rattle.ev_indexes.specs.Worlds.{IsSound, HasRows}
 
 -- the worlds have the same generations and numbers, the same that came for names, and the same results
 pub record SameSeen (before after : World) : Type 0 where
@@ -26,14 +26,15 @@ seen-sound before after seen sound = record {
   heard = λ n h above. ap (λ (rs : List HealthResult). has_result rs n h) seen.results ∙ sound.heard n h (subst (λ m. m < n) seen.made above);
 }
 
--- a state that stands for a world stands for every one that has the same rows, numbers, arrivals and results
+-- a state that represents a world represents every one that has the same rows, numbers, arrivals and results
 pub seen-stands : (s : State) (before after : World) → SameSeen before after → HasRows s before → HasRows s after
 seen-stands s before after seen stands = record {
   sound = seen-sound before after seen stands.sound;
-  rows = stands.rows ∙ ap (rows_of_kind s.kind) (sym seen.rows);
-  told = λ q. stands.told q ∙ ap (λ (came : List Arrived). last_told came (needs_of s.kind) q) (sym seen.arrivals);
-  timed = λ q. stands.timed q ∙ ap (λ (came : List Arrived). last_timed came (needs_of s.kind) q) (sym seen.arrivals);
-  value = λ q. stands.value q ∙ ap (λ (came : List Arrived). value_by came (needs_of s.kind) q) (sym seen.arrivals);
+  rows = stands.rows ∙ sym seen.rows;
+  made = stands.made ∙ sym seen.made;
+  told = λ q. stands.told q ∙ ap (λ (came : List Arrived). last_told came q.kind q.name) (sym seen.arrivals);
+  timed = λ q. stands.timed q ∙ ap (λ (came : List Arrived). last_timed came q.kind q.name) (sym seen.arrivals);
+  value = λ q. stands.value q ∙ ap (λ (came : List Arrived). value_by came q.kind q.name) (sym seen.arrivals);
   resulted = λ n h there. stands.resulted n h there ∙ ap (λ (rs : List HealthResult). has_result rs n h) (sym seen.results);
   healthy = λ n h there. stands.healthy n h there ∙ ap (λ (rs : List HealthResult). is_healthy rs n h) (sym seen.results);
 }

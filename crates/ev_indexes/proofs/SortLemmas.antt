@@ -1,4 +1,5 @@
--- Sorted lists by a key that is a text: what a sort of the machine's leaves, and two strictly sorted lists of the same elements are equal.
+-- Sorted lists by a key that is a text: what a sort of the machine's leaves,
+-- and two strictly sorted lists of the same elements are equal.
 use Rattle.std.proofs.Common.{◌≡◌, ◌∙◌, ℕ, ◌+◌, Bool, true, false, List, [], ◌∷◌, ◌⊎◌, inl, inr, Ordering, refl, sym, ap, subst, true≢false, get_or, arith}
 use Rattle.std.specs.declared.cmp.Ordering.TheVariants.{Less, Equal, Greater}
 use Rattle.std.specs.Cmp.{IsTotalOrder, tied_itself, alike_right}

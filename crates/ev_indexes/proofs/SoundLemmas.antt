@@ -1,22 +1,22 @@
--- Sound worlds: other statuses and a new row keep a world sound; and what a sound world says of the rows of one kind.
+-- Sound worlds: other statuses and a new row keep a world sound.
 use Rattle.std.proofs.Common.{◌≡◌, ◌∙◌, ℕ, ◌+◌, ◌<◌, Bool, true, false, cond, nat_eq, List, [], ◌∷◌, ◌++◌, None, Some, option_map, refl, sym, ap, subst, arith}
 use Rattle.std.specs.List.{IsDistinct, AllByRecursion}
 use Rattle.std.specs.Option.{option_or}
 use Rattle.std.proofs.lemmas.Bool.{ne_eqb}
 use Rattle.std.proofs.lemmas.List.Folds.{find-append}
 use Rattle.ev_types.specs.Items.{content_kind}
-use Rattle.ev_types.specs.Kinds.{kind_same, kind_decides}
 use Rattle.ev_types.specs.Texts.{IsName}
 use Rattle.ev_types.specs.declared.contents.Kind.{Kind}
 use Rattle.ev_types.specs.declared.contents.Content.{Content}
 use Rattle.ev_types.specs.declared.rows.RowStatus.{RowStatus}
+use Rattle.ev_types.specs.declared.origins.KeptChain.{KeptChain}
 use Rattle.ev_types.specs.declared.rows.GenRow.{GenRow}
 use Rattle.ev_model.specs.World.{World}
 use Rattle.ev_model.specs.Rows.{with_statuses, replaced_status, new_row, rows_with_new}
-use Rattle.ev_generations.specs.Tables.{is_number, row_in, numbers_of}
-use Rattle.ev_generations.proofs.TableLemmas.{numbers_of-with_statuses, row_in-with_statuses}
+use Rattle.ev_indexes.specs.Tables.{is_number, row_in, numbers_of}
+use Rattle.ev_indexes.proofs.TableLemmas.{numbers_of-with_statuses, row_in-with_statuses}
 use Rattle.ev_indexes.specs.declared.state.State.{State}
-use Rattle.ev_indexes.specs.Worlds.{rows_of_kind, IsSound, HasRows}
+use Rattle.ev_indexes.specs.Worlds.{IsSound, HasRows}
 use Rattle.ev_indexes.proofs.WhereLemmas.{row_with, flipped}
 
 -- what doesn't look at statuses holds of rows with other ones
@@ -29,20 +29,9 @@ pub all-push : (P : GenRow → Type 0) (rows : List GenRow) (row : GenRow) → A
 all-push P [] row all p = (p, tt)
 all-push P (r ∷ rows) row all p = (all.0, all-push P rows row all.1 p)
 
--- the rows of a kind
-pub all-rows_of_kind : (P Q : GenRow → Type 0) (kind : Kind) → ((r : GenRow) → P r → r.kind ≡ kind → Q r) → (rows : List GenRow) → AllByRecursion P rows → AllByRecursion Q (rows_of_kind kind rows)
-all-rows_of_kind P Q kind f [] all = tt
-all-rows_of_kind P Q kind f (row ∷ rows) all = by (kind_same row.kind kind) refl (all-rows_of_kind P Q kind f rows all.1)
-  where
-    by : (b : Bool) → kind_same row.kind kind ≡ b → AllByRecursion Q (rows_of_kind kind rows) → AllByRecursion Q (cond b (row ∷ rows_of_kind kind rows) (rows_of_kind kind rows))
-    by true e rest = (f row all.0 ((kind_decides row.kind kind).0 e), rest)
-    by false e rest = rest
-
--- the rows of a state that stands for a world have contents of its kind
-pub contents-of : (s : State) (world : World) → HasRows s world → AllByRecursion (λ (r : GenRow). content_kind r.content ≡ s.kind) s.table.rows
-contents-of s world stands =
-    subst (AllByRecursion (λ (r : GenRow). content_kind r.content ≡ s.kind)) (sym stands.rows)
-    (all-rows_of_kind (λ (r : GenRow). content_kind r.content ≡ r.kind) (λ (r : GenRow). content_kind r.content ≡ s.kind) s.kind (λ r typed own. typed ∙ own) world.rows stands.sound.typed)
+-- the rows of a state that represents a world have contents of their kinds
+pub contents-of : (s : State) (world : World) → HasRows s world → AllByRecursion (λ (r : GenRow). content_kind r.content ≡ r.kind) s.table.rows
+contents-of s world stands = subst (AllByRecursion (λ (r : GenRow). content_kind r.content ≡ r.kind)) (sym stands.rows) stands.sound.typed
 
 pub sound-with_statuses : (world : World) (f : GenRow → RowStatus) → IsSound world → IsSound (record world { rows = with_statuses f world.rows })
 sound-with_statuses world f sound = record {
@@ -73,19 +62,19 @@ apart-push row (r ∷ rows) none apart = by (nat_eq row.number r.number) refl no
     by false e h rest = (far rows (flipped r.number row.number ∙ e) apart.0, rest h)
 
 -- a world with a new row stays sound
-module _ (world : World) (kind : Kind) (name : List ℕ) (content : Content) (sound : IsSound world) where
+module _ (world : World) (kind : Kind) (name : List ℕ) (content : Content) (kept : List KeptChain) (sound : IsSound world) where
   abbrev old : List GenRow
   old = with_statuses (replaced_status kind name) world.rows
 
   abbrev new : GenRow
-  new = new_row kind world.made name content
+  new = new_row kind world.made name content kept
 
   absent : (n : ℕ) → world.made < n → row_in n old ≡ None
   absent n above =
       row_in-with_statuses n (replaced_status kind name) world.rows
       ∙ ap (option_map (λ (row : GenRow). record row { status = replaced_status kind name row })) (sound.table.drawn n above)
 
-  pub sound-added : IsName name → content_kind content ≡ kind → IsSound (record world { rows = rows_with_new kind world.made name content world.rows; made = world.made + 1 })
+  pub sound-added : IsName name → content_kind content ≡ kind → IsSound (record world { rows = rows_with_new kind world.made name content kept world.rows; made = world.made + 1 })
   sound-added named typed = record {
     table = record {
       apart = apart-push new old (absent (world.made + 1) (omega arith)) (subst (IsDistinct nat_eq) (sym (numbers_of-with_statuses (replaced_status kind name) world.rows)) sound.table.apart);

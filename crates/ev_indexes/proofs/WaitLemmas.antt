@@ -1,7 +1,6 @@
 -- Who depends on a name: those that wait for it without a limit, and those that wait within one.
 use Rattle.std.proofs.Common.{◌≡◌, ◌∙◌, ℕ, ◌++◌, Bool, true, false, cond, ◌&&◌, ◌||◌, nat_eq, List, [], ◌∷◌, Some, filter, refl, sym, ap, true≢false, not, ◌-◌, ◌<◌, length, get_or, slice_get, arith, length-append}
 use Rattle.std.specs.List.{list_any, AllByRecursion, IsDistinct}
-use Rattle.std.specs.Str.{bytes_eq}
 use Rattle.std.proofs.lemmas.List.Folds.{list_any-append, list_any_at}
 use Rattle.std.proofs.lemmas.Bool.{eq-eqb}
 use Rattle.std.proofs.lemmas.Option.{slice_get-get_or}
@@ -10,11 +9,12 @@ use Rattle.ev_types.specs.Same.{bool_same}
 use Rattle.ev_types.specs.Statuses.{is_live}
 use Rattle.ev_types.specs.declared.rows.GenRow.{GenRow}
 use Rattle.ev_model.specs.Watching.{Dependency, dependencies_of}
-use Rattle.ev_generations.specs.Tables.{row_in, numbers_of}
+use Rattle.ev_indexes.specs.Tables.{row_in, numbers_of}
+use Rattle.ev_mentions.specs.declared.kind_keys.Key.{Key}
 use Rattle.ev_indexes.specs.declared.state.State.{State}
 use Rattle.ev_indexes.specs.Due.{is_one_of, has_number}
 use Rattle.ev_indexes.specs.Watched.{watch_in, has_watcher, watchers_of, is_last, with_last, watched_for, unwatched_for, watched_less, numbers_without, is_other}
-use Rattle.ev_indexes.specs.Needs.{is_needed, is_need, is_needed_so}
+use Rattle.ev_indexes.specs.Needs.{is_on, is_needed, is_need, is_needed_so}
 use Rattle.ev_indexes.specs.Indexes.{IsIndexed, depends_on, waits, numbers_where, numbers_waiting, passes}
 use Rattle.ev_indexes.specs.declared.watches.Watch.{Watch}
 use Rattle.ev_indexes.proofs.RowLemmas.{any-some}
@@ -32,8 +32,8 @@ any-either p q r same (x ∷ xs) = (λ i. same x i || any-either p q r same xs i
     by false false c d = refl
 
 -- what is needed is needed without a limit or within one
-pub is_needed-so : (name : List ℕ) (ds : List Dependency) → is_needed name ds ≡ (is_needed_so name false ds || is_needed_so name true ds)
-is_needed-so name ds = any-either (λ (d : Dependency). bytes_eq d.name name) (is_need name false) (is_need name true) (λ d. by d.limited (bytes_eq d.name name)) ds
+pub is_needed-so : (key : Key) (ds : List Dependency) → is_needed key ds ≡ (is_needed_so key false ds || is_needed_so key true ds)
+is_needed-so key ds = any-either (is_on key) (is_need key false) (is_need key true) (λ d. by d.limited (is_on key d)) ds
   where
     by : (l b : Bool) → b ≡ ((bool_same l false && b) || (bool_same l true && b))
     by true true = refl
@@ -41,67 +41,68 @@ is_needed-so name ds = any-either (λ (d : Dependency). bytes_eq d.name name) (i
     by false true = refl
     by false false = refl
 
-pub depends_on-waits : (name : List ℕ) (row : GenRow) → depends_on name row ≡ (waits name false row || waits name true row)
-depends_on-waits name row =
-    ap (λ b. is_live row.status && b) (is_needed-so name (dependencies_of row.content))
-    ∙ by (is_live row.status) (is_needed_so name false (dependencies_of row.content)) (is_needed_so name true (dependencies_of row.content))
+pub depends_on-waits : (key : Key) (row : GenRow) → depends_on key row ≡ (waits key false row || waits key true row)
+depends_on-waits key row =
+    ap (λ b. is_live row.status && b) (is_needed-so key (dependencies_of row.content))
+    ∙ by (is_live row.status) (is_needed_so key false (dependencies_of row.content)) (is_needed_so key true (dependencies_of row.content))
   where
     by : (l a b : Bool) → (l && (a || b)) ≡ ((l && a) || (l && b))
     by true a b = refl
     by false a b = refl
 
 -- who waits with a mark depends on the name
-pub waits-depends : (name : List ℕ) (limited : Bool) (row : GenRow) → waits name limited row ≡ true → depends_on name row ≡ true
-waits-depends name false row h = depends_on-waits name row ∙ ap (λ b. b || waits name true row) h
-waits-depends name true row h = depends_on-waits name row ∙ (λ i. waits name false row || h i) ∙ by (waits name false row)
+pub waits-depends : (key : Key) (limited : Bool) (row : GenRow) → waits key limited row ≡ true → depends_on key row ≡ true
+waits-depends key false row h = depends_on-waits key row ∙ ap (λ b. b || waits key true row) h
+waits-depends key true row h = depends_on-waits key row ∙ (λ i. waits key false row || h i) ∙ by (waits key false row)
   where
     by : (b : Bool) → (b || true) ≡ true
     by true = refl
     by false = refl
 
 -- and no other row waits
-pub depends-waits : (name : List ℕ) (limited : Bool) (row : GenRow) → depends_on name row ≡ false → waits name limited row ≡ false
-depends-waits name limited row h = by (waits name limited row) refl
+pub depends-waits : (key : Key) (limited : Bool) (row : GenRow) → depends_on key row ≡ false → waits key limited row ≡ false
+depends-waits key limited row h = by (waits key limited row) refl
   where
-    by : (b : Bool) → waits name limited row ≡ b → b ≡ false
-    by true e = absurd (true≢false (sym (waits-depends name limited row e) ∙ h))
+    by : (b : Bool) → waits key limited row ≡ b → b ≡ false
+    by true e = absurd (true≢false (sym (waits-depends key limited row e) ∙ h))
     by false e = refl
 
-pub any-depends : (name : List ℕ) (rows : List GenRow) → list_any (depends_on name) rows ≡ (list_any (waits name false) rows || list_any (waits name true) rows)
-any-depends name rows = any-either (depends_on name) (waits name false) (waits name true) (depends_on-waits name) rows
+pub any-depends : (key : Key) (rows : List GenRow) → list_any (depends_on key) rows ≡ (list_any (waits key false) rows || list_any (waits key true) rows)
+any-depends key rows = any-either (depends_on key) (waits key false) (waits key true) (depends_on-waits key) rows
 
 -- a number among those that wait is that of a row that depends on the name
-pub among-waiting : (name : List ℕ) (rows : List GenRow) (number : ℕ)
-    → is_one_of (numbers_waiting rows name) number ≡ (is_one_of (numbers_where (waits name false) rows) number || is_one_of (numbers_where (waits name true) rows) number)
-among-waiting name rows number = list_any-append (nat_eq number) (numbers_where (waits name false) rows) (numbers_where (waits name true) rows)
+pub among-waiting : (key : Key) (rows : List GenRow) (number : ℕ)
+    → is_one_of (numbers_waiting rows key) number ≡ (is_one_of (numbers_where (waits key false) rows) number || is_one_of (numbers_where (waits key true) rows) number)
+among-waiting key rows number = list_any-append (nat_eq number) (numbers_where (waits key false) rows) (numbers_where (waits key true) rows)
 
 -- the number of a row that depends on the name is among them
-pub among-depends : (name : List ℕ) (n : ℕ) (row : GenRow) (rows : List GenRow) → row_in n rows ≡ Some row → depends_on name row ≡ true → is_one_of (numbers_waiting rows name) n ≡ true
-among-depends name n row rows found depends =
-    among-waiting name rows n ∙ by (waits name false row) refl (waits name true row) refl (sym (depends_on-waits name row) ∙ depends)
+pub among-depends : (key : Key) (n : ℕ) (row : GenRow) (rows : List GenRow) → row_in n rows ≡ Some row → depends_on key row ≡ true → is_one_of (numbers_waiting rows key) n ≡ true
+among-depends key n row rows found depends =
+    among-waiting key rows n ∙ by (waits key false row) refl (waits key true row) refl (sym (depends_on-waits key row) ∙ depends)
   where
     late : (b : Bool) → (b || true) ≡ true
     late true = refl
     late false = refl
 
-    by : (a : Bool) → waits name false row ≡ a → (b : Bool) → waits name true row ≡ b → (a || b) ≡ true
-        → (is_one_of (numbers_where (waits name false) rows) n || is_one_of (numbers_where (waits name true) rows) n) ≡ true
-    by true e b f h = ap (λ t. t || is_one_of (numbers_where (waits name true) rows) n) (among-where (waits name false) n row rows found e)
-    by false e true f h = (λ i. is_one_of (numbers_where (waits name false) rows) n || among-where (waits name true) n row rows found f i) ∙ late (is_one_of (numbers_where (waits name false) rows) n)
+    by : (a : Bool) → waits key false row ≡ a → (b : Bool) → waits key true row ≡ b → (a || b) ≡ true
+        → (is_one_of (numbers_where (waits key false) rows) n || is_one_of (numbers_where (waits key true) rows) n) ≡ true
+    by true e b f h = ap (λ t. t || is_one_of (numbers_where (waits key true) rows) n) (among-where (waits key false) n row rows found e)
+    by false e true f h = (λ i. is_one_of (numbers_where (waits key false) rows) n || among-where (waits key true) n row rows found f i) ∙ late (is_one_of (numbers_where (waits key false) rows) n)
     by false e false f h = absurd (true≢false (sym h))
 
 -- what an index has of a name
-module _ (s : State) (x : IsIndexed s) (name : List ℕ) where
-  pub watchers-index : watchers_of (watch_in s.watches name) ≡ numbers_waiting s.table.rows name
-  watchers-index = λ i. x.unlimited name i ++ x.limited name i
+module _ (s : State) (x : IsIndexed s) (key : Key) where
+  pub watchers-index : watchers_of (watch_in s.watches key) ≡ numbers_waiting s.table.rows key
+  watchers-index = λ i. x.unlimited key i ++ x.limited key i
 
-  pub watcher-index : has_watcher (watch_in s.watches name) ≡ list_any (depends_on name) s.table.rows
+  pub watcher-index : has_watcher (watch_in s.watches key) ≡ list_any (depends_on key) s.table.rows
   watcher-index =
-      (λ i. has_number (x.unlimited name i) || has_number (x.limited name i))
-      ∙ (λ i. sym (any-some (waits name false) s.table.rows) i || sym (any-some (waits name true) s.table.rows) i)
-      ∙ sym (any-depends name s.table.rows)
+      (λ i. has_number (x.unlimited key i) || has_number (x.limited key i))
+      ∙ (λ i. sym (any-some (waits key false) s.table.rows) i || sym (any-some (waits key true) s.table.rows) i)
+      ∙ sym (any-depends key s.table.rows)
 
--- a number of one of the rows that pass a test is that of one that passes a narrower test where one of all rows passes that
+-- a number of one of the rows that pass a test is that of one that passes a narrower test
+-- where one of all rows passes that
 pub any-where : (test narrow : GenRow → Bool) → ((r : GenRow) → narrow r ≡ true → test r ≡ true) → (rows : List GenRow) → IsDistinct nat_eq (numbers_of rows)
     → list_any (λ n. passes narrow (row_in n rows)) (numbers_where test rows) ≡ list_any narrow rows
 any-where test narrow narrower rows apart = over rows (own-rows rows apart)
@@ -156,12 +157,12 @@ with_last-far n xs away = λ i. cond (far xs away i) xs (xs ++ n ∷ [])
         by false e = refl
 
 -- a generation that depends on some, and then on more
-pub watched_for-more : (n : ℕ) (name : List ℕ) (ds es : List Dependency) (watch : Watch) → watched_for n name es (watched_for n name ds watch) ≡ watched_for n name (ds ++ es) watch
-watched_for-more n name ds es watch = λ i. record watch {
-  unlimited = (by (is_needed_so name false ds) (is_needed_so name false es) watch.unlimited
-      ∙ (λ j. cond (sym (list_any-append (is_need name false) ds es) j) (with_last n watch.unlimited) watch.unlimited)) i;
-  limited = (by (is_needed_so name true ds) (is_needed_so name true es) watch.limited
-      ∙ (λ j. cond (sym (list_any-append (is_need name true) ds es) j) (with_last n watch.limited) watch.limited)) i;
+pub watched_for-more : (n : ℕ) (key : Key) (ds es : List Dependency) (watch : Watch) → watched_for n key es (watched_for n key ds watch) ≡ watched_for n key (ds ++ es) watch
+watched_for-more n key ds es watch = λ i. record watch {
+  unlimited = (by (is_needed_so key false ds) (is_needed_so key false es) watch.unlimited
+      ∙ (λ j. cond (sym (list_any-append (is_need key false) ds es) j) (with_last n watch.unlimited) watch.unlimited)) i;
+  limited = (by (is_needed_so key true ds) (is_needed_so key true es) watch.limited
+      ∙ (λ j. cond (sym (list_any-append (is_need key true) ds es) j) (with_last n watch.limited) watch.limited)) i;
 }
   where
     by : (a b : Bool) (xs : List ℕ) → cond b (with_last n (cond a (with_last n xs) xs)) (cond a (with_last n xs) xs) ≡ cond (a || b) (with_last n xs) xs
@@ -180,10 +181,10 @@ numbers_without-twice n (x ∷ xs) = by (nat_eq n x) refl (numbers_without-twice
     by false e rest = (λ i. cond (not (e i)) (x ∷ numbers_without n (numbers_without n xs)) (numbers_without n (numbers_without n xs))) ∙ ap (λ ys. x ∷ ys) rest
 
 -- a generation that depends on some no longer, and then on more
-pub unwatched_for-more : (n : ℕ) (name : List ℕ) (ds es : List Dependency) (watch : Watch) → unwatched_for n name es (unwatched_for n name ds watch) ≡ unwatched_for n name (ds ++ es) watch
-unwatched_for-more n name ds es watch =
-    by (is_needed name ds) (is_needed name es)
-    ∙ (λ j. cond (sym (list_any-append (λ (d : Dependency). bytes_eq d.name name) ds es) j) (watched_less n watch) watch)
+pub unwatched_for-more : (n : ℕ) (key : Key) (ds es : List Dependency) (watch : Watch) → unwatched_for n key es (unwatched_for n key ds watch) ≡ unwatched_for n key (ds ++ es) watch
+unwatched_for-more n key ds es watch =
+    by (is_needed key ds) (is_needed key es)
+    ∙ (λ j. cond (sym (list_any-append (is_on key) ds es) j) (watched_less n watch) watch)
   where
     by : (a b : Bool) → cond b (watched_less n (cond a (watched_less n watch) watch)) (cond a (watched_less n watch) watch) ≡ cond (a || b) (watched_less n watch) watch
     by true true = λ i. record watch { unlimited = numbers_without-twice n watch.unlimited i; limited = numbers_without-twice n watch.limited i }

@@ -7,8 +7,8 @@ use Rattle.ev_types.specs.declared.contents.Kind.{Kind}
 use Rattle.ev_types.specs.declared.rows.RowStatus.{RowStatus}
 use Rattle.ev_model.specs.Rows.{with_statuses}
 use Rattle.ev_types.specs.declared.rows.GenRow.{GenRow}
-use Rattle.ev_generations.specs.Tables.{row_in, numbers_of, with_status}
-use Rattle.ev_generations.proofs.TableLemmas.{with_status-absent}
+use Rattle.ev_indexes.specs.Tables.{row_in, numbers_of, with_status}
+use Rattle.ev_indexes.proofs.TableLemmas.{with_status-absent}
 use Rattle.ev_indexes.specs.Due.{is_one_of}
 use Rattle.ev_indexes.specs.Watched.{numbers_without}
 use Rattle.ev_indexes.specs.Indexes.{numbers_where, passes}

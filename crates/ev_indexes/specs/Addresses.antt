@@ -1,5 +1,5 @@
--- Which generations hold an address. Source: listeners of Envoy's documentation: two listeners of different names may not have one
--- address.
+-- Which generations hold an address. Source: listeners of Envoy's documentation:
+-- two listeners of different names may not have one address.
 use Rattle.std.specs.Prelude.{◌≡◌, ℕ, Bool, true, if◌then◌else◌, List, [], ◌∷◌, ◌++◌, Option, None, Some, IsSome, unwrap_or, option_to_list, map}
 use Rattle.std.specs.List.{flat_map}
 use Rattle.std.specs.Map.{lookup}
@@ -11,7 +11,7 @@ use Rattle.ev_types.specs.declared.rows.GenRow.{GenRow}
 use Rattle.ev_types.specs.declared.rows.Live.{Live}
 use Rattle.ev_model.specs.Live.{live_of}
 use Rattle.ev_model.specs.Verdicts.{listening_address, shares_address}
-use Rattle.ev_generations.specs.Tables.{row_in}
+use Rattle.ev_indexes.specs.Tables.{row_in}
 use Rattle.ev_indexes.specs.Due.{has_number}
 use Rattle.ev_indexes.specs.Watched.{numbers_without}
 

@@ -1,8 +1,13 @@
+pub mod Results
+pub mod KeptEndpoints
+pub mod Marked
+pub mod Tables
 pub mod Kept
 pub mod Standings
 pub mod Numbers
 pub mod Due
 pub mod Needs
+pub mod Origins
 pub mod Watched
 pub mod Addresses
 pub mod Ready

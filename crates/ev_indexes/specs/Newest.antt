@@ -1,21 +1,22 @@
 -- The newest live generation of a name, by searches of the rows.
 use Rattle.std.specs.Prelude.{ℕ, Bool, ◌&&◌, nat_lt, if◌then◌else◌, List, Option, None, Some, filter, map, option_map}
 use Rattle.std.specs.Option.{option_and_then}
-use Rattle.std.specs.Str.{bytes_eq}
 use Rattle.ev_types.specs.Statuses.{is_live}
 use Rattle.ev_types.specs.declared.rows.GenRow.{GenRow}
 use Rattle.ev_types.specs.declared.rows.Live.{Live}
 use Rattle.ev_model.specs.Live.{live_of, latest}
-use Rattle.ev_generations.specs.Tables.{row_in}
+use Rattle.ev_indexes.specs.Tables.{row_in}
+use Rattle.ev_mentions.specs.declared.kind_keys.Key.{Key}
 use Rattle.ev_indexes.specs.declared.names.Standing.{Standing}
+use Rattle.ev_indexes.specs.Indexes.{is_of}
 
 -- the row is a live one of the name
-abbrev pub is_live_as : List ℕ → GenRow → Bool
-is_live_as name row = is_live row.status && bytes_eq row.name name
+abbrev pub is_live_as : Key → GenRow → Bool
+is_live_as key row = is_live row.status && is_of key row
 
 -- of the live rows of a name the one of the greatest number
-abbrev pub newest_in : List GenRow → List ℕ → Option Live
-newest_in rows name = latest (map live_of (filter (is_live_as name) rows))
+abbrev pub newest_in : List GenRow → Key → Option Live
+newest_in rows key = latest (map live_of (filter (is_live_as key) rows))
 
 -- the greater of two numbers, where there are two
 abbrev pub later_of_two : Option ℕ → Option ℕ → Option ℕ

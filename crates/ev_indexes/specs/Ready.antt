@@ -1,30 +1,33 @@
--- Which rows are due, by what is known of names and by the results that are kept: the machine's words, where what came is looked
--- up. Source: cluster manager warming of Envoy's documentation.
+-- Which rows are due, by what is known of names and by the results that are kept:
+-- the machine's words, where what came is looked up. Source: cluster manager warming of Envoy's documentation.
 use Rattle.std.specs.Prelude.{◌≡◌, ℕ, if◌then◌else◌, Bool, false, not, ◌&&◌, ◌||◌, List, [], Option, Some, None, is_some}
 use Rattle.std.specs.List.{list_all}
 use Rattle.ev_types.specs.Hosts.{HostRowParts}
 use Rattle.ev_types.specs.SameHosts.{has_host}
 use Rattle.ev_types.specs.Statuses.{is_warming}
 use Rattle.ev_types.specs.declared.contents.Content.{Content}
-use Rattle.ev_types.specs.declared.contents.Content.TheVariants.{Cluster as a_cluster, Assignment as an_assignment, Listener as a_listener, Routes as routes}
+use Rattle.ev_types.specs.declared.contents.Kind.TheVariants.{Eds}
+use Rattle.ev_types.specs.declared.contents.Content.TheVariants.{Cluster as a_cluster, Assignment as an_assignment, Listener as a_listener, Routes as routes, Secret as a_secret, Extension as an_extension}
 use Rattle.ev_types.specs.declared.clusters.Discovery.{Discovery}
 use Rattle.ev_types.specs.declared.clusters.Discovery.TheVariants.{Static, Eds as by_eds, Elsewhere}
 use Rattle.ev_types.specs.declared.hosts.Host.{Host}
 use Rattle.ev_types.specs.declared.rows.GenRow.{GenRow}
 use Rattle.ev_model.specs.Watching.{Dependency, dependencies_of}
 use Rattle.ev_model.specs.Warming.{counts_for, rows_in, is_checked}
-use Rattle.ev_endpoints.specs.Kept.{ResultsKept, result_in}
-use Rattle.ev_generations.specs.Tables.{row_in}
+use Rattle.ev_indexes.specs.KeptEndpoints.{ResultsKept, result_in}
+use Rattle.ev_indexes.specs.Tables.{row_in}
+use Rattle.ev_mentions.specs.Keys.{named}
 use Rattle.ev_indexes.specs.Due.{is_one_of}
+use Rattle.ev_indexes.specs.Needs.{key_of}
 use Rattle.ev_indexes.specs.Watched.{WatchesKept, watch_in}
 
 -- the generation of this number was told of what it depends on
 abbrev pub has_word_in : WatchesKept → ℕ → Dependency → Bool
-has_word_in watches number d = counts_for number d (watch_in watches d.name).told
+has_word_in watches number d = counts_for number d (watch_in watches (key_of d)).told
 
 -- its wait timed out
 abbrev pub has_timeout_in : WatchesKept → ℕ → Dependency → Bool
-has_timeout_in watches number d = counts_for number d (watch_in watches d.name).timed
+has_timeout_in watches number d = counts_for number d (watch_in watches (key_of d)).timed
 
 -- it was told of what it depends on, or timed out where the wait is limited
 abbrev pub has_answer_in : WatchesKept → ℕ → Dependency → Bool
@@ -37,7 +40,7 @@ is_answered_in watches number content = list_all (has_answer_in watches number) 
 -- the hosts given in a cluster, or the value of its service, or none
 abbrev pub discovered_in : WatchesKept → Discovery → List HostRowParts
 discovered_in watches (Static rows) = rows
-discovered_in watches (by_eds service limited fresh) = rows_in (watch_in watches service).value
+discovered_in watches (by_eds service limited fresh) = rows_in (watch_in watches (named Eds service)).value
 discovered_in watches Elsewhere = []
 
 -- the assignment of a content
@@ -46,6 +49,8 @@ assignment_in watches (a_cluster cluster) = discovered_in watches cluster.discov
 assignment_in watches (an_assignment rows) = []
 assignment_in watches (a_listener listener) = []
 assignment_in watches (routes table) = []
+assignment_in watches a_secret = []
+assignment_in watches an_extension = []
 
 -- the hosts of a generation of this content are health checked, and the host is one of them now
 abbrev pub takes_result : WatchesKept → Host → Content → Bool

@@ -9,8 +9,8 @@ use Rattle.ev_model.specs.declared.pictures.ServedListener.{ServedListener}
 use Rattle.ev_model.specs.World.{World, Arrived, HealthResult}
 use Rattle.ev_model.specs.Phase.{is_serving}
 use Rattle.ev_model.specs.Picture.{served_cluster, served_listener}
-use Rattle.ev_endpoints.specs.Kept.{ResultsKept}
-use Rattle.ev_generations.specs.Tables.{row_in}
+use Rattle.ev_indexes.specs.KeptEndpoints.{ResultsKept}
+use Rattle.ev_indexes.specs.Tables.{row_in}
 use Rattle.ev_indexes.specs.declared.state.State.{State}
 use Rattle.ev_indexes.specs.Reads.{cluster_in, listener_in}
 use Rattle.ev_indexes.specs.Watched.{WatchesKept}
@@ -47,12 +47,12 @@ listener_at world number = if is_serving world.phase then routed_at world number
 -- the same of a state's row that is found, by what is known of names and the results that are kept: an active cluster
 abbrev pub cluster_shown_in : WatchesKept → ResultsKept → Option GenRow → Option ServedCluster
 cluster_shown_in watches results None = None
-cluster_shown_in watches results (Some row) = if is_active row.status then Some (cluster_in watches results row) else None
+cluster_shown_in watches results (Some row) = if kind_same row.kind Cds && is_active row.status then Some (cluster_in watches results row) else None
 
 -- an active listener
 abbrev pub listener_shown_in : WatchesKept → Option GenRow → Option ServedListener
 listener_shown_in watches None = None
-listener_shown_in watches (Some row) = if is_active row.status then first_of (listener_in watches row row.content) else None
+listener_shown_in watches (Some row) = if kind_same row.kind Lds && is_active row.status then first_of (listener_in watches row row.content) else None
 
 -- the same of the cluster of this number
 abbrev pub cluster_by : State → ℕ → Option ServedCluster

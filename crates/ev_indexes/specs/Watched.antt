@@ -1,9 +1,11 @@
--- What is known of names that generations depend on. Source: cluster manager warming of Envoy's documentation: a wait ends
--- with a word of the control plane or, where it is limited, with the initial fetch timeout.
+-- What is known of names that generations depend on. Source:
+-- cluster manager warming of Envoy's documentation: a wait ends with a word of the control plane or,
+-- where it is limited, with the initial fetch timeout.
 use Rattle.std.specs.Prelude.{ℕ, ◌-◌, Bool, true, false, not, ◌||◌, nat_eq, if◌then◌else◌, List, [], ◌∷◌, ◌++◌, Option, Some, None, filter, length, slice_get}
 use Rattle.ev_types.specs.declared.rows.Arrival.{Arrival}
 use Rattle.ev_types.specs.declared.rows.Arrival.TheVariants.{Value, Absent, Bad, TimedOut, Ended}
 use Rattle.ev_model.specs.Watching.{Dependency}
+use Rattle.ev_mentions.specs.declared.kind_keys.Key.{Key}
 use Rattle.ev_indexes.specs.declared.watches.Watch.{Watch}
 use Rattle.ev_indexes.specs.Due.{has_number}
 use Rattle.ev_indexes.specs.Kept.{kept_at, Sets}
@@ -11,19 +13,19 @@ use Rattle.ev_indexes.specs.Needs.{is_needed, is_needed_so}
 
 -- names with what is known of each
 abbrev pub WatchesKept : Type 0
-WatchesKept = List (List ℕ × Watch)
+WatchesKept = List (Key × Watch)
 
 -- nothing is known, and no generation depends on the name
 abbrev pub unwatched : Watch
 unwatched = record { unlimited = []; limited = []; told = None; timed = None; value = None }
 
 -- what is known of this name
-abbrev pub watch_in : WatchesKept → List ℕ → Watch
-watch_in kept name = kept_at unwatched kept name
+abbrev pub watch_in : WatchesKept → Key → Watch
+watch_in kept key = kept_at unwatched kept key
 
 -- what is known of the name turns into what the change makes of it, and every other name's stays
-abbrev pub Turns : (Watch → Watch) → WatchesKept → WatchesKept → List ℕ → Type 0
-Turns change old new name = Sets unwatched old new name (change (watch_in old name))
+abbrev pub Turns : (Watch → Watch) → WatchesKept → WatchesKept → Key → Type 0
+Turns change old new key = Sets unwatched old new key (change (watch_in old key))
 
 -- the number is the other one, where there is one
 abbrev pub is_other : ℕ → Option ℕ → Bool
@@ -46,10 +48,10 @@ watched_too number limited watch = record watch {
 }
 
 -- the generation of this number, which depends on these, is among those that depend on the name, where it does
-abbrev pub watched_for : ℕ → List ℕ → List Dependency → Watch → Watch
-watched_for number name ds watch = record watch {
-  unlimited = if is_needed_so name false ds then with_last number watch.unlimited else watch.unlimited;
-  limited = if is_needed_so name true ds then with_last number watch.limited else watch.limited;
+abbrev pub watched_for : ℕ → Key → List Dependency → Watch → Watch
+watched_for number key ds watch = record watch {
+  unlimited = if is_needed_so key false ds then with_last number watch.unlimited else watch.unlimited;
+  limited = if is_needed_so key true ds then with_last number watch.limited else watch.limited;
 }
 
 -- these numbers without this one
@@ -61,10 +63,11 @@ abbrev pub watched_less : ℕ → Watch → Watch
 watched_less number watch = record watch { unlimited = numbers_without number watch.unlimited; limited = numbers_without number watch.limited }
 
 -- the generation of this number, which depends on these, is none any more of those that depend on the name
-abbrev pub unwatched_for : ℕ → List ℕ → List Dependency → Watch → Watch
-unwatched_for number name ds watch = if is_needed name ds then watched_less number watch else watch
+abbrev pub unwatched_for : ℕ → Key → List Dependency → Watch → Watch
+unwatched_for number key ds watch = if is_needed key ds then watched_less number watch else watch
 
--- the numbers of the generations that depend on the name: those that wait without a limit, and those that wait within one
+-- the numbers of the generations that depend on the name:
+-- those that wait without a limit, and those that wait within one
 abbrev pub watchers_of : Watch → List ℕ
 watchers_of watch = watch.unlimited ++ watch.limited
 
@@ -72,7 +75,7 @@ watchers_of watch = watch.unlimited ++ watch.limited
 abbrev pub has_watcher : Watch → Bool
 has_watcher watch = has_number watch.unlimited || has_number watch.limited
 
--- something came for the name when so many numbers were drawn
+-- something was received for the name when so many numbers were allocated
 abbrev pub with_arrival : ℕ → Arrival → Watch → Watch
 with_arrival made (Value content) watch = record watch { told = Some made; value = Some content }
 with_arrival made Absent watch = record watch { told = Some made }

@@ -1,5 +1,5 @@
-//! By address the live generations that hold it. An address whose last holder retired has no entry, so there are no more entries
-//! than live listeners.
+//! By address the live generations that hold it. An address whose last holder retired has no entry,
+//! so there are no more entries than live listeners.
 
 ghost use Rattle.std.specs.Prelude.{◌≡◌, if◌then◌else◌, ◌++◌, [], ◌∷◌, None, IfOk, OnOk, OnErr};
 ghost use Rattle.std.specs.Map.{lookup};
@@ -52,7 +52,8 @@ impl Addresses {
         self.numbers.get(address)
     }
 
-    /// A generation of this content holds the address at which it listens, where it listens. Out of memory, nothing is promised.
+    /// A generation of this content holds the address at which it listens, where it listens.
+    /// Out of memory, it is unspecified.
     pub fn hold(&mut self, alloc: Global, content: &Content, number: Gen) -> Result<(), AllocError>
         ensures { OnOk result (HoldsAddress self.old self.new number content.now) }
     {
@@ -71,7 +72,7 @@ impl Addresses {
         }
     }
 
-    // One more number is at the address. Out of memory, nothing is promised.
+    // One more number is at the address. Out of memory, it is unspecified.
     fn enter(
         &mut self,
         alloc: Global,
@@ -130,7 +131,7 @@ fn address_of(content: &Content) -> Option<&SocketAddress>
 {
     match content {
         Content::Listener(listener) => Some(&listener.get().address),
-        Content::Cluster(_) | Content::Assignment(_) | Content::Routes(_) => None,
+        _ => None,
     }
 }
 

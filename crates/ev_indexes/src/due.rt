@@ -1,5 +1,5 @@
-//! The generations that are due to serve: a set. A row is looked at anew when something comes for its name, when it gets a result and
-//! when it is added; nothing counts waits.
+//! The generations that are due to serve: a set. A row is looked at anew when something comes for its name,
+//! when it gets a result and when it is added; nothing counts waits.
 
 ghost use Rattle.std.specs.Prelude.{◌≡◌, ◌||◌, ◌&&◌, not, true, if◌then◌else◌, ◌+◌, length, ℕ, [], nat_eq, IfSome, IfNone, OnOk, OnErr};
 ghost use Rattle.ev_indexes.specs.Due.{is_one_of};

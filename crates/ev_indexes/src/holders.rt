@@ -1,19 +1,18 @@
 ghost use Rattle.std.specs.Prelude.{◌≡◌, ◌++◌, IfOk, OnOk};
-ghost use Rattle.ev_types.specs.declared.contents.Kind.TheVariants.{Lds};
 ghost use Rattle.ev_indexes.specs.Addresses.{lives_numbered, lives_found, lives_listed};
 ghost use Rattle.ev_indexes.specs.Indexes.{IsIndexed};
 ghost use Rattle.ev_indexes.specs.Reads.{holders_in, holders_of};
-ghost use Rattle.ev_indexes.specs.Worlds.{InWorldsOf};
+ghost use Rattle.ev_indexes.specs.Worlds.{InWorlds};
 
-use crate::{Addresses, State};
-use ev_generations::Generations;
+use crate::{Addresses, Generations, State};
 use ev_mentions::LiveRow;
 use ev_types::{Gen, SocketAddress};
 use std::alloc::{AllocError, Global};
 
 impl State {
-    /// The live generations that hold an address, in the order of their numbers: of clusters none does. It costs a look-up of
-    /// the address, and one of each of them. It is out of memory where the list has no room.
+    /// The live generations that hold an address, in the order of their numbers:
+    /// of clusters none does. It costs a look-up of the address, and one of each of them.
+    /// It is out of memory where the list has no room.
     pub fn holders(
         &self,
         alloc: Global,
@@ -21,8 +20,7 @@ impl State {
     ) -> Result<Vec<LiveRow<'_>>, AllocError>
         requires indexed { IsIndexed self.now }
         ensures rows { IfOk result (λ lives. lives.items ≡ holders_in self.now.table.rows address.now) }
-        ensures world { IfOk result (λ lives. InWorldsOf Lds self.now
-            (λ world. lives.items ≡ holders_of world address.now)) }
+        ensures world { IfOk result (λ lives. InWorlds self.now (λ world. lives.items ≡ holders_of world address.now)) }
     {
         lives_at(alloc, &self.addresses, &self.table, address)
     }

@@ -1,12 +1,14 @@
 ghost use Rattle.std.specs.Prelude.{◌≡◌, [], unwrap_or};
 ghost use Rattle.std.specs.Option.{option_copied};
 ghost use Rattle.ev_model.specs.Warming.{is_checked, rows_in};
+ghost use Rattle.ev_types.specs.declared.contents.Kind.TheVariants.{Eds};
+ghost use Rattle.ev_mentions.specs.Keys.{named};
 ghost use Rattle.ev_indexes.specs.Watched.{watch_in};
 ghost use Rattle.ev_indexes.specs.Ready.{assignment_in};
 ghost use Rattle.ev_indexes.specs.Ready.{takes_result};
 
 use crate::Watches;
-use ev_types::{Assignment, Content, Discovery, Host, Name, Shared};
+use ev_types::{Assignment, Content, Discovery, Host, Kind, Name, Shared};
 
 /// Whether the hosts of a generation of this content are health checked.
 pub(crate) fn is_checked(content: &Content) -> bool
@@ -34,9 +36,9 @@ pub fn assignment<'a>(watches: &'a Watches, content: &'a Content) -> Option<&'a 
 
 // The hosts that are the value of a service.
 fn value<'a>(watches: &'a Watches, service: &Name) -> Option<&'a Shared<Assignment>>
-    ensures { unwrap_or (option_copied result) [] ≡ rows_in (watch_in watches.now service.now).value }
+    ensures { unwrap_or (option_copied result) [] ≡ rows_in (watch_in watches.now (named Eds service.now)).value }
 {
-    match &watches.get(service)?.value {
+    match &watches.get(Kind::Eds, service)?.value {
         Some(Content::Assignment(rows)) => Some(rows),
         _ => None,
     }

@@ -1,36 +1,38 @@
-//! What verdicts ask of a name. They ask by texts, of which not each is a name, so the maps by name are asked by a key that borrows
-//! the text (`NameKey`).
+//! What verdicts ask of a name. They ask by texts, of which not each is a name,
+//! so the maps by kind and name are asked by a key that borrows the text (`KeyText`).
 
 ghost use Rattle.std.specs.Prelude.{◌≡◌, ◌||◌, not, is_some};
 ghost use Rattle.ev_model.specs.Live.{lives_of, newest_of};
 ghost use Rattle.ev_model.specs.Phase.{has_come};
+ghost use Rattle.ev_mentions.specs.Keys.{named};
 ghost use Rattle.ev_indexes.specs.Indexes.{IsIndexed};
 ghost use Rattle.ev_indexes.specs.Newest.{later_number, newest_in, found_in};
 ghost use Rattle.ev_indexes.specs.Worlds.{InWorlds};
 ghost use Rattle.ev_indexes.specs.Reads.{has_come_in};
 
-use crate::{Standing, State};
-use ev_generations::Generations;
+use crate::{Generations, Standing, State};
 use ev_mentions::LiveRow;
-use ev_types::Gen;
+use ev_types::{Gen, Kind};
 
 impl State {
-    /// The newest live generation of a name. It costs a look-up of the name, and one of the generation where one is live.
-    pub fn newest(&self, name: &str) -> Option<LiveRow<'_>>
+    /// The newest live generation of a name of a kind. It costs a look-up of the name,
+    /// and one of the generation where one is live.
+    pub fn newest(&self, kind: Kind, name: &str) -> Option<LiveRow<'_>>
         requires indexed { IsIndexed self.now }
-        ensures rows { result ≡ newest_in self.now.table.rows name.now }
-        ensures world { InWorlds self.now (λ world. result ≡ newest_of (lives_of world) self.now.kind name.now) }
+        ensures rows { result ≡ newest_in self.now.table.rows (named kind name.now) }
+        ensures world { InWorlds self.now (λ world. result ≡ newest_of (lives_of world) kind name.now) }
     {
-        found(&self.table, later(self.names.standing_of(name)))
+        live_row_of(&self.table, later(self.names.standing_of(kind, name)))
     }
 
-    /// Whether nothing is waited for under the name: it serves, or nothing of it is live. It costs a look-up of the name.
-    pub fn has_come(&self, name: &str) -> bool
+    /// Whether nothing is waited for under the name: it serves, or nothing of it is live.
+    /// It costs a look-up of the name.
+    pub fn has_come(&self, kind: Kind, name: &str) -> bool
         requires indexed { IsIndexed self.now }
-        ensures rows { result ≡ has_come_in self.now.table.rows name.now }
-        ensures world { InWorlds self.now (λ world. result ≡ has_come world.rows self.now.kind name.now) }
+        ensures rows { result ≡ has_come_in self.now.table.rows (named kind name.now) }
+        ensures world { InWorlds self.now (λ world. result ≡ has_come world.rows kind name.now) }
     {
-        is_settled(self.names.standing_of(name))
+        is_settled(self.names.standing_of(kind, name))
     }
 }
 
@@ -54,9 +56,9 @@ fn later(standing: Standing) -> Option<Gen>
     }
 }
 
-// What is seen of the generation of this number, where there is one.
-fn found(table: &Generations, number: Option<Gen>) -> Option<LiveRow<'_>>
-    ensures { result ≡ found_in table.now.rows number }
+/// What is seen of the generation of this number, where there is one. It costs a look-up.
+pub fn live_row_of(table: &Generations, number: Option<Gen>) -> Option<LiveRow<'_>>
+    ensures row { result ≡ found_in table.now.rows number }
 {
     let row = table.get(number?)?;
     Some(LiveRow {

@@ -1,8 +1,9 @@
-//! Numbers of the generations that depend on a name. They are lent as a slice, so they stand one after another and not in a tree, and
-//! one is found by halves. The first leaves its place empty, so that generations that retire in the order in which they came cost
-//! no move; the rest moves up after another. That numbers come in rising order is no condition of `put`, so that each clause
-//! holds of every list: each list keeps whether it is known to rise, and is walked where it isn't, which never comes of numbers
-//! in the order in which they are drawn.
+//! Numbers of the generations that depend on a name. They are lent as a slice,
+//! so they stand one after another and not in a tree, and one is found by halves.
+//! The first leaves its place empty, so that generations that retire in the order in which they came cost no move;
+//! the rest moves up after another. That numbers come in rising order is no condition of `put`,
+//! so that each clause holds of every list: each list keeps whether it is known to rise, and is walked where it isn't,
+//! which never comes of numbers in the order in which they are allocated.
 
 ghost use Rattle.std.specs.Prelude.{◌≡◌, ◌++◌, [], ◌∷◌, ◌+◌, ◌-◌, ◌<◌, ◌≤◌, drop, IsTrue, ◌↔◌, length, nat_le, slice_get, OnOk, OnErr};
 ghost use Rattle.std.specs.List.{list_any};
@@ -13,8 +14,9 @@ use ev_types::Gen;
 use std::alloc::{AllocError, Global};
 use std::marker::Model;
 
-/// Numbers of generations in the order in which they came. As long as each is above those before it, which is so of numbers in
-/// the order in which they are drawn, one is found among them by binary search.
+/// Numbers of generations in the order in which they came.
+/// As long as each is above those before it, which is so of numbers in the order in which they are allocated,
+/// one is found among them by binary search.
 #[derive(Drop)]
 pub struct Numbers {
     numbers: Vec<Gen>,
@@ -90,8 +92,8 @@ impl Numbers {
         Ok(())
     }
 
-    /// Leaves a number out. Where they rise, it is found by binary search; the first leaves its place empty, and after another the
-    /// rest moves up at once.
+    /// Leaves a number out. Where they rise, it is found by binary search;
+    /// the first leaves its place empty, and after another the rest moves up at once.
     pub fn leave_out(&mut self, number: Gen)
         ensures { self.new ≡ numbers_without number self.old }
     {

@@ -4,94 +4,101 @@ ghost use Rattle.std.specs.Prelude.{◌≡◌, ◌+◌, ◌≤◌, ◌<◌, ◌+
 ghost use Rattle.std.specs.List.{list_any};
 ghost use Rattle.ev_model.specs.Live.{live_of, lives_of};
 ghost use Rattle.ev_model.specs.Watching.{dependencies_of, is_watched};
-ghost use Rattle.ev_generations.specs.Tables.{numbers_of};
+ghost use Rattle.ev_types.specs.declared.contents.Kind.TheVariants.{Cds};
+ghost use Rattle.ev_mentions.specs.Keys.{named};
 ghost use Rattle.ev_indexes.specs.Indexes.{IsIndexed, depends_on, waits, numbers_waiting, numbers_where};
-ghost use Rattle.ev_indexes.specs.Needs.{need_at, places_of};
-ghost use Rattle.ev_indexes.specs.Reads.{is_as_healthy, live_rows, awaits_in, is_waiting_in, is_one_waiting, is_timeout_due, is_awaited_at, seen_at};
-ghost use Rattle.ev_indexes.specs.Worlds.{InWorlds, InWorldsWatching};
+ghost use Rattle.ev_indexes.specs.Reads.{is_as_healthy, lives_as, awaits_in, is_waiting_in, is_one_waiting, is_timeout_due, is_awaited_at};
+ghost use Rattle.ev_indexes.specs.Worlds.{InWorlds};
 
 use crate::ready::counts_for;
-use crate::{Need, State, Watch, need_at, place_count};
-use ev_generations::{Generations, Steps};
-use ev_types::{Content, Gen, GenRow, Host, Name, Seq};
+use crate::{Generations, Need, Needs, State, Steps, Watch};
+use ev_types::{Content, Gen, GenRow, Host, Kind, Name, Seq};
 use std::alloc::{AllocError, Global};
 use std::sync::ledger::Ledger;
 
 impl State {
-    /// Whether a live generation depends on the name.
-    pub fn is_watched(&self, name: &str) -> bool
+    /// Whether a live generation depends on the name of this kind.
+    pub fn is_watched(&self, kind: Kind, name: &str) -> bool
         requires indexed { IsIndexed self.now }
-        ensures rows { result ≡ list_any (depends_on name.now) self.now.table.rows }
-        ensures world { InWorldsWatching self.now (λ world kind. result ≡ is_watched (lives_of world) kind name.now) }
+        ensures rows { result ≡ list_any (depends_on (named kind name.now)) self.now.table.rows }
+        ensures world { InWorlds self.now (λ world. result ≡ is_watched (lives_of world) kind name.now) }
     {
-        match self.watches.get_text(name) {
+        match self.watches.get_text(kind, name) {
             Some(watch) => watch.has_watcher(),
             None => false,
         }
     }
 
-    /// Puts the numbers of the live generations that depend on the name to the others: those that wait for it without a limit, and
-    /// then those that wait within one. It costs a look-up of the name.
-    pub fn put_dependents(&self, name: &str, numbers: &mut Seq<Gen>) -> Result<(), AllocError>
+    /// Puts the numbers of the live generations that depend on the name of this kind to the others:
+    /// those that wait for it without a limit, and then those that wait within one. It costs a look-up of the name.
+    pub fn put_dependents(
+        &self,
+        kind: Kind,
+        name: &str,
+        numbers: &mut Seq<Gen>,
+    ) -> Result<(), AllocError>
         requires indexed { IsIndexed self.now }
-        ensures { OnOk result (numbers.new ≡ numbers.old ++ numbers_waiting self.now.table.rows name.now) }
+        ensures { OnOk result (numbers.new ≡ numbers.old ++ numbers_waiting self.now.table.rows (named kind name.now)) }
     {
-        match self.watches.get_text(name) {
+        match self.watches.get_text(kind, name) {
             Some(watch) => watch.put_watchers(numbers),
             None => Ok(()),
         }
     }
 
-    /// Whether a host is as healthy for the generation that serves this name as a result says, or none serves it: then the result
-    /// changes nothing that a picture shows. It costs a look-up of the name, of its generation and of the host.
+    /// Whether a host is as healthy for the cluster that serves this name as a result says,
+    /// or none serves it: then the result changes nothing that a picture shows.
+    /// It costs a look-up of the name, of its generation and of the host.
     pub fn is_as_healthy(&self, name: &Name, host: &Host, healthy: bool) -> bool
         requires indexed { IsIndexed self.now }
-        ensures { result ≡ is_as_healthy self.now name.now host.now healthy }
+        ensures { result ≡ is_as_healthy self.now (named Cds name.now) host.now healthy }
     {
-        match self.names.standing(name).active {
+        match self.names.standing(Kind::Cds, name).active {
             Some(number) => self.results.result(number, host).unwrap_or(false) == healthy,
             None => true,
         }
     }
 
-    /// Whether the fetch timeout of the name is due: a live generation waits for it within a limit, was not told of it, and its wait
-    /// didn't time out. Look-ups are counted: at most one for each generation that waits for the name within a limit.
-    pub fn timeout_due<L: Ledger>(&self, name: &Name, steps: &mut Steps<L>) -> bool
+    /// Whether the fetch timeout of the name of this kind is due:
+    /// a live generation waits for it within a limit, was not told of it, and its wait didn't time out.
+    /// Look-ups are counted: at most one for each generation that waits for the name within a limit.
+    pub fn timeout_due<L: Ledger>(&self, kind: Kind, name: &Name, steps: &mut Steps<L>) -> bool
         requires indexed { IsIndexed self.now }
-        ensures rows { result ≡ is_timeout_due self.now.watches self.now.table.rows name.now }
-        ensures steps { steps.new ≤ steps.old + length (numbers_where (waits name.now true) self.now.table.rows) }
-        ensures world { InWorldsWatching self.now (λ world kind. result ≡ is_awaited_at world kind name.now) }
+        ensures rows { result ≡ is_timeout_due self.now.watches self.now.table.rows (named kind name.now) }
+        ensures steps { steps.new ≤ steps.old
+            + length (numbers_where (waits (named kind name.now) true) self.now.table.rows) }
+        ensures world { InWorlds self.now (λ world. result ≡ is_awaited_at world kind name.now) }
     {
-        match self.watches.get(name) {
-            Some(watch) => is_awaited(&self.table, name, watch, steps),
+        match self.watches.get(kind, name) {
+            Some(watch) => is_awaited(&self.table, kind, name, watch, steps),
             None => false,
         }
     }
 
-    /// The numbers of the live generations, in order. It goes over the whole table.
-    pub fn numbers_live(&self, alloc: Global) -> Result<Vec<Gen>, AllocError>
-        ensures { IfOk result (λ numbers. numbers.items ≡ numbers_of (live_rows self.now.table.rows)) }
+    /// The numbers of the live generations of a kind, in order. It goes over the whole table.
+    pub fn numbers_live(&self, alloc: Global, kind: Kind) -> Result<Vec<Gen>, AllocError>
+        ensures { IfOk result (λ numbers. numbers.items ≡ numbers_where (lives_as kind) self.now.table.rows) }
     {
-        numbers(alloc, &self.table)
+        numbers(alloc, kind, &self.table)
     }
 }
 
-// The numbers of the live rows of a table.
-fn numbers(alloc: Global, table: &Generations) -> Result<Vec<Gen>, AllocError>
-    ensures { IfOk result (λ numbers. numbers.items ≡ numbers_of (live_rows table.now.rows)) }
+// The numbers of the live rows of a kind in a table.
+fn numbers(alloc: Global, kind: Kind, table: &Generations) -> Result<Vec<Gen>, AllocError>
+    ensures { IfOk result (λ numbers. numbers.items ≡ numbers_where (lives_as kind) table.now.rows) }
 {
     let mut numbers = Vec::new(alloc);
     for row in table.rows() {
-        push_number(row, &mut numbers)?;
+        push_number(kind, row, &mut numbers)?;
     }
     Ok(numbers)
 }
 
-// Adds the number of a row to the others, where it is live.
-fn push_number(row: &GenRow, numbers: &mut Vec<Gen>) -> Result<(), AllocError>
-    ensures { OnOk result (numbers.new.items ≡ numbers.old.items ++ numbers_of (live_rows (row.now ∷ []))) }
+// Adds the number of a row to the others, where it is live and of the kind.
+fn push_number(kind: Kind, row: &GenRow, numbers: &mut Vec<Gen>) -> Result<(), AllocError>
+    ensures { OnOk result (numbers.new.items ≡ numbers.old.items ++ numbers_where (lives_as kind) (row.now ∷ [])) }
 {
-    if row.status.is_live() {
+    if row.status.is_live() && row.kind.is(kind) {
         numbers.push(row.number)?;
     }
     Ok(())
@@ -100,16 +107,17 @@ fn push_number(row: &GenRow, numbers: &mut Vec<Gen>) -> Result<(), AllocError>
 // Whether one of the generations that wait for a name within a limit still waits.
 fn is_awaited<L: Ledger>(
     table: &Generations,
+    kind: Kind,
     name: &Name,
     watch: &Watch,
     steps: &mut Steps<L>,
 ) -> bool
-    ensures value { result ≡ is_one_waiting name.now watch.now table.now.rows watch.now.limited }
+    ensures value { result ≡ is_one_waiting (named kind name.now) watch.now table.now.rows watch.now.limited }
     ensures steps { steps.new ≤ steps.old + length watch.now.limited }
 {
     for number in watch.limited.as_slice() {
         let waits = match table.row(*number, steps) {
-            Some(row) => is_waiting(name, watch, row),
+            Some(row) => is_waiting(kind, name, watch, row),
             None => false,
         };
         if waits {
@@ -120,41 +128,32 @@ fn is_awaited<L: Ledger>(
 }
 
 // Whether a row is live and waits for a name within a limit: it was neither told of it, nor has its wait timed out.
-fn is_waiting(name: &Name, watch: &Watch, row: &GenRow) -> bool
-    ensures { result ≡ is_waiting_in name.now watch.now row.now }
+fn is_waiting(kind: Kind, name: &Name, watch: &Watch, row: &GenRow) -> bool
+    ensures { result ≡ is_waiting_in (named kind name.now) watch.now row.now }
 {
-    row.status.is_live() && awaits_one(name, watch, row.number, &row.content)
+    row.status.is_live() && awaits_one(kind, name, watch, row.number, &row.content)
 }
 
 // Whether the generation of this number and content waits so for a name.
-fn awaits_one(name: &Name, watch: &Watch, number: Gen, content: &Content) -> bool
-    ensures { result ≡ list_any (awaits_in name.now watch.now number) (dependencies_of content.now) }
+#[tactic(auto, using(crate::proofs::NeedLemmas::any_needs))]
+fn awaits_one(kind: Kind, name: &Name, watch: &Watch, number: Gen, content: &Content) -> bool
+    ensures { result ≡ list_any (awaits_in (named kind name.now) watch.now number) (dependencies_of content.now) }
 {
-    for place in 0..place_count(content) {
-        if awaits_at(name, watch, number, content, place) {
+    let mut needs = Needs::of(content);
+    while let Some(need) = needs.next() {
+        if awaits(kind, name, watch, number, &need) {
             return true;
         }
     }
     false
 }
 
-// The same by what it depends on at a place.
-fn awaits_at(name: &Name, watch: &Watch, number: Gen, content: &Content, place: usize) -> bool
-    requires within { place < length (places_of content.now) }
-    ensures { result ≡ list_any (awaits_in name.now watch.now number)
-        (option_to_list (need_at (places_of content.now) place)) }
-{
-    match need_at(content, place) {
-        Some(need) => awaits(name, watch, number, &need),
-        None => false,
-    }
-}
-
 // Whether a dependency is on the name, its wait is limited, and it was neither told nor timed out.
-fn awaits(name: &Name, watch: &Watch, number: Gen, need: &Need<'_>) -> bool
-    ensures { result ≡ awaits_in name.now watch.now number need.now }
+fn awaits(kind: Kind, name: &Name, watch: &Watch, number: Gen, need: &Need<'_>) -> bool
+    ensures { result ≡ awaits_in (named kind name.now) watch.now number need.now }
 {
-    need.name == name
+    need.kind.is(kind)
+        && need.name == name
         && need.limited
         && !(counts_for(number, need, watch.told) || counts_for(number, need, watch.timed))
 }

@@ -3,18 +3,18 @@
 ghost use Rattle.std.specs.Prelude.{◌≡◌, ◌+◌, ◌<◌, length, option_to_list, OnOk};
 ghost use Rattle.std.specs.List.{list_all};
 ghost use Rattle.ev_model.specs.Warming.{counts_for, rows_in};
-ghost use Rattle.ev_indexes.specs.Needs.{need_at, places_of};
+ghost use Rattle.ev_types.specs.declared.contents.Kind.TheVariants.{Eds};
+ghost use Rattle.ev_mentions.specs.Keys.{named};
 ghost use Rattle.ev_indexes.specs.Watched.{watch_in};
 ghost use Rattle.ev_indexes.specs.Ready.{has_answer_in, are_results_in, is_answered_in, is_round_done_in, is_ready_in, Refreshes};
 
-use crate::{Due, Need, Watches, need_at, place_count};
-use ev_endpoints::Endpoints;
-use ev_generations::{Generations, Steps};
-use ev_types::{Content, Discovery, Gen, GenRow, Name};
+use crate::{Due, Endpoints, Generations, Need, Needs, Steps, Watches};
+use ev_types::{Content, Discovery, Gen, GenRow, Kind, Name};
 use std::alloc::AllocError;
 use std::sync::ledger::Ledger;
 
-// Whether what came for a name when so many numbers were drawn counts for the generation of this number, which depends on the name.
+// Whether what was received for a name when so many numbers were allocated counts for the generation of this number,
+// which depends on the name.
 pub(crate) fn counts_for(number: Gen, need: &Need<'_>, made: Option<u32>) -> bool
     ensures { result ≡ counts_for number need.now made }
 {
@@ -28,7 +28,7 @@ pub(crate) fn counts_for(number: Gen, need: &Need<'_>, made: Option<u32>) -> boo
 fn has_answer(watches: &Watches, number: Gen, need: &Need<'_>) -> bool
     ensures { result ≡ has_answer_in watches.now number need.now }
 {
-    match watches.get(need.name) {
+    match watches.get(need.kind, need.name) {
         Some(watch) => {
             counts_for(number, need, watch.told)
                 || (counts_for(number, need, watch.timed) && need.limited)
@@ -37,24 +37,14 @@ fn has_answer(watches: &Watches, number: Gen, need: &Need<'_>) -> bool
     }
 }
 
-// The same of what it depends on at a place of its content.
-fn has_answer_at(watches: &Watches, number: Gen, content: &Content, place: usize) -> bool
-    requires within { place < length (places_of content.now) }
-    ensures { result ≡ list_all (has_answer_in watches.now number)
-        (option_to_list (need_at (places_of content.now) place)) }
-{
-    match need_at(content, place) {
-        Some(need) => has_answer(watches, number, &need),
-        None => true,
-    }
-}
-
 // Whether the generation of this number and content is answered: each of its dependencies is.
+#[tactic(auto, using(crate::proofs::NeedLemmas::all_needs))]
 fn is_answered(watches: &Watches, number: Gen, content: &Content) -> bool
     ensures { result ≡ is_answered_in watches.now number content.now }
 {
-    for place in 0..place_count(content) {
-        if !has_answer_at(watches, number, content, place) {
+    let mut needs = Needs::of(content);
+    while let Some(need) = needs.next() {
+        if !has_answer(watches, number, &need) {
             return false;
         }
     }
@@ -81,9 +71,9 @@ fn is_round_done(watches: &Watches, results: &Endpoints, number: Gen, content: &
 
 // Whether a generation has a result of each host of the value of a name.
 fn is_value_done(watches: &Watches, results: &Endpoints, number: Gen, service: &Name) -> bool
-    ensures { result ≡ are_results_in results.now number (rows_in (watch_in watches.now service.now).value) }
+    ensures { result ≡ are_results_in results.now number (rows_in (watch_in watches.now (named Eds service.now)).value) }
 {
-    let Some(watch) = watches.get(service) else {
+    let Some(watch) = watches.get(Kind::Eds, service) else {
         return true;
     };
     match &watch.value {
@@ -100,8 +90,8 @@ fn is_ready(watches: &Watches, results: &Endpoints, row: &GenRow) -> bool
         && is_round_done(watches, results, row.number, &row.content)
 }
 
-/// Looks at the rows of these numbers anew: those that are due are put among the due ones, and the others left out. Each look
-/// counts. Out of memory, nothing is promised of the due ones.
+/// Looks at the rows of these numbers anew: those that are due are put among the due ones,
+/// and the others left out. Each look counts. Out of memory, the due is unspecified ones.
 pub fn refresh<L: Ledger>(
     table: &Generations,
     watches: &Watches,

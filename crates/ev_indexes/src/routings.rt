@@ -1,26 +1,35 @@
 //! What a picture shows of listeners.
 
 ghost use Rattle.std.specs.Prelude.{◌≡◌, Some, map, option_map, IfOk};
-ghost use Rattle.ev_types.specs.declared.contents.Kind.TheVariants.{Lds};
+ghost use Rattle.ev_types.specs.declared.contents.Kind.TheVariants.{Rds};
+ghost use Rattle.ev_mentions.specs.Keys.{named};
+ghost use Rattle.ev_model.specs.Origins.{placed_default, placed_from};
+ghost use Rattle.ev_indexes.specs.Origins.{AreKept};
 ghost use Rattle.ev_model.specs.Picture.{table_in};
 ghost use Rattle.ev_indexes.specs.Indexes.{IsIndexed};
 ghost use Rattle.ev_indexes.specs.Reads.{chain_in, listener_in, routing_in};
 ghost use Rattle.ev_indexes.specs.Shown.{first_of, listener_shown_in, listener_by, routed_at};
 ghost use Rattle.ev_indexes.specs.Watched.{watch_in};
-ghost use Rattle.ev_indexes.specs.Worlds.{InWorldsOf};
+ghost use Rattle.ev_indexes.specs.Worlds.{InWorlds};
 
+use crate::origins::{KeptPlaces, kept_places, origin_of};
+use crate::shown::lacks_secret;
 use crate::{State, Watches};
 use ev_model::{Routing, ServedChain, ServedListener};
-use ev_types::{Content, FilterChain, Gen, GenRow, Name, RouteTable, Seq, Serve, Shared, TryCopy};
+use ev_types::{
+    ChainPlace, Content, FilterChain, Gen, GenRow, Kind, Name, RouteTable, Seq, Serve, Shared,
+    TryCopy,
+};
 use std::alloc::{AllocError, Global};
 
 impl State {
-    /// What a picture shows of the listener of this number once listeners serve: where it is active, its chains with their
-    /// routes or targets. It costs a look-up of the number, and one of a name for each chain that depends on one.
+    /// What a picture shows of the listener of this number once listeners serve:
+    /// where it is active, its chains with their routes or targets.
+    /// It costs a look-up of the number, and one of a name for each chain that depends on one.
     pub fn listener(&self, alloc: Global, number: Gen) -> Result<Option<ServedListener>, AllocError>
         requires indexed { IsIndexed self.now }
         ensures rows { IfOk result (λ served. served ≡ listener_by self.now number) }
-        ensures world { IfOk result (λ served. InWorldsOf Lds self.now (λ world. served ≡ routed_at world number)) }
+        ensures world { IfOk result (λ served. InWorlds self.now (λ world. served ≡ routed_at world number)) }
     {
         match self.table.get(number) {
             Some(row) => active_listener(alloc, &self.watches, row),
@@ -37,7 +46,7 @@ fn active_listener(
 ) -> Result<Option<ServedListener>, AllocError>
     ensures { IfOk result (λ served. served ≡ listener_shown_in watches.now (Some row.now)) }
 {
-    if !row.status.is_active() {
+    if !row.kind.is(Kind::Lds) || !row.status.is_active() {
         return Ok(None);
     }
     listener(alloc, watches, row)
@@ -55,6 +64,7 @@ fn listener(
         return Ok(None);
     };
     let listener = listener.get();
+    let kept = kept_places(alloc, row.kept.as_slice())?;
     Ok(Some(ServedListener {
         number: row.number,
         name: row.name.copy(alloc)?,
@@ -63,41 +73,84 @@ fn listener(
         udp: listener.address.udp,
         restores: listener.restores,
         hands_over: listener.hands_over,
-        filter_chains: chains(alloc, watches, listener.filter_chains.as_slice())?,
-        default_filter_chain: default_chain(alloc, watches, &listener.default_filter_chain)?,
+        filter_chains: chains(
+            alloc,
+            watches,
+            row,
+            &kept,
+            listener.filter_chains.as_slice(),
+        )?,
+        default_filter_chain: default_chain(
+            alloc,
+            watches,
+            row,
+            &kept,
+            &listener.default_filter_chain,
+        )?,
     }))
 }
 
-// These chains, each with where its connections go.
+// These chains of a generation, each with where its connections go.
 fn chains(
     alloc: Global,
     watches: &Watches,
+    row: &GenRow,
+    kept: &KeptPlaces,
     chains: &[FilterChain],
 ) -> Result<Seq<ServedChain>, AllocError>
-    ensures { IfOk result (λ served. served ≡ map (chain_in watches.now) chains.now) }
+    requires kept { AreKept row.now.kept kept.now }
+    ensures { IfOk result (λ served. served ≡ map (chain_in watches.now row.now) (placed_from 0 chains.now)) }
 {
     let mut served = Vec::new(alloc);
-    for chain in chains {
-        served.push(ServedChain {
-            criteria: chain.criteria.copy(alloc)?,
-            routing: routing(alloc, watches, &chain.serve)?,
-        })?;
+    let mut place = 0u32;
+    for given in chains {
+        served.push(chain(alloc, watches, row, kept, ChainPlace::At(place), given)?)?;
+        place = place.checked_add(1).ok_or(AllocError)?;
     }
     Ok(Seq::from_vec(served))
 }
 
-// Where connections go that no chain takes, if they go anywhere.
+// The chain of a generation that takes what no other does, if there is one.
 fn default_chain(
     alloc: Global,
     watches: &Watches,
-    serve: &Option<Serve>,
-) -> Result<Option<Routing>, AllocError>
-    ensures { IfOk result (λ routing. routing ≡ option_map (routing_in watches.now) serve.now) }
+    row: &GenRow,
+    kept: &KeptPlaces,
+    given: &Option<FilterChain>,
+) -> Result<Option<ServedChain>, AllocError>
+    requires kept { AreKept row.now.kept kept.now }
+    ensures { IfOk result (λ served. served ≡ option_map (λ c. chain_in watches.now row.now (placed_default c)) given.now) }
 {
-    match serve {
-        Some(serve) => Ok(Some(routing(alloc, watches, serve)?)),
+    match given {
+        Some(given) => Ok(Some(chain(alloc, watches, row, kept, ChainPlace::Default, given)?)),
         None => Ok(None),
     }
+}
+
+// A chain of a generation, with where its connections go.
+fn chain(
+    alloc: Global,
+    watches: &Watches,
+    row: &GenRow,
+    kept: &KeptPlaces,
+    place: ChainPlace,
+    chain: &FilterChain,
+) -> Result<ServedChain, AllocError>
+    requires kept { AreKept row.now.kept kept.now }
+    ensures { IfOk result (λ served. served ≡ chain_in watches.now row.now (record { place = place; chain = chain.now })) }
+{
+    let is_given = !chain.body_text.as_str().is_empty();
+    Ok(ServedChain {
+        place: if is_given { Some(place) } else { None },
+        origin: if is_given {
+            Some(origin_of(row.number, kept, place))
+        } else {
+            None
+        },
+        criteria: chain.criteria.copy(alloc)?,
+        routing: routing(alloc, watches, &chain.serve)?,
+        lacks_secret: lacks_secret(watches, chain.secrets.as_slice()),
+    })
 }
 
 // Where a chain's connections go.
@@ -114,9 +167,9 @@ fn routing(alloc: Global, watches: &Watches, serve: &Serve) -> Result<Routing, A
 
 // The routes that are the value of a name, or none.
 fn value(alloc: Global, watches: &Watches, name: &Name) -> Result<Shared<RouteTable>, AllocError>
-    ensures { IfOk result (λ table. table ≡ table_in (watch_in watches.now name.now).value) }
+    ensures { IfOk result (λ table. table ≡ table_in (watch_in watches.now (named Rds name.now)).value) }
 {
-    if let Some(watch) = watches.get(name) {
+    if let Some(watch) = watches.get(Kind::Rds, name) {
         if let Some(Content::Routes(table)) = &watch.value {
             return table.copy(alloc);
         }

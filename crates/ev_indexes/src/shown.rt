@@ -1,31 +1,33 @@
 //! What a picture shows of clusters.
 
 ghost use Rattle.std.specs.Prelude.{◌≡◌, true, Some, filter, IfOk, IfSome};
-ghost use Rattle.ev_types.specs.declared.contents.Kind.TheVariants.{Cds};
 ghost use Rattle.ev_types.specs.Statuses.{is_active};
 ghost use Rattle.ev_model.specs.Picture.{is_elsewhere};
-ghost use Rattle.ev_endpoints.specs.Kept.{marked_in};
+ghost use Rattle.ev_indexes.specs.KeptEndpoints.{marked_in};
 ghost use Rattle.ev_indexes.specs.Indexes.{IsIndexed, IsAssignmentOf, MarksAssignment};
-ghost use Rattle.ev_indexes.specs.Reads.{is_eligible_in, cluster_in, eligible_in};
+ghost use Rattle.ev_indexes.specs.Reads.{is_eligible_in, is_missing_in, cluster_in, eligible_in, lacks_in, secrets_in};
 ghost use Rattle.ev_indexes.specs.Shown.{cluster_at, cluster_shown_in, cluster_by};
-ghost use Rattle.ev_indexes.specs.Worlds.{InWorldsOf};
+ghost use Rattle.ev_indexes.specs.Worlds.{InWorlds};
 
 use crate::hosts::{assignment, is_checked};
-use crate::{State, Watches};
-use ev_endpoints::Endpoints;
+use crate::{Endpoints, State, Watches};
 use ev_hosts::{ChosenHosts, ShownCluster};
-use ev_types::{Assignment, Content, Discovery, Gen, GenRow, Seq, Shared, TryCopy};
+use ev_model::Secrets;
+use ev_types::{
+    Assignment, Content, Discovery, Gen, GenRow, Kind, Reference, Seq, Shared, TryCopy,
+};
 use std::alloc::{AllocError, Global};
 
 impl State {
-    /// What a picture shows of the cluster of this number now: where it is active, its hosts that may be chosen. It costs a
-    /// look-up of the number; and where its rows are marked, a copy of the marks, else a look-up of the name that the cluster
-    /// depends on, and of each of its hosts.
+    /// What a picture shows of the cluster of this number now:
+    /// where it is active, its hosts that may be chosen. It costs a look-up of the number;
+    /// and where its rows are marked, a copy of the marks, else a look-up of the name that the cluster depends on,
+    /// and of each of its hosts.
     pub fn cluster(&self, alloc: Global, number: Gen) -> Result<Option<ShownCluster>, AllocError>
         requires indexed { IsIndexed self.now }
         requires marked { MarksAssignment self.now number }
         ensures rows { IfOk result (λ served. served ≡ cluster_by self.now number) }
-        ensures world { IfOk result (λ served. InWorldsOf Cds self.now (λ world. served ≡ cluster_at world number)) }
+        ensures world { IfOk result (λ served. InWorlds self.now (λ world. served ≡ cluster_at world number)) }
     {
         match self.table.get(number) {
             Some(row) => active_cluster(alloc, &self.watches, &self.results, row),
@@ -45,7 +47,7 @@ fn active_cluster(
         → IfSome (marked_in results.now row.now.number) (IsAssignmentOf watches.now row.now.content) }
     ensures { IfOk result (λ served. served ≡ cluster_shown_in watches.now results.now (Some row.now)) }
 {
-    if !row.status.is_active() {
+    if !row.kind.is(Kind::Cds) || !row.status.is_active() {
         return Ok(None);
     }
     Ok(Some(cluster(alloc, watches, results, row)?))
@@ -66,6 +68,7 @@ fn cluster(
         name: row.name.copy(alloc)?,
         hosts: eligible(alloc, watches, results, row)?,
         elsewhere: is_elsewhere(&row.content),
+        secrets: secrets(watches, &row.content),
     })
 }
 
@@ -75,7 +78,46 @@ fn is_elsewhere(content: &Content) -> bool
 {
     match content {
         Content::Cluster(cluster) => matches!(&cluster.get().discovery, Discovery::Elsewhere),
-        Content::Assignment(_) | Content::Listener(_) | Content::Routes(_) => false,
+        _ => false,
+    }
+}
+
+// What is known of the secrets of a content.
+fn secrets(watches: &Watches, content: &Content) -> Secrets
+    ensures { result ≡ secrets_in watches.now content.now }
+{
+    let Content::Cluster(cluster) = content else {
+        return Secrets::There;
+    };
+    let cluster = cluster.get();
+    let lacks = lacks_secret(watches, cluster.secrets.as_slice());
+    match &cluster.secrets_by_match {
+        None if lacks => Secrets::Missing,
+        None => Secrets::There,
+        Some(by_match) => {
+            if lacks || lacks_secret(watches, by_match.as_slice()) {
+                Secrets::Unknown
+            } else {
+                Secrets::There
+            }
+        }
+    }
+}
+
+/// Whether one of these secrets has no value.
+pub(crate) fn lacks_secret(watches: &Watches, secrets: &[Reference]) -> bool
+    ensures { result ≡ lacks_in watches.now secrets.now }
+{
+    secrets.iter().any(|secret| is_missing(watches, secret))
+}
+
+// Whether a secret has no value.
+fn is_missing(watches: &Watches, secret: &Reference) -> bool
+    ensures { result ≡ is_missing_in watches.now secret.now }
+{
+    match watches.get(Kind::Sds, &secret.name) {
+        Some(watch) => watch.value.is_none(),
+        None => true,
     }
 }
 

@@ -3,17 +3,13 @@ ghost use Rattle.ev_model.specs.World.{opening};
 ghost use Rattle.ev_indexes.specs.Worlds.{HasRows};
 ghost use Rattle.ev_indexes.specs.Indexes.{IsIndexed};
 
-use crate::{Addresses, Due, Names, Watches};
-use ev_endpoints::Endpoints;
-use ev_generations::Generations;
+use crate::{Addresses, Due, Endpoints, Generations, Names, Watches};
 use ev_keys::Keys;
-use ev_types::Kind;
 use std::alloc::Global;
 
-/// The table of the generations of one kind, with its indexes.
+/// The table of the generations, clusters and listeners, with its indexes.
 #[derive(Drop)]
 pub struct State {
-    pub kind: Kind,
     pub table: Generations,
     pub names: Names,
     pub watches: Watches,
@@ -23,16 +19,14 @@ pub struct State {
 }
 
 impl State {
-    /// No generation of this kind, and nothing known. Its tables by names, addresses and hosts hash by these keys. It takes no
-    /// memory, and stands for every world in which nothing happened.
-    pub fn new(alloc: Global, keys: Keys, kind: Kind) -> State
-        ensures kind { result.kind ≡ kind }
+    /// No generation, and nothing known. Its tables by names, addresses and hosts hash by these keys. It takes no
+    /// memory, and represents every world in which nothing happened.
+    pub fn new(alloc: Global, keys: Keys) -> State
         ensures indexed { IsIndexed result }
         ensures made { result.table.made ≡ 0 }
         ensures stands { (workers : ℕ) (node : List ℕ) → HasRows result (opening workers node) }
     {
         State {
-            kind,
             table: Generations::new(alloc),
             names: Names::new(alloc, keys),
             watches: Watches::new(alloc, keys),

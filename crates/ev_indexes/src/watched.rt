@@ -1,69 +1,78 @@
 ghost use Rattle.std.specs.Prelude.{◌≡◌, ◌<◌, ◌++◌, [], ◌∷◌, length, option_to_list, IfOk, OnOk};
-ghost use Rattle.ev_model.specs.Watching.{watched_of, sorted_names};
-ghost use Rattle.ev_indexes.specs.Needs.{names_of, need_at, needs_at, places_of};
+ghost use Rattle.ev_model.specs.Watching.{names_awaited, watched_of, sorted_names};
+ghost use Rattle.ev_indexes.specs.Needs.{needs_of};
 ghost use Rattle.ev_indexes.specs.Reads.{names_needed, names_watched};
-ghost use Rattle.ev_indexes.specs.Worlds.{InWorldsWatching};
+ghost use Rattle.ev_indexes.specs.Worlds.{InWorlds};
 
-use crate::{State, need_at, place_count};
-use ev_generations::Generations;
-use ev_types::{Content, GenRow, Name, Seq, TryCopy};
+use crate::{Generations, Need, Needs, State};
+use ev_types::{Content, GenRow, Kind, Name, Seq, TryCopy};
 use std::alloc::{AllocError, Global};
 
 impl State {
-    /// The names that live generations depend on, in the order of their bytes, each once. It goes over the whole table.
-    pub fn watched(&self, alloc: Global) -> Result<Seq<Name>, AllocError>
-        ensures rows { IfOk result (λ names. names ≡ names_watched self.now.table.rows) }
-        ensures world { IfOk result (λ names. InWorldsWatching self.now (λ world kind. names ≡ watched_of world kind)) }
+    /// The names of a kind that live generations depend on, in the order of their bytes, each once.
+    /// It goes over the whole table.
+    pub fn watched(&self, alloc: Global, kind: Kind) -> Result<Seq<Name>, AllocError>
+        ensures rows { IfOk result (λ names. names ≡ names_watched kind self.now.table.rows) }
+        ensures world { IfOk result (λ names. InWorlds self.now (λ world. names ≡ watched_of world kind)) }
     {
-        let mut names = needs(alloc, &self.table)?;
+        let mut names = needs(alloc, kind, &self.table)?;
         sort(&mut names);
         Ok(Seq::from_vec(names))
     }
 }
 
-// The names that live rows of a table depend on.
-fn needs(alloc: Global, table: &Generations) -> Result<Vec<Name>, AllocError>
-    ensures { IfOk result (λ names. names.items ≡ names_needed table.now.rows) }
+// The names of a kind that live rows of a table depend on.
+fn needs(alloc: Global, kind: Kind, table: &Generations) -> Result<Vec<Name>, AllocError>
+    ensures { IfOk result (λ names. names.items ≡ names_needed kind table.now.rows) }
 {
     let mut names = Vec::new(alloc);
     for row in table.rows() {
-        push_needs_of(alloc, row, &mut names)?;
+        push_needs_of(alloc, kind, row, &mut names)?;
     }
     Ok(names)
 }
 
-// Puts the names that a row depends on to the others, where it is live.
-fn push_needs_of(alloc: Global, row: &GenRow, names: &mut Vec<Name>) -> Result<(), AllocError>
-    ensures { OnOk result (names.new.items ≡ names.old.items ++ names_needed (row.now ∷ [])) }
-{
-    if row.status.is_live() {
-        push_needs(alloc, &row.content, names)?;
-    }
-    Ok(())
-}
-
-// Puts the names that a generation of this content depends on to the others, place by place.
-fn push_needs(alloc: Global, content: &Content, names: &mut Vec<Name>) -> Result<(), AllocError>
-    ensures { OnOk result (names.new.items ≡ names.old.items ++ names_of (needs_at (places_of content.now))) }
-{
-    for place in 0..place_count(content) {
-        push_need(alloc, content, place, names)?;
-    }
-    Ok(())
-}
-
-// Puts the name that it depends on at a place to the others.
-fn push_need(
+// Puts the names of a kind that a row depends on to the others, where it is live.
+fn push_needs_of(
     alloc: Global,
-    content: &Content,
-    place: usize,
+    kind: Kind,
+    row: &GenRow,
     names: &mut Vec<Name>,
 ) -> Result<(), AllocError>
-    requires within { place < length (places_of content.now) }
-    ensures { OnOk result (names.new.items ≡ names.old.items
-        ++ names_of (option_to_list (need_at (places_of content.now) place))) }
+    ensures { OnOk result (names.new.items ≡ names.old.items ++ names_needed kind (row.now ∷ [])) }
 {
-    if let Some(need) = need_at(content, place) {
+    if row.status.is_live() {
+        push_needs(alloc, kind, &row.content, names)?;
+    }
+    Ok(())
+}
+
+// Puts the names of a kind that a generation of this content depends on to the others.
+fn push_needs(
+    alloc: Global,
+    kind: Kind,
+    content: &Content,
+    names: &mut Vec<Name>,
+) -> Result<(), AllocError>
+    ensures { OnOk result (names.new.items ≡ names.old.items ++ names_awaited kind (needs_of content.now)) }
+{
+    let mut needs = Needs::of(content);
+    while let Some(need) = needs.next() {
+        push_need(alloc, kind, &need, names)?;
+    }
+    Ok(())
+}
+
+// Puts a name that it depends on to the others, where it is of the kind.
+fn push_need(
+    alloc: Global,
+    kind: Kind,
+    need: &Need<'_>,
+    names: &mut Vec<Name>,
+) -> Result<(), AllocError>
+    ensures { OnOk result (names.new.items ≡ names.old.items ++ names_awaited kind (need.now ∷ [])) }
+{
+    if need.kind.is(kind) {
         names.push(need.name.copy(alloc)?)?;
     }
     Ok(())

@@ -1,25 +1,28 @@
-//! What is known of names that generations depend on. Values are kept beside the marks of their names, for endpoints and for routes
-//! alike: a content is shared, so there is one place for both.
+//! What is known of names of each kind that generations depend on.
+//! Values are kept beside the marks of their names, for all kinds alike:
+//! a content is shared, so there is one place for all.
 
-ghost use Rattle.std.specs.Prelude.{◌≡◌, ◌≢◌, ◌++◌, [], Decides, IsSome, OnOk, OnErr};
+ghost use Rattle.std.specs.Prelude.{◌≡◌, ◌≢◌, ◌++◌, [], None, Decides, IsSome, OnOk, OnErr};
 ghost use Rattle.std.specs.Map.{lookup};
 ghost use Rattle.std.specs.Option.{option_copied};
-ghost use Rattle.std.specs.Str.{bytes_eq};
+ghost use Rattle.ev_mentions.specs.Keys.{key_same, named};
 ghost use Rattle.ev_indexes.specs.Kept.{Sets};
 ghost use Rattle.ev_indexes.specs.Due.{has_number};
 ghost use Rattle.ev_indexes.specs.Watched.{Turns, unwatched, has_watcher, watchers_of, watched_too, watched_less, with_arrival};
 
 use crate::Numbers;
+use crate::names::key;
 use ev_keys::Keys;
-use ev_mentions::NameKey;
-use ev_types::{Arrival, Content, Gen, Name, Seq, TryCopy};
+use ev_mentions::{Key, KeyText};
+use ev_types::{Arrival, Content, Gen, Kind, Name, Seq, TryCopy};
 use indexmap::IndexMap;
 use std::alloc::{AllocError, Global};
 use std::marker::Model;
 
-/// What is known of a name that is watched: the generations that wait for it without a limit, and those that wait for it at most
-/// until the initial fetch timeout; one may stand in both. How many numbers were drawn when the name was last told of, and when
-/// its wait last timed out: that answers the generations up to the last of these numbers, and none that has to be told anew.
+/// What is known of a name that is watched: the generations that wait for it without a limit,
+/// and those that wait for it at most until the initial fetch timeout; one may stand in both.
+/// How many numbers were allocated when the name was last told of, and when its wait last timed out:
+/// that answers the generations up to the last of these numbers, and none that has to be told anew.
 /// And its last value.
 #[derive(Drop)]
 pub struct Watch {
@@ -38,7 +41,8 @@ impl Watch {
         has_number(&self.unlimited) || has_number(&self.limited)
     }
 
-    /// Puts the numbers of the generations that depend on the name to the others. One that waits for it both ways is put twice.
+    /// Puts the numbers of the generations that depend on the name to the others.
+    /// One that waits for it both ways is put twice.
     pub fn put_watchers(&self, numbers: &mut Seq<Gen>) -> Result<(), AllocError>
         ensures { OnOk result (numbers.new ≡ numbers.old ++ watchers_of self.now) }
     {
@@ -65,10 +69,10 @@ pub fn put_all(numbers: &mut Seq<Gen>, more: &[Gen]) -> Result<(), AllocError>
     Ok(())
 }
 
-/// By name what is known of it. A name of which nothing is known has no entry.
+/// By kind and name what is known of it. A name of which nothing is known has no entry.
 #[derive(Drop)]
 pub struct Watches {
-    watches: IndexMap<Name, Watch, Keys>,
+    watches: IndexMap<Key, Watch, Keys>,
 }
 
 impl Model for Watches {
@@ -92,76 +96,96 @@ impl Watches {
         }
     }
 
-    /// What is known of a name, where something is.
-    pub fn get(&self, name: &Name) -> Option<&Watch>
-        ensures { option_copied result ≡ lookup (bytes_eq name.now) self.now }
+    /// What is known of a name of a kind, where something is.
+    pub fn get(&self, kind: Kind, name: &Name) -> Option<&Watch>
+        ensures { option_copied result ≡ lookup (key_same (named kind name.now)) self.now }
     {
-        self.watches.get(name)
+        self.get_text(kind, name.as_str())
     }
 
     /// The same for a text, of which nothing is known where it is no name.
-    pub fn get_text(&self, text: &str) -> Option<&Watch>
-        ensures { option_copied result ≡ lookup (bytes_eq text.now) self.now }
+    pub fn get_text(&self, kind: Kind, text: &str) -> Option<&Watch>
+        ensures { option_copied result ≡ lookup (key_same (named kind text.now)) self.now }
     {
-        self.watches.get(&NameKey::new(text))
+        self.watches.get(&KeyText::new(kind, text))
     }
 
-    /// One more generation depends on the name; the one that was put last isn't put again. Without memory nothing is promised.
+    /// One more generation depends on the name; the one that was put last isn't put again.
+    /// Without memory it is unspecified.
     pub fn watch(
         &mut self,
         alloc: Global,
+        kind: Kind,
         name: &Name,
         number: Gen,
         limited: bool,
     ) -> Result<(), AllocError>
-        ensures { OnOk result (Turns (watched_too number limited) self.old self.new name.now) }
+        ensures { OnOk result (Turns (watched_too number limited) self.old self.new (named kind name.now)) }
     {
-        if let Some(watch) = self.watches.get_mut(name) {
-            return add(watch, number, limited);
-        }
+        let Some(watch) = self.watches.get_mut(&key(kind, name)) else {
+            return self.begin(alloc, kind, name, number, limited);
+        };
+        add(watch, number, limited)
+    }
+
+    // A first generation depends on a name of which nothing is known.
+    fn begin(
+        &mut self,
+        alloc: Global,
+        kind: Kind,
+        name: &Name,
+        number: Gen,
+        limited: bool,
+    ) -> Result<(), AllocError>
+        requires { lookup (key_same (named kind name.now)) self.old ≡ None }
+        ensures { OnOk result (Turns (watched_too number limited) self.old self.new (named kind name.now)) }
+    {
         let mut watch = nothing(alloc);
         add(&mut watch, number, limited)?;
-        let Ok(_) = self.watches.insert(name.copy(alloc)?, watch) else {
+        let name = name.copy(alloc)?;
+        let Ok(_) = self.watches.insert(Key { kind, name }, watch) else {
             return Err(AllocError);
         };
         Ok(())
     }
 
     /// A generation no longer depends on the name. It takes no memory.
-    pub fn unwatch(&mut self, name: &Name, number: Gen)
-        ensures { Turns (watched_less number) self.old self.new name.now }
+    pub fn unwatch(&mut self, kind: Kind, name: &Name, number: Gen)
+        ensures { Turns (watched_less number) self.old self.new (named kind name.now) }
     {
-        let Some(watch) = self.watches.get_mut(name) else {
+        let key = key(kind, name);
+        let Some(watch) = self.watches.get_mut(&key) else {
             return;
         };
         leave(watch, number);
         if is_nothing(watch) {
-            self.watches.swap_remove(name);
+            self.watches.swap_remove(&key);
         }
     }
 
-    /// Something came for the name, when so many numbers were drawn. Without memory nothing is promised.
+    /// Something was received for the name, when so many numbers were allocated. Without memory it is unspecified.
     pub fn tell(
         &mut self,
         alloc: Global,
         made: u32,
+        kind: Kind,
         name: &Name,
         arrival: &Arrival,
     ) -> Result<(), AllocError>
-        requires { IsSome (lookup (bytes_eq name.now) self.old) }
-        ensures { OnOk result (Turns (with_arrival made arrival.now) self.old self.new name.now) }
+        requires { IsSome (lookup (key_same (named kind name.now)) self.old) }
+        ensures { OnOk result (Turns (with_arrival made arrival.now) self.old self.new (named kind name.now)) }
     {
-        let Some(watch) = self.watches.get_mut(name) else {
+        let Some(watch) = self.watches.get_mut(&key(kind, name)) else {
             unreachable!()
         };
         note(alloc, watch, made, arrival)
     }
 
     /// Forgets all that is known of the name. It takes no memory.
-    pub fn forget(&mut self, name: &Name)
-        ensures { Sets unwatched self.old self.new name.now unwatched }
+    pub fn forget(&mut self, kind: Kind, name: &Name)
+        ensures { Sets unwatched self.old self.new (named kind name.now) unwatched }
     {
-        self.watches.swap_remove(name);
+        self.watches.swap_remove(&key(kind, name));
     }
 }
 
@@ -211,7 +235,7 @@ fn leave(watch: &mut Watch, number: Gen)
     watch.limited.leave_out(number);
 }
 
-// Something came for a name.
+// Something was received for a name.
 fn note(alloc: Global, watch: &mut Watch, made: u32, arrival: &Arrival) -> Result<(), AllocError>
     ensures ok { OnOk result (watch.new ≡ with_arrival made arrival.now watch.old) }
     ensures some { OnOk result (watch.new ≢ unwatched) }

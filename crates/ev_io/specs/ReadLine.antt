@@ -66,7 +66,8 @@ pub record ReadsLine (old new : LinesState) (bytes more before after : List ℕ)
   pub means : Means old new (bytes ++ more) before after answer
   pub needed : (more ≡ []) ⊎ ((n : ℕ) × (n < length more) × (length more ≤ n + MAX_PIECE_BYTES) × IsUnfinished old.given old.ended (bytes ++ take n more))
 
--- where no fault was reported yet, a call takes some bytes, and reads a line of whatever bytes were taken before and these
+-- where no fault was reported yet, a call takes some bytes, and reads a line
+-- of whatever bytes were taken before and these
 abbrev pub ReadsOn : {S : Type 0} → (S → Option (List ℕ)) → S → S → LinesState → LinesState → List ℕ → List ℕ → Result LineEnd LineFault → Type 0
 ReadsOn left source source' old new before after answer =
     old.told ≡ None → (more : List ℕ) × Takes (left source) (left source') more × ((bytes : List ℕ) → HasTaken old bytes → ReadsLine old new bytes more before after answer)
@@ -75,8 +76,8 @@ ReadsOn left source source' old new before after answer =
 abbrev pub AsksWhereUnfinished : {S : Type 0} → S → S → LinesState → Type 0
 AsksWhereUnfinished source source' old = (bytes : List ℕ) → HasTaken old bytes → (source' ≡ source) ⊎ IsUnfinished old.given old.ended bytes
 
--- where a reader doesn't know after a call that the source gave its end, it didn't before, and the source didn't give it in
--- the call
+-- where a reader doesn't know after a call that the source gave its end, it didn't before,
+-- and the source didn't give it in the call
 pub record LeavesOpen {S : Type 0} (ended : S → Bool) (source source' : S) (old new : LinesState) : Type 0 where
   pub before : ¬ (IsTrue new.ended) → ¬ (IsTrue old.ended)
   pub unended : ¬ (IsTrue new.ended) → ended source' ≡ ended source

@@ -8,8 +8,8 @@
 //!   after that would be 2^64, which no list of `u64` names, so such a call doesn't fail by name.
 //! - A write of no bytes to a full `MemSink` is answered with 0, and a named call fails whatever its bytes are.
 //! - `StdSource` and `StdSink` don't try an interrupted call again: each `Err` is a `Failed`.
-//! - Where a flush fails after the writer took bytes, `StdSink` answers `Failed`; it doesn't say which bytes, so nothing is
-//!   claimed of them.
+//! - Where a flush fails after the writer took bytes, `StdSink` returns `Failed`;
+//!   it doesn't say which bytes, so nothing is claimed of them.
 //! - `MemSink::as_bytes` shows what was written; the tests above read it.
 //! - An Ok of a source or a sink leaves its count of faults as it was. On a first reading a trait might let a count
 //!   rise at any call, as long as it never falls; this is stricter. Without it a program that tries a failed call
@@ -26,8 +26,9 @@
 //!   where its line isn't whole. At the end of the input a last line without its line feed is a line like the others.
 //! - `LineFault`'s `TooLong`, `TooMany` and `TooLarge` are the kinds 1, 2 and 3 of a script's faults; `ScriptFault`
 //!   is here as a plain type, for the readers of scripts above.
-//! - `Lines` feeds each line that it gives to a hasher, once and whole, and makes keys of that for the tables of names above
-//!   (ev_keys). No view has the hasher: nothing depends on which keys they are.
+//! - `Lines` feeds each line that it gives to a hasher, once and whole,
+//!   and makes keys of that for the tables of names above (ev_keys). No view has the hasher:
+//!   nothing depends on which keys they are.
 //! - The line feed is looked for by a plain loop over the bytes, each byte once: what was searched before a read
 //!   isn't searched again. Given lines are moved out of the buffer only before a read.
 #![tactic(auto)]

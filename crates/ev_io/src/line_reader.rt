@@ -81,8 +81,8 @@ impl Lines {
         self.given
     }
 
-    /// The keys that are made of the lines given so far: tables of names that stand in these lines hash by them. Which keys
-    /// they are isn't promised.
+    /// The keys that are made of the lines given so far: tables of names that stand
+    /// in these lines hash by them. Which keys they are isn't promised.
     pub fn keys(&self) -> Keys {
         Keys::after(self.hasher)
     }
@@ -94,7 +94,7 @@ impl Lines {
     ///
     /// # Errors
     /// `TooLong`, `TooMany` and `TooLarge` where the first fault of the bytes taken is in the
-    /// next line, and `Failed` where a read failed before: each call from then on answers the same.
+    /// next line, and `Failed` where a read failed before: each call from then on returns the same.
     /// `OutOfMemory` where there is no memory: the next call goes on with the bytes taken.
     pub fn read_line<S: Source>(
         &mut self,

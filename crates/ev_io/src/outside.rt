@@ -22,8 +22,8 @@ pub trait Source {
     /// empty is the end of input.
     ///
     /// # Errors
-    /// `Failed` where the outside failed: nothing was taken, and the count rose; nothing is promised
-    /// of `buf` then. An `Ok` leaves the count as it was, so the count shows whether any call failed.
+    /// `Failed` where the outside failed: nothing was taken, and the count rose; `buf` is
+    /// unspecified then. An `Ok` leaves the count as it was, so the count shows whether any call failed.
     fn read(&mut self, buf: &mut [u8]) -> Result<usize, Failed>
         ensures bound { IfOk result (λ n. n ≤ length buf.new) }
         ensures bytes { IfOk result (λ n. left self.old ≡ prepend_known (take n buf.new) (left self.new)) }

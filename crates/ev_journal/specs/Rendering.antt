@@ -1,8 +1,8 @@
--- The text of a journal: lines of compact JSON with sorted keys, each closed by a line feed. This project's own; a request's
--- text is that of the crate that writes requests.
+-- The text of a journal: lines of compact JSON with sorted keys, each closed by a line feed.
+-- This project's own; a request's text is that of the crate that writes requests.
 use Rattle.std.specs.Prelude.{ℕ, List, [], ◌∷◌, ◌++◌, length, map, Option, None, Some, codes, decimal}
 use Rattle.std.specs.List.{flat_map}
-use Rattle.serde_json.specs.Data.{Data, number, unsigned, string, array, object, member, no_members}
+use Rattle.serde_json.specs.Data.{Data, number, unsigned, string, array, object, Members, member, no_members}
 use Rattle.serde_json.specs.View.{items_of}
 use Rattle.serde_json.specs.Written.{compact_text}
 use Rattle.ev_types.specs.declared.events.Actor.{Actor}
@@ -10,10 +10,14 @@ use Rattle.ev_types.specs.declared.events.Actor.TheVariants.{Stream, Health, Tim
 use Rattle.ev_types.specs.declared.events.Op.{Op}
 use Rattle.ev_types.specs.declared.events.Op.TheVariants.{Connect, Disconnect, Response, Health as health, FetchTimeout, DrainTimeout, TtlExpired, Publish, Reap, Accept, Close, Settle}
 use Rattle.ev_types.specs.declared.events.Answer.{Answer}
-use Rattle.ev_types.specs.declared.events.Answer.TheVariants.{Ignored, Done, Moved, Replied, Version, Unchanged, Reaped, InUse, NoListener, NoChain, Undecided, Elsewhere, NoRoute, Redirect, NoCluster, NoEndpoint, Local, Served, NotOpen, Settled}
+use Rattle.ev_types.specs.declared.events.Answer.TheVariants.{Ignored, Done, Moved, Replied, Version, Unchanged, Reaped, InUse, NoListener, NoChain, On, NotOpen, Settled}
+use Rattle.ev_types.specs.declared.origins.ChainPlace.{ChainPlace}
+use Rattle.ev_types.specs.declared.origins.ChainPlace.TheVariants.{At, Default}
+use Rattle.ev_types.specs.declared.ways.Way.{Way}
+use Rattle.ev_types.specs.declared.ways.Way.TheVariants.{Undecided, Elsewhere, NoRoute, Redirect, NoCluster, NoEndpoint, NoSecret, Local, Served}
 use Rattle.ev_types.specs.declared.hosts.Host.{Host}
 use Rattle.ev_types.specs.declared.events.Verdict.{Verdict}
-use Rattle.ev_types.specs.declared.events.Verdict.TheVariants.{New, Same, Kept, Unasked, Renewed, Refused}
+use Rattle.ev_types.specs.declared.events.Verdict.TheVariants.{New, Same, InPlace, Back, Kept, Unasked, Renewed, Refused}
 use Rattle.ev_types.specs.declared.events.Entry.{Entry}
 use Rattle.ev_types.specs.declared.journals.Row.{Row}
 use Rattle.ev_types.specs.declared.journals.Format.{Format}
@@ -53,6 +57,8 @@ number_tree n = number (unsigned n)
 abbrev pub verdict_text : Verdict → List ℕ
 verdict_text New = codes "new"
 verdict_text Same = codes "same"
+verdict_text InPlace = codes "inPlace"
+verdict_text Back = codes "back"
 verdict_text Kept = codes "kept"
 verdict_text Unasked = codes "unasked"
 verdict_text Renewed = codes "renewed"
@@ -69,33 +75,66 @@ requests_tree requests = array (items_of (map request_tree requests))
 abbrev pub numbers_tree : List ℕ → Data
 numbers_tree numbers = array (items_of (map number_tree numbers))
 
--- what becomes of a connection that a listener takes and goes to no host that is known
-abbrev pub unserved_tree : List ℕ → ℕ → Data
-unserved_tree word listener = object (member (codes "listener") (number_tree listener) (member (codes "result") (string word) no_members))
+-- a member before others, where there is a value for it
+abbrev pub with_given : {A : Type 0} → List ℕ → (A → Data) → Option A → Members → Members
+with_given key tree None members = members
+with_given key tree (Some value) members = member key (tree value) members
+
+-- the place of a chain: its number in its listener, or the default chain's word
+abbrev pub place_tree : ChainPlace → Data
+place_tree (At place) = number_tree place
+place_tree Default = string (codes "default")
+
+-- what becomes of a connection that a listener takes, in a word: by which chain where one was found, and of which
+-- cluster where one is named
+abbrev pub going_tree : List ℕ → ℕ → Option ChainPlace → Option ℕ → Data
+going_tree word listener chain cluster = object
+    (with_given (codes "chain") place_tree chain
+    (with_given (codes "cluster") number_tree cluster
+    (member (codes "listener") (number_tree listener)
+    (member (codes "result") (string word) no_members))))
 
 -- a connection that is answered at once
-abbrev pub local_tree : ℕ → ℕ → Data
-local_tree listener status = object
+abbrev pub local_tree : ℕ → Option ChainPlace → ℕ → Data
+local_tree listener chain status = object
+    (with_given (codes "chain") place_tree chain
     (member (codes "listener") (number_tree listener)
     (member (codes "result") (string (codes "local"))
-    (member (codes "status") (number_tree status) no_members)))
+    (member (codes "status") (number_tree status) no_members))))
 
 -- a connection that goes to a host of a cluster
-abbrev pub served_tree : ℕ → ℕ → Host → Data
-served_tree listener cluster host = object
+abbrev pub served_tree : ℕ → Option ChainPlace → ℕ → Host → Data
+served_tree listener chain cluster host = object
     (member (codes "address") (string host.address)
+    (with_given (codes "chain") place_tree chain
     (member (codes "cluster") (number_tree cluster)
     (member (codes "listener") (number_tree listener)
     (member (codes "port") (number_tree host.port)
-    (member (codes "result") (string (codes "served")) no_members)))))
+    (member (codes "result") (string (codes "served")) no_members))))))
 
--- a connection that goes where no script tells, by a cluster or by none
-abbrev pub elsewhere_tree : ℕ → Option ℕ → Data
-elsewhere_tree listener None = unserved_tree (codes "elsewhere") listener
-elsewhere_tree listener (Some cluster) = object
-    (member (codes "cluster") (number_tree cluster)
-    (member (codes "listener") (number_tree listener)
-    (member (codes "result") (string (codes "elsewhere")) no_members)))
+-- a connection that a listener takes
+abbrev pub taken_tree : ℕ → Option ChainPlace → Way Host → Data
+taken_tree listener chain Undecided = going_tree (codes "undecided") listener chain None
+taken_tree listener chain (Elsewhere cluster) = going_tree (codes "elsewhere") listener chain cluster
+taken_tree listener chain NoRoute = going_tree (codes "noRoute") listener chain None
+taken_tree listener chain Redirect = going_tree (codes "redirect") listener chain None
+taken_tree listener chain NoCluster = going_tree (codes "noCluster") listener chain None
+taken_tree listener chain NoEndpoint = going_tree (codes "noEndpoint") listener chain None
+taken_tree listener chain (NoSecret cluster) = going_tree (codes "noSecret") listener chain cluster
+taken_tree listener chain (Local status) = local_tree listener chain status
+taken_tree listener chain (Served cluster host) = served_tree listener chain cluster host
+
+-- numbers, where there are any
+abbrev pub any_of : List ℕ → Option (List ℕ)
+any_of [] = None
+any_of (first ∷ others) = Some (first ∷ others)
+
+-- a settle: the connections that were closed, and those that moved where there are any
+abbrev pub settled_tree : List ℕ → List ℕ → ℕ → Data
+settled_tree closed moved version = object
+    (member (codes "closed") (numbers_tree closed)
+    (with_given (codes "moved") numbers_tree (any_of moved)
+    (member (codes "version") (number_tree version) no_members)))
 
 -- an answer
 abbrev pub answer_tree : Answer → Data
@@ -111,17 +150,9 @@ answer_tree (Reaped numbers) = object (member (codes "reaped") (numbers_tree num
 answer_tree InUse = string (codes "inUse")
 answer_tree NoListener = string (codes "noListener")
 answer_tree NoChain = string (codes "noChain")
-answer_tree (Undecided listener) = unserved_tree (codes "undecided") listener
-answer_tree (Elsewhere listener cluster) = elsewhere_tree listener cluster
-answer_tree (NoRoute listener) = unserved_tree (codes "noRoute") listener
-answer_tree (Redirect listener) = unserved_tree (codes "redirect") listener
-answer_tree (NoCluster listener) = unserved_tree (codes "noCluster") listener
-answer_tree (NoEndpoint listener) = unserved_tree (codes "noEndpoint") listener
-answer_tree (Local listener status) = local_tree listener status
-answer_tree (Served listener cluster host) = served_tree listener cluster host
+answer_tree (On listener chain way) = taken_tree listener chain way
 answer_tree NotOpen = string (codes "notOpen")
-answer_tree (Settled closed version) =
-    object (member (codes "closed") (numbers_tree closed) (member (codes "version") (number_tree version) no_members))
+answer_tree (Settled closed moved version) = settled_tree closed moved version
 
 -- the object of a row, whose answer is this tree
 abbrev pub row_object : Actor → ℕ → ℕ → Op → Data → Data

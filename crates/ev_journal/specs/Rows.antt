@@ -12,9 +12,13 @@ use Rattle.ev_types.specs.declared.events.Actor.TheVariants.{Stream, Health as h
 use Rattle.ev_types.specs.declared.events.Op.{Op}
 use Rattle.ev_types.specs.declared.events.Op.TheVariants.{Connect, Disconnect, Response, Health, FetchTimeout, DrainTimeout, TtlExpired, Publish, Reap, Accept, Close, Settle}
 use Rattle.ev_types.specs.declared.events.Verdict.{Verdict}
-use Rattle.ev_types.specs.declared.events.Verdict.TheVariants.{New, Same, Kept, Unasked, Renewed, Refused}
+use Rattle.ev_types.specs.declared.events.Verdict.TheVariants.{New, Same, InPlace, Back, Kept, Unasked, Renewed, Refused}
 use Rattle.ev_types.specs.declared.events.Answer.{Answer}
-use Rattle.ev_types.specs.declared.events.Answer.TheVariants.{Ignored, Done, Moved, Replied, Version, Unchanged, Reaped, InUse, NoListener, NoChain, Undecided, Elsewhere, NoRoute, Redirect, NoCluster, NoEndpoint, Local, Served, NotOpen, Settled}
+use Rattle.ev_types.specs.declared.events.Answer.TheVariants.{Ignored, Done, Moved, Replied, Version, Unchanged, Reaped, InUse, NoListener, NoChain, On, NotOpen, Settled}
+use Rattle.ev_types.specs.declared.origins.ChainPlace.{ChainPlace}
+use Rattle.ev_types.specs.declared.origins.ChainPlace.TheVariants.{At, Default}
+use Rattle.ev_types.specs.declared.ways.Way.{Way}
+use Rattle.ev_types.specs.declared.ways.Way.TheVariants.{Undecided, Elsewhere, NoRoute, Redirect, NoCluster, NoEndpoint, NoSecret, Local, Served}
 use Rattle.ev_types.specs.declared.hosts.Host.{Host}
 use Rattle.ev_types.specs.declared.journals.Row.{Row}
 use Rattle.ev_wire.specs.Requests.{version_members}
@@ -33,16 +37,9 @@ operations_with (Reaped numbers) = Reap ∷ []
 operations_with InUse = Accept ∷ []
 operations_with NoListener = Accept ∷ []
 operations_with NoChain = Accept ∷ []
-operations_with (Undecided listener) = Accept ∷ []
-operations_with (Elsewhere listener cluster) = Accept ∷ []
-operations_with (NoRoute listener) = Accept ∷ []
-operations_with (Redirect listener) = Accept ∷ []
-operations_with (NoCluster listener) = Accept ∷ []
-operations_with (NoEndpoint listener) = Accept ∷ []
-operations_with (Local listener status) = Accept ∷ []
-operations_with (Served listener cluster host) = Accept ∷ []
+operations_with (On listener chain way) = Accept ∷ []
 operations_with NotOpen = Close ∷ []
-operations_with (Settled closed version) = Settle ∷ []
+operations_with (Settled closed moved version) = Settle ∷ []
 
 -- the operation may be answered so
 abbrev pub is_answered_with : Op → Answer → Bool
@@ -69,6 +66,8 @@ IsActor (Worker worker) = worker < 2 ^ 32
 abbrev pub IsVerdict : Verdict → Type 0
 IsVerdict New = ⊤
 IsVerdict Same = ⊤
+IsVerdict InPlace = ⊤
+IsVerdict Back = ⊤
 IsVerdict Kept = ⊤
 IsVerdict Unasked = ⊤
 IsVerdict Renewed = ⊤
@@ -78,6 +77,26 @@ pub record IsRequest (request : Request) : Type 0 where
   pub subscribed : All IsName request.subscribe
   pub unsubscribed : All IsName request.unsubscribe
   pub held : All (λ (version : List ℕ × List ℕ). IsName version.0) request.versions
+
+-- a chain's place: a number of 32 bits, or the default chain
+abbrev pub IsPlace : ChainPlace → Type 0
+IsPlace (At place) = place < 2 ^ 32
+IsPlace Default = ⊤
+
+abbrev pub IsWay : Way Host → Type 0
+IsWay Undecided = ⊤
+IsWay (Elsewhere cluster) = IfSome cluster IsGeneration
+IsWay NoRoute = ⊤
+IsWay Redirect = ⊤
+IsWay NoCluster = ⊤
+IsWay NoEndpoint = ⊤
+IsWay (NoSecret cluster) = IfSome cluster IsGeneration
+IsWay (Local status) = status < 2 ^ 16
+IsWay (Served cluster host) = IsGeneration cluster × IsHost host
+
+-- numbers of connections
+abbrev pub AreConnections : List ℕ → Type 0
+AreConnections numbers = All (λ (n : ℕ). n < 2 ^ 64) numbers
 
 abbrev pub IsAnswer : Answer → Type 0
 IsAnswer Ignored = ⊤
@@ -90,16 +109,9 @@ IsAnswer (Reaped numbers) = All IsGeneration numbers
 IsAnswer InUse = ⊤
 IsAnswer NoListener = ⊤
 IsAnswer NoChain = ⊤
-IsAnswer (Undecided listener) = IsGeneration listener
-IsAnswer (Elsewhere listener cluster) = IsGeneration listener × IfSome cluster IsGeneration
-IsAnswer (NoRoute listener) = IsGeneration listener
-IsAnswer (Redirect listener) = IsGeneration listener
-IsAnswer (NoCluster listener) = IsGeneration listener
-IsAnswer (NoEndpoint listener) = IsGeneration listener
-IsAnswer (Local listener status) = IsGeneration listener × (status < 2 ^ 16)
-IsAnswer (Served listener cluster host) = IsGeneration listener × IsGeneration cluster × IsHost host
+IsAnswer (On listener chain way) = IsGeneration listener × IfSome chain IsPlace × IsWay way
 IsAnswer NotOpen = ⊤
-IsAnswer (Settled closed version) = All (λ (n : ℕ). n < 2 ^ 64) closed × (version < 2 ^ 64)
+IsAnswer (Settled closed moved version) = AreConnections closed × AreConnections moved × (version < 2 ^ 64)
 
 -- ---- rows and their texts
 
@@ -173,19 +185,12 @@ chosen_answer (Reaped numbers) = Reaped numbers
 chosen_answer InUse = InUse
 chosen_answer NoListener = NoListener
 chosen_answer NoChain = NoChain
-chosen_answer (Undecided listener) = Undecided listener
-chosen_answer (Elsewhere listener cluster) = Elsewhere listener cluster
-chosen_answer (NoRoute listener) = NoRoute listener
-chosen_answer (Redirect listener) = Redirect listener
-chosen_answer (NoCluster listener) = NoCluster listener
-chosen_answer (NoEndpoint listener) = NoEndpoint listener
-chosen_answer (Local listener status) = Local listener status
-chosen_answer (Served listener cluster host) = Served listener cluster host
+chosen_answer (On listener chain way) = On listener chain way
 chosen_answer NotOpen = NotOpen
-chosen_answer (Settled closed version) = Settled closed version
+chosen_answer (Settled closed moved version) = Settled closed moved version
 
--- of the rows with the text of this one, the one that is meant: its requests have no empty nonce, and their versions are
--- sorted by name, each name once
+-- of the rows with the text of this one, the one that is meant:
+-- its requests have no empty nonce, and their versions are sorted by name, each name once
 abbrev pub chosen_row : Row → Row
 chosen_row row = record { actor = row.actor; at = row.at; step = row.step; op = row.op; answer = chosen_answer row.answer }
 

@@ -1,19 +1,21 @@
-ghost use Rattle.std.specs.Prelude.{◌≡◌, ◌<◌, ◌^◌, map, All, Some, IfOk, IfSome, OnOk, string_bytes};
+ghost use Rattle.std.specs.Prelude.{◌≡◌, map, All, Some, IfOk, IfSome, OnOk, codes, string_bytes};
 ghost use Rattle.json.specs.Print.{escape};
 ghost use Rattle.serde_json.specs.Data.{array, string};
 ghost use Rattle.serde_json.specs.Written.{compact_text};
 ghost use Rattle.serde_json.specs.View.{view, items_of};
-ghost use Rattle.ev_journal.specs.Rendering.{numbers_tree, requests_tree, unserved_tree, elsewhere_tree, local_tree, served_tree, answer_tree, verdict_tree};
+ghost use Rattle.ev_journal.specs.Pieces.{given_text};
+ghost use Rattle.ev_journal.specs.Rendering.{number_tree, numbers_tree, requests_tree, any_of, place_tree, going_tree, local_tree, served_tree, taken_tree, settled_tree, answer_tree, verdict_tree};
 ghost use Rattle.ev_types.specs.Texts.{IsName};
-ghost use Rattle.ev_journal.specs.Rows.{IsAnswer, IsGeneration, IsHost, IsRequest, IsVerdict, KeepsRule};
+ghost use Rattle.ev_journal.specs.Rows.{AreConnections, IsAnswer, IsGeneration, IsHost, IsPlace, IsRequest, IsVerdict, IsWay, KeepsRule};
 
 use crate::words::verdict_word;
-use ev_types::{Answer, Gen, Host, Name, Request, Text, Verdict};
+use ev_types::{Answer, ChainPlace, Gen, Host, Name, Request, Text, Verdict, Way};
 use ev_wire::request_value;
 use serde_json::{Value, json};
 use std::alloc::{AllocError, Global};
 
-/// The text of an answer. What is in it is written at once, but for lists and an address, which are written by their trees.
+/// The text of an answer. What is in it is written at once, but for lists and an address,
+/// which are written by their trees.
 #[tactic(auto, unfolding(json::specs::Print::escape_byte))]
 pub(crate) fn answer_text(alloc: Global, answer: &Answer) -> Result<String, AllocError>
     ensures text { IfOk result (λ text. string_bytes text ≡ compact_text (answer_tree answer.now)) }
@@ -32,20 +34,17 @@ pub(crate) fn answer_text(alloc: Global, answer: &Answer) -> Result<String, Allo
         Answer::InUse => String::from_str(alloc, "\"inUse\""),
         Answer::NoListener => String::from_str(alloc, "\"noListener\""),
         Answer::NoChain => String::from_str(alloc, "\"noChain\""),
-        Answer::Undecided { listener } => unserved_text(alloc, "undecided", *listener),
-        Answer::Elsewhere { listener, cluster } => elsewhere_text(alloc, *listener, *cluster),
-        Answer::NoRoute { listener } => unserved_text(alloc, "noRoute", *listener),
-        Answer::Redirect { listener } => unserved_text(alloc, "redirect", *listener),
-        Answer::NoCluster { listener } => unserved_text(alloc, "noCluster", *listener),
-        Answer::NoEndpoint { listener } => unserved_text(alloc, "noEndpoint", *listener),
-        Answer::Local { listener, status } => local_text(alloc, *listener, *status),
-        Answer::Served {
+        Answer::On {
             listener,
-            cluster,
-            host,
-        } => served_text(alloc, *listener, *cluster, host),
+            chain,
+            way,
+        } => taken_text(alloc, *listener, *chain, way),
         Answer::NotOpen => String::from_str(alloc, "\"notOpen\""),
-        Answer::Settled { closed, version } => settled_text(alloc, closed.as_slice(), *version),
+        Answer::Settled {
+            closed,
+            moved,
+            version,
+        } => settled_text(alloc, closed.as_slice(), moved.as_slice(), *version),
     }
 }
 
@@ -93,68 +92,129 @@ fn reaped_text(alloc: Global, numbers: &[Gen]) -> Result<String, AllocError>
     format!(in alloc; "{{\"reaped\":{numbers}}}")
 }
 
-// What becomes of a connection that a listener takes and goes to no host that is known, in a word without an escape.
-fn unserved_text(alloc: Global, word: &str, listener: Gen) -> Result<String, AllocError>
-    requires plain { escape word.now ≡ word.now }
-    ensures text { IfOk result (λ text. string_bytes text ≡ compact_text (unserved_tree word.now listener)) }
-    ensures bounded { OnOk result (IsGeneration listener) }
-{
-    let listener = listener.number();
-    format!(in alloc; "{{\"listener\":{listener},\"result\":\"{word}\"}}")
-}
-
-// The text of a connection that goes where no script tells.
+// The text of a connection that a listener takes.
 #[tactic(auto, unfolding(json::specs::Print::escape_byte))]
-fn elsewhere_text(alloc: Global, listener: Gen, cluster: Option<Gen>) -> Result<String, AllocError>
-    ensures text { IfOk result (λ text. string_bytes text ≡ compact_text (elsewhere_tree listener cluster)) }
+fn taken_text(
+    alloc: Global,
+    listener: Gen,
+    chain: Option<ChainPlace>,
+    way: &Way<Host>,
+) -> Result<String, AllocError>
+    ensures text { IfOk result (λ text. string_bytes text ≡ compact_text (taken_tree listener chain way.now)) }
     ensures bounded_listener { OnOk result (IsGeneration listener) }
-    ensures bounded_cluster { OnOk result (IfSome cluster IsGeneration) }
+    ensures bounded_chain { OnOk result (IfSome chain IsPlace) }
+    ensures bounded_way { OnOk result (IsWay way.now) }
 {
-    match cluster {
-        Some(cluster) => going_text(alloc, listener, cluster),
-        None => unserved_text(alloc, "elsewhere", listener),
+    match way {
+        Way::Undecided => going_text(alloc, "undecided", listener, chain, None),
+        Way::Elsewhere { cluster } => going_text(alloc, "elsewhere", listener, chain, *cluster),
+        Way::NoRoute => going_text(alloc, "noRoute", listener, chain, None),
+        Way::Redirect => going_text(alloc, "redirect", listener, chain, None),
+        Way::NoCluster => going_text(alloc, "noCluster", listener, chain, None),
+        Way::NoEndpoint => going_text(alloc, "noEndpoint", listener, chain, None),
+        Way::NoSecret { cluster } => going_text(alloc, "noSecret", listener, chain, *cluster),
+        Way::Local { status } => local_text(alloc, listener, chain, *status),
+        Way::Served { cluster, host } => served_text(alloc, listener, chain, *cluster, host),
     }
 }
 
-// The text of a connection that goes by a cluster where no script tells.
-fn going_text(alloc: Global, listener: Gen, cluster: Gen) -> Result<String, AllocError>
-    ensures text { IfOk result (λ text. string_bytes text ≡ compact_text (elsewhere_tree listener (Some cluster))) }
+// What becomes of a connection that a listener takes, in a word without an escape.
+fn going_text(
+    alloc: Global,
+    word: &str,
+    listener: Gen,
+    chain: Option<ChainPlace>,
+    cluster: Option<Gen>,
+) -> Result<String, AllocError>
+    requires plain { escape word.now ≡ word.now }
+    ensures text { IfOk result (λ text. string_bytes text ≡ compact_text (going_tree word.now listener chain cluster)) }
     ensures bounded_listener { OnOk result (IsGeneration listener) }
-    ensures bounded_cluster { OnOk result (IsGeneration cluster) }
+    ensures bounded_chain { OnOk result (IfSome chain IsPlace) }
+    ensures bounded_cluster { OnOk result (IfSome cluster IsGeneration) }
 {
-    let cluster = cluster.number();
+    let chain = chain_member(alloc, chain)?;
+    let cluster = cluster_member(alloc, cluster)?;
     let listener = listener.number();
-    format!(in alloc; "{{\"cluster\":{cluster},\"listener\":{listener},\"result\":\"elsewhere\"}}")
+    format!(in alloc; "{{{chain}{cluster}\"listener\":{listener},\"result\":\"{word}\"}}")
 }
 
 // The text of a connection that is answered at once.
-fn local_text(alloc: Global, listener: Gen, status: u16) -> Result<String, AllocError>
-    ensures text { IfOk result (λ text. string_bytes text ≡ compact_text (local_tree listener status)) }
-    ensures bounded { OnOk result (IsGeneration listener) }
+fn local_text(
+    alloc: Global,
+    listener: Gen,
+    chain: Option<ChainPlace>,
+    status: u16,
+) -> Result<String, AllocError>
+    ensures text { IfOk result (λ text. string_bytes text ≡ compact_text (local_tree listener chain status)) }
+    ensures bounded_listener { OnOk result (IsGeneration listener) }
+    ensures bounded_chain { OnOk result (IfSome chain IsPlace) }
 {
+    let chain = chain_member(alloc, chain)?;
     let listener = listener.number();
-    format!(in alloc; "{{\"listener\":{listener},\"result\":\"local\",\"status\":{status}}}")
+    format!(in alloc; "{{{chain}\"listener\":{listener},\"result\":\"local\",\"status\":{status}}}")
 }
 
 // The text of a connection that goes to a host.
 fn served_text(
     alloc: Global,
     listener: Gen,
+    chain: Option<ChainPlace>,
     cluster: Gen,
     host: &Host,
 ) -> Result<String, AllocError>
-    ensures text { IfOk result (λ text. string_bytes text ≡ compact_text (served_tree listener cluster host.now)) }
+    ensures text { IfOk result (λ text. string_bytes text
+        ≡ compact_text (served_tree listener chain cluster host.now)) }
     ensures bounded_listener { OnOk result (IsGeneration listener) }
+    ensures bounded_chain { OnOk result (IfSome chain IsPlace) }
     ensures bounded_cluster { OnOk result (IsGeneration cluster) }
     ensures bounded_host { OnOk result (IsHost host.now) }
 {
     let address = quoted(alloc, host.address.as_str())?;
+    let chain = chain_member(alloc, chain)?;
     let cluster = cluster.number();
     let listener = listener.number();
     let port = host.port;
     format!(in alloc;
-        "{{\"address\":{address},\"cluster\":{cluster},\"listener\":{listener},\"port\":{port},\"result\":\"served\"}}"
+        "{{\"address\":{address},{chain}\"cluster\":{cluster},\"listener\":{listener},\"port\":{port},\"result\":\"served\"}}"
     )
+}
+
+// The member for a chain with the comma behind it, or nothing where none was found.
+fn chain_member(alloc: Global, chain: Option<ChainPlace>) -> Result<String, AllocError>
+    ensures text { IfOk result (λ text. string_bytes text ≡ given_text (codes "chain") place_tree chain) }
+    ensures bounded { OnOk result (IfSome chain IsPlace) }
+{
+    match chain {
+        Some(place) => place_member(alloc, place),
+        None => Ok(String::new(alloc)),
+    }
+}
+
+// The member for a chain, with the comma behind it.
+#[tactic(auto, unfolding(json::specs::Print::escape_byte))]
+fn place_member(alloc: Global, place: ChainPlace) -> Result<String, AllocError>
+    ensures text { IfOk result (λ text. string_bytes text ≡ given_text (codes "chain") place_tree (Some place)) }
+    ensures bounded { OnOk result (IsPlace place) }
+{
+    match place {
+        ChainPlace::At(place) => format!(in alloc; "\"chain\":{place},"),
+        ChainPlace::Default => String::from_str(alloc, "\"chain\":\"default\","),
+    }
+}
+
+// The member for a cluster with the comma behind it, or nothing where none is named.
+#[tactic(auto, unfolding(json::specs::Print::escape_byte))]
+fn cluster_member(alloc: Global, cluster: Option<Gen>) -> Result<String, AllocError>
+    ensures text { IfOk result (λ text. string_bytes text ≡ given_text (codes "cluster") number_tree cluster) }
+    ensures bounded { OnOk result (IfSome cluster IsGeneration) }
+{
+    match cluster {
+        Some(cluster) => {
+            let cluster = cluster.number();
+            format!(in alloc; "\"cluster\":{cluster},")
+        }
+        None => Ok(String::new(alloc)),
+    }
 }
 
 // A text as JSON has it.
@@ -165,12 +225,33 @@ fn quoted(alloc: Global, text: &str) -> Result<String, AllocError>
 }
 
 // The text of an answer to a settle.
-fn settled_text(alloc: Global, closed: &[u64], version: u64) -> Result<String, AllocError>
-    ensures text { IfOk result (λ text. string_bytes text ≡ compact_text (answer_tree (Answer.Settled closed.now version))) }
-    ensures bounded { OnOk result (All (λ n. n < 2 ^ 64) closed.now) }
+fn settled_text(
+    alloc: Global,
+    closed: &[u64],
+    moved: &[u64],
+    version: u64,
+) -> Result<String, AllocError>
+    ensures text { IfOk result (λ text. string_bytes text ≡ compact_text (settled_tree closed.now moved.now version)) }
+    ensures bounded_closed { OnOk result (AreConnections closed.now) }
+    ensures bounded_moved { OnOk result (AreConnections moved.now) }
 {
     let closed = numbers_text(alloc, closed)?;
-    format!(in alloc; "{{\"closed\":{closed},\"version\":{version}}}")
+    let moved = moved_member(alloc, moved)?;
+    format!(in alloc; "{{\"closed\":{closed},{moved}\"version\":{version}}}")
+}
+
+// The member for connections that moved with the comma behind it, or nothing where none did.
+#[tactic(auto, unfolding(json::specs::Print::escape_byte))]
+fn moved_member(alloc: Global, moved: &[u64]) -> Result<String, AllocError>
+    ensures text { IfOk result (λ text. string_bytes text
+        ≡ given_text (codes "moved") numbers_tree (any_of moved.now)) }
+    ensures bounded { OnOk result (AreConnections moved.now) }
+{
+    if moved.len() == 0 {
+        return Ok(String::new(alloc));
+    }
+    let moved = numbers_text(alloc, moved)?;
+    format!(in alloc; "\"moved\":{moved},")
 }
 
 // The text of requests.
@@ -201,7 +282,7 @@ fn generations_text(alloc: Global, numbers: &[Gen]) -> Result<String, AllocError
 #[tactic(auto, using(crate::proofs::FloatLemmas::numbers_whole))]
 fn numbers_text(alloc: Global, numbers: &[u64]) -> Result<String, AllocError>
     ensures text { IfOk result (λ text. string_bytes text ≡ compact_text (numbers_tree numbers.now)) }
-    ensures bounded { OnOk result (All (λ n. n < 2 ^ 64) numbers.now) }
+    ensures bounded { OnOk result (AreConnections numbers.now) }
 {
     number_values(alloc, numbers)?.to_string(alloc)
 }
@@ -290,7 +371,7 @@ fn look_at_verdict(verdict: Verdict)
 // The trees of connections' numbers.
 fn number_values(alloc: Global, numbers: &[u64]) -> Result<Value, AllocError>
     ensures tree { IfOk result (λ v. view v ≡ numbers_tree numbers.now) }
-    ensures bounded { OnOk result (All (λ n. n < 2 ^ 64) numbers.now) }
+    ensures bounded { OnOk result (AreConnections numbers.now) }
 {
     let mut values = Vec::with_capacity(alloc, numbers.len())?;
     for number in numbers {

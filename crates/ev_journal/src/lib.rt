@@ -19,6 +19,7 @@ mod answers;
 mod words;
 mod writing;
 
+pub use words::{actor_word, op_word, verdict_word};
 pub use writing::{
     render_journal, write_end_line, write_end_text, write_first_line, write_first_text, write_line,
     write_row,

@@ -16,7 +16,7 @@ pub(crate) fn format_number(format: Format) -> u32
 }
 
 /// An actor in words.
-pub(crate) fn actor_word(alloc: Global, actor: Actor) -> Result<String, AllocError>
+pub fn actor_word(alloc: Global, actor: Actor) -> Result<String, AllocError>
     ensures word { IfOk result (λ word. string_bytes word ≡ actor_text actor) }
     ensures bounded { OnOk result (IsActor actor) }
 {
@@ -30,7 +30,7 @@ pub(crate) fn actor_word(alloc: Global, actor: Actor) -> Result<String, AllocErr
 }
 
 /// An operation's word.
-pub(crate) fn op_word(op: Op) -> &'static str
+pub fn op_word(op: Op) -> &'static str
     ensures { result.now ≡ op_text op }
 {
     match op {
@@ -50,15 +50,20 @@ pub(crate) fn op_word(op: Op) -> &'static str
 }
 
 /// A verdict in words.
-pub(crate) fn verdict_word(alloc: Global, verdict: Verdict) -> Result<String, AllocError>
+pub fn verdict_word(alloc: Global, verdict: Verdict) -> Result<String, AllocError>
     ensures { IfOk result (λ word. string_bytes word ≡ verdict_text verdict) }
 {
     match verdict {
         Verdict::New => String::from_str(alloc, "new"),
         Verdict::Same => String::from_str(alloc, "same"),
+        Verdict::InPlace => String::from_str(alloc, "inPlace"),
+        Verdict::Back => String::from_str(alloc, "back"),
         Verdict::Kept => String::from_str(alloc, "kept"),
         Verdict::Unasked => String::from_str(alloc, "unasked"),
         Verdict::Renewed => String::from_str(alloc, "renewed"),
-        Verdict::Refused(rule) => format!(in alloc; "V{rule}"),
+        Verdict::Refused(rule) => {
+            let number = rule.number();
+            format!(in alloc; "V{number}")
+        }
     }
 }

@@ -12,8 +12,8 @@ use ev_types::{Actor, Entry, Format, Op, Row};
 use serde_json::{Value, json};
 use std::alloc::{AllocError, Global};
 
-/// Writes the text of a journal of a format, for this many workers: the first line, a line for each entry, and the end line
-/// with their number, each closed by a line feed.
+/// Writes the text of a journal of a format, for this many workers:
+/// the first line, a line for each entry, and the end line with their number, each closed by a line feed.
 pub fn render_journal(
     alloc: Global,
     format: Format,

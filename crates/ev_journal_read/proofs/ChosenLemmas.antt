@@ -11,9 +11,10 @@ use Rattle.ev_types.specs.Events.{op_same}
 use Rattle.ev_types.specs.declared.contents.Request.{Request}
 use Rattle.ev_types.specs.declared.events.Op.{Op}
 use Rattle.ev_types.specs.declared.events.Answer.{Answer}
-use Rattle.ev_types.specs.declared.events.Answer.TheVariants.{Ignored, Done, Moved, Replied, Version, Unchanged, Reaped, InUse, NoListener, NoChain, Undecided, Elsewhere, NoRoute, Redirect, NoCluster, NoEndpoint, Local, Served, NotOpen, Settled}
+use Rattle.ev_types.specs.declared.events.Answer.TheVariants.{Ignored, Done, Moved, Replied, Version, Unchanged, Reaped, InUse, NoListener, NoChain, On, NotOpen, Settled}
 use Rattle.ev_types.specs.declared.journals.Row.{Row}
-use Rattle.ev_wire.specs.Requests.{request_tree, type_url, with_nonce, with_names, with_node, with_versions, with_error}
+use Rattle.ev_types.specs.Kinds.{type_url}
+use Rattle.ev_wire.specs.Requests.{request_tree, with_nonce, with_names, with_node, with_versions, with_error}
 use Rattle.ev_journal.specs.Rendering.{answer_tree, row_object, requests_tree, verdict_tree}
 use Rattle.ev_journal.specs.Rows.{is_answered_with, operations_with, IsRequest, IsAnswer, IsRow, row_text, chosen_nonce, chosen_versions, chosen_request, chosen_answer, chosen_row}
 use Rattle.ev_journal_read.proofs.EachLemmas.{All-first, All-rest}
@@ -81,16 +82,9 @@ answer_same (Reaped numbers) h = refl
 answer_same InUse h = refl
 answer_same NoListener h = refl
 answer_same NoChain h = refl
-answer_same (Undecided listener) h = refl
-answer_same (Elsewhere listener cluster) h = refl
-answer_same (NoRoute listener) h = refl
-answer_same (Redirect listener) h = refl
-answer_same (NoCluster listener) h = refl
-answer_same (NoEndpoint listener) h = refl
-answer_same (Local listener status) h = refl
-answer_same (Served listener cluster host) h = refl
+answer_same (On listener chain way) h = refl
 answer_same NotOpen h = refl
-answer_same (Settled closed version) h = refl
+answer_same (Settled closed moved version) h = refl
 
 answer_twice : (answer : Answer) → IsAnswer answer → chosen_answer (chosen_answer answer) ≡ chosen_answer answer
 answer_twice Ignored h = refl
@@ -103,16 +97,9 @@ answer_twice (Reaped numbers) h = refl
 answer_twice InUse h = refl
 answer_twice NoListener h = refl
 answer_twice NoChain h = refl
-answer_twice (Undecided listener) h = refl
-answer_twice (Elsewhere listener cluster) h = refl
-answer_twice (NoRoute listener) h = refl
-answer_twice (Redirect listener) h = refl
-answer_twice (NoCluster listener) h = refl
-answer_twice (NoEndpoint listener) h = refl
-answer_twice (Local listener status) h = refl
-answer_twice (Served listener cluster host) h = refl
+answer_twice (On listener chain way) h = refl
 answer_twice NotOpen h = refl
-answer_twice (Settled closed version) h = refl
+answer_twice (Settled closed moved version) h = refl
 
 IsAnswer-chosen : (answer : Answer) → IsAnswer answer → IsAnswer (chosen_answer answer)
 IsAnswer-chosen Ignored h = h
@@ -125,16 +112,9 @@ IsAnswer-chosen (Reaped numbers) h = h
 IsAnswer-chosen InUse h = h
 IsAnswer-chosen NoListener h = h
 IsAnswer-chosen NoChain h = h
-IsAnswer-chosen (Undecided listener) h = h
-IsAnswer-chosen (Elsewhere listener cluster) h = h
-IsAnswer-chosen (NoRoute listener) h = h
-IsAnswer-chosen (Redirect listener) h = h
-IsAnswer-chosen (NoCluster listener) h = h
-IsAnswer-chosen (NoEndpoint listener) h = h
-IsAnswer-chosen (Local listener status) h = h
-IsAnswer-chosen (Served listener cluster host) h = h
+IsAnswer-chosen (On listener chain way) h = h
 IsAnswer-chosen NotOpen h = h
-IsAnswer-chosen (Settled closed version) h = h
+IsAnswer-chosen (Settled closed moved version) h = h
 
 operations_same : (answer : Answer) → operations_with (chosen_answer answer) ≡ operations_with answer
 operations_same Ignored = refl
@@ -147,16 +127,9 @@ operations_same (Reaped numbers) = refl
 operations_same InUse = refl
 operations_same NoListener = refl
 operations_same NoChain = refl
-operations_same (Undecided listener) = refl
-operations_same (Elsewhere listener cluster) = refl
-operations_same (NoRoute listener) = refl
-operations_same (Redirect listener) = refl
-operations_same (NoCluster listener) = refl
-operations_same (NoEndpoint listener) = refl
-operations_same (Local listener status) = refl
-operations_same (Served listener cluster host) = refl
+operations_same (On listener chain way) = refl
 operations_same NotOpen = refl
-operations_same (Settled closed version) = refl
+operations_same (Settled closed moved version) = refl
 
 -- ---- rows
 

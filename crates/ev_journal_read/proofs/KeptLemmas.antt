@@ -8,16 +8,19 @@ use Rattle.serde_json.specs.Find.{get, as_number, as_u64, as_str, as_object}
 use Rattle.ev_types.specs.Texts.{IsName}
 use Rattle.ev_types.specs.declared.limits.TheConstants.{MAX_NAME_LENGTH}
 use Rattle.ev_types.specs.declared.events.Actor.TheVariants as actor
-use Rattle.ev_types.specs.declared.events.Answer.TheVariants.{Ignored, Done, Unchanged, InUse, NoListener, NoChain, NotOpen, Moved, Replied, Version, Reaped, Undecided, Elsewhere, NoRoute, Redirect, NoCluster, NoEndpoint, Local, Served, Settled}
+use Rattle.ev_types.specs.declared.events.Answer.TheVariants.{Ignored, Done, Unchanged, InUse, NoListener, NoChain, NotOpen, Moved, Replied, Version, Reaped, On}
+use Rattle.ev_types.specs.declared.origins.ChainPlace.{ChainPlace}
+use Rattle.ev_types.specs.declared.origins.ChainPlace.TheVariants.{At, Default}
+use Rattle.ev_types.specs.declared.ways.Way.TheVariants.{Undecided, Elsewhere, NoRoute, Redirect, NoCluster, NoEndpoint, NoSecret, Local, Served}
 use Rattle.ev_types.specs.declared.events.Verdict.TheVariants as verdict
 use Rattle.ev_types.specs.declared.journals.Row.{Row}
 use Rattle.ev_tree.specs.Scalars.{u32_text, list_in}
-use Rattle.ev_script.specs.Members.{whole_within, name_of, member_of, member_or, or_default}
-use Rattle.ev_journal.specs.Rows.{IsGeneration, IsHost, IsActor, IsVerdict, IsRequest, IsAnswer}
+use Rattle.ev_script.specs.Members.{whole_within, name_of, member_of, or_default}
+use Rattle.ev_journal.specs.Rows.{IsGeneration, IsHost, IsActor, IsVerdict, IsRequest, IsPlace, IsWay, AreConnections, IsAnswer}
 use Rattle.ev_journal_read.specs.declared.requests.RequestLists.{RequestLists}
 use Rattle.ev_journal_read.specs.declared.rows.RowHead.{RowHead}
-use Rattle.ev_journal_read.specs.Words.{number_behind, actor_named, rule_of, verdict_named, answer_named, unserved_named}
-use Rattle.ev_journal_read.specs.Trees.{number16, number32, number64, generation_of, all_read, list_of, pair_of, pairs_of, versions_of, versions_at, names_at, kind_of, texts_of, lists_with, lists_of, request_with, request_of, verdict_of, sent_answer, version_answer, local_answer, given_generation, elsewhere_answer, host_with, host_of, served_answer, taken_answer, result_answer, answer_with, answer_by, answer_of, actor_of, op_of, head_with, head_of, row_with, row_of}
+use Rattle.ev_journal_read.specs.Words.{number_behind, actor_named, rule_of, verdict_named, answer_named, place_named, way_named}
+use Rattle.ev_journal_read.specs.Trees.{number16, number32, number64, generation_of, all_read, list_of, pair_of, pairs_of, versions_of, versions_at, names_at, kind_of, texts_of, lists_with, lists_of, request_with, request_of, verdict_of, sent_answer, moved_at, settled_with, version_answer, local_way, host_with, host_of, served_way, given_generation, cluster_at, way_of, place_by, given_place, chain_at, taken_answer, result_answer, answer_with, answer_by, answer_of, actor_of, op_of, head_with, head_of, row_with, row_of}
 use Rattle.ev_journal_read.proofs.EachLemmas.{All-none, All-more}
 use Rattle.ev_journal_read.proofs.VersionLemmas.{HasName, AreNamed}
 
@@ -139,18 +142,21 @@ actor_kept word =
 
 verdict_kept : (word : List ℕ) → Kept (verdict_named word) IsVerdict
 verdict_kept word =
-    named IsVerdict _ verdict.New _ tt (named IsVerdict _ verdict.Same _ tt (named IsVerdict _ verdict.Kept _ tt (named IsVerdict _ verdict.Unasked _ tt (named IsVerdict _ verdict.Renewed _ tt
-    (kept_any IsVerdict rule_of (λ n. kept_test IsVerdict (nat_lt n 256) (verdict.Refused n) (λ e. ltb-true n 256 e)) (number_behind 86 word))))))
+    named IsVerdict _ verdict.New _ tt (named IsVerdict _ verdict.Same _ tt (named IsVerdict _ verdict.InPlace _ tt (named IsVerdict _ verdict.Back _ tt (named IsVerdict _ verdict.Kept _ tt (named IsVerdict _ verdict.Unasked _ tt (named IsVerdict _ verdict.Renewed _ tt
+    (kept_any IsVerdict rule_of (λ n. kept_test IsVerdict (nat_lt n 256) (verdict.Refused n) (λ e. ltb-true n 256 e)) (number_behind 86 word))))))))
 
 answer_word_kept : (word : List ℕ) → Kept (answer_named word) IsAnswer
 answer_word_kept word =
     named IsAnswer _ Ignored _ tt (named IsAnswer _ Done _ tt (named IsAnswer _ Unchanged _ tt (named IsAnswer _ InUse _ tt (named IsAnswer _ NoListener _ tt
     (named IsAnswer _ NoChain _ tt (named IsAnswer _ NotOpen _ tt (nothing IsAnswer)))))))
 
-unserved_kept : (word : List ℕ) (listener : ℕ) → IsGeneration listener → Kept (unserved_named word listener) IsAnswer
-unserved_kept word listener h =
-    named IsAnswer _ (Undecided listener) _ h (named IsAnswer _ (NoRoute listener) _ h (named IsAnswer _ (Redirect listener) _ h
-    (named IsAnswer _ (NoCluster listener) _ h (named IsAnswer _ (NoEndpoint listener) _ h (nothing IsAnswer)))))
+way_word_kept : (word : List ℕ) → Kept (way_named word) IsWay
+way_word_kept word =
+    named IsWay _ Undecided _ tt (named IsWay _ NoRoute _ tt (named IsWay _ Redirect _ tt
+    (named IsWay _ NoCluster _ tt (named IsWay _ NoEndpoint _ tt (nothing IsWay)))))
+
+place_word_kept : (word : List ℕ) → Kept (place_named word) IsPlace
+place_word_kept word = named IsPlace _ Default _ tt (nothing IsPlace)
 
 -- ---- requests
 
@@ -208,17 +214,24 @@ sent_kept requests (Some verdicts) =
     (list_kept IsVerdict verdict_of (λ tree. kept_any IsVerdict verdict_named verdict_kept (as_str tree)) verdicts))
     (list_of request_of requests) (list_kept IsRequest request_of request_kept requests)
 
-version_kept : (version : Data) (closed : Option Data) → Kept (version_answer version closed) IsAnswer
-version_kept version None = kept_map (λ (n : ℕ). n < 2 ^ 64) IsAnswer Version (λ n h. h) (number64 version) (number64_kept version)
-version_kept version (Some closed) =
+numbers_kept : (tree : Data) → Kept (list_of number64 tree) AreConnections
+numbers_kept tree = list_kept (λ (n : ℕ). n < 2 ^ 64) number64 number64_kept tree
+
+moved_kept : (tree : Data) → Kept (moved_at tree) AreConnections
+moved_kept tree = default_kept AreConnections (list_of number64) [] (All-none (λ (n : ℕ). n < 2 ^ 64)) numbers_kept (get (codes "moved") tree)
+
+version_kept : (version : Data) (closed : Option Data) (tree : Data) → Kept (version_answer version closed tree) IsAnswer
+version_kept version None tree = kept_map (λ (n : ℕ). n < 2 ^ 64) IsAnswer Version (λ n h. h) (number64 version) (number64_kept version)
+version_kept version (Some closed) tree =
     kept_then (λ (n : ℕ). n < 2 ^ 64) IsAnswer _
-    (λ number h. kept_map (All (λ (n : ℕ). n < 2 ^ 64)) IsAnswer (λ numbers. Settled numbers number) (λ numbers k. (k, h)) (list_of number64 closed)
-    (list_kept (λ (n : ℕ). n < 2 ^ 64) number64 number64_kept closed))
+    (λ number h. kept_then AreConnections IsAnswer _
+    (λ ones k. kept_map AreConnections IsAnswer (λ moved. settled_with ones moved number) (λ moved l. (k, l, h)) (moved_at tree) (moved_kept tree))
+    (list_of number64 closed) (numbers_kept closed))
     (number64 version) (number64_kept version)
 
-local_kept : (listener : ℕ) → IsGeneration listener → (tree : Data) → Kept (local_answer listener tree) IsAnswer
-local_kept listener h tree =
-    kept_map (λ (n : ℕ). n < 2 ^ 16) IsAnswer (λ status. Local listener status) (λ status k. (h, k)) (member_of number16 (codes "status") tree)
+local_kept : (tree : Data) → Kept (local_way tree) IsWay
+local_kept tree =
+    kept_map (λ (n : ℕ). n < 2 ^ 16) IsWay (λ status. Local status) (λ status k. k) (member_of number16 (codes "status") tree)
     (member_kept (λ (n : ℕ). n < 2 ^ 16) number16 number16_kept (codes "status") tree)
 
 host_kept : (tree : Data) → Kept (host_of tree) IsHost
@@ -228,10 +241,10 @@ host_kept tree =
     (member_kept (λ (n : ℕ). n < 2 ^ 16) number16 number16_kept (codes "port") tree))
     (member_of name_of (codes "address") tree) (member_kept IsName name_of name_kept (codes "address") tree)
 
-served_kept : (listener : ℕ) → IsGeneration listener → (tree : Data) → Kept (served_answer listener tree) IsAnswer
-served_kept listener h tree =
-    kept_then IsGeneration IsAnswer _
-    (λ cluster k. kept_map IsHost IsAnswer (λ host. Served listener cluster host) (λ host l. (h, k, l)) (host_of tree) (host_kept tree))
+served_kept : (tree : Data) → Kept (served_way tree) IsWay
+served_kept tree =
+    kept_then IsGeneration IsWay _
+    (λ cluster k. kept_map IsHost IsWay (λ host. Served cluster host) (λ host l. (k, l)) (host_of tree) (host_kept tree))
     (member_of generation_of (codes "cluster") tree) (member_kept IsGeneration generation_of generation_kept (codes "cluster") tree)
 
 -- a cluster's number, where one is given
@@ -242,16 +255,40 @@ given_kept : (tree : Data) → Kept (given_generation tree) IsGiven
 unfolding IsGiven
 given_kept tree = kept_map IsGeneration IsGiven (λ (number : ℕ). Some number) (λ number h. h) (generation_of tree) (generation_kept tree)
 
-elsewhere_kept : (listener : ℕ) → IsGeneration listener → (tree : Data) → Kept (elsewhere_answer listener tree) IsAnswer
+cluster_kept : (tree : Data) → Kept (cluster_at tree) IsGiven
 unfolding IsGiven
-elsewhere_kept listener h tree =
-    kept_map IsGiven IsAnswer (λ (cluster : Option ℕ). Elsewhere listener cluster) (λ cluster k. (h, k)) (member_or None given_generation (codes "cluster") tree)
-    (default_kept IsGiven given_generation None tt given_kept (get (codes "cluster") tree))
+cluster_kept tree = default_kept IsGiven given_generation None tt given_kept (get (codes "cluster") tree)
+
+way_kept : (word : List ℕ) (tree : Data) → Kept (way_of word tree) IsWay
+unfolding IsGiven
+way_kept word tree =
+    kept_if IsWay _ _ _ (served_kept tree) (kept_if IsWay _ _ _ (local_kept tree)
+    (kept_if IsWay _ _ _ (kept_map IsGiven IsWay (λ (cluster : Option ℕ). Elsewhere cluster) (λ cluster k. k) (cluster_at tree) (cluster_kept tree))
+    (kept_if IsWay _ _ _ (kept_map IsGiven IsWay (λ (cluster : Option ℕ). NoSecret cluster) (λ cluster k. k) (cluster_at tree) (cluster_kept tree))
+    (way_word_kept word))))
+
+-- a chain's place, where one is given
+IsFound : Option ChainPlace → Type 0
+IsFound chain = IfSome chain IsPlace
+
+place_kept : (word : Option (List ℕ)) (tree : Data) → Kept (place_by word tree) IsPlace
+place_kept (Some word) tree = place_word_kept word
+place_kept None tree = kept_map (λ (n : ℕ). n < 2 ^ 32) IsPlace (λ place. At place) (λ place h. h) (number32 tree) (number32_kept tree)
+
+found_kept : (tree : Data) → Kept (given_place tree) IsFound
+unfolding IsFound
+found_kept tree = kept_map IsPlace IsFound (λ (place : ChainPlace). Some place) (λ place h. h) (place_by (as_str tree) tree) (place_kept (as_str tree) tree)
+
+chain_kept : (tree : Data) → Kept (chain_at tree) IsFound
+unfolding IsFound
+chain_kept tree = default_kept IsFound given_place None tt found_kept (get (codes "chain") tree)
 
 taken_kept : (word : List ℕ) (listener : ℕ) → IsGeneration listener → (tree : Data) → Kept (taken_answer word listener tree) IsAnswer
+unfolding IsFound
 taken_kept word listener h tree =
-    kept_if IsAnswer _ _ _ (served_kept listener h tree) (kept_if IsAnswer _ _ _ (local_kept listener h tree)
-    (kept_if IsAnswer _ _ _ (elsewhere_kept listener h tree) (unserved_kept word listener h)))
+    kept_then IsFound IsAnswer _
+    (λ chain k. kept_map IsWay IsAnswer (λ way. On listener chain way) (λ way l. (h, k, l)) (way_of word tree) (way_kept word tree))
+    (chain_at tree) (chain_kept tree)
 
 result_kept : (tree : Data) → Kept (result_answer tree) IsAnswer
 result_kept tree =
@@ -262,7 +299,7 @@ result_kept tree =
 
 with_kept : (requests version reaped : Option Data) (tree : Data) → Kept (answer_with requests version reaped tree) IsAnswer
 with_kept (Some requests) version reaped tree = sent_kept requests (get (codes "verdicts") tree)
-with_kept None (Some version) reaped tree = version_kept version (get (codes "closed") tree)
+with_kept None (Some version) reaped tree = version_kept version (get (codes "closed") tree) tree
 with_kept None None (Some reaped) tree =
     kept_map (All IsGeneration) IsAnswer Reaped (λ numbers h. h) (list_of generation_of reaped) (list_kept IsGeneration generation_of generation_kept reaped)
 with_kept None None None tree = result_kept tree

@@ -6,8 +6,13 @@ pub mod WordLemmas
 pub mod PartLemmas
 pub mod VersionLemmas
 pub mod RequestRead
+pub mod TakenRead
 pub mod RowRead
 pub mod KeptLemmas
 pub mod ChosenLemmas
 pub mod TextLemmas
 pub mod JournalLemmas
+pub mod FeedLemmas
+pub mod RowLemmas
+pub mod RunLemmas
+pub mod JournalTextLemmas

@@ -10,13 +10,12 @@ use Rattle.ev_types.specs.Texts.{IsName}
 use Rattle.ev_types.specs.declared.contents.Kind.{Kind}
 use Rattle.ev_types.specs.declared.contents.Request.{Request}
 use Rattle.ev_script.specs.Members.{name_of, member_or, or_default}
-use Rattle.ev_wire.specs.Requests.{request_tree, type_url, with_nonce, with_names, with_node, version_members, with_versions, with_error}
+use Rattle.ev_types.specs.Kinds.{type_url, kind_of_url, kind_of_type_url}
+use Rattle.ev_wire.specs.Requests.{request_tree, with_nonce, with_names, with_node, version_members, with_versions, with_error}
 use Rattle.ev_journal.specs.Rows.{IsRequest, chosen_nonce, chosen_versions, chosen_request}
 use Rattle.ev_journal_read.specs.declared.requests.RequestTexts.{RequestTexts}
 use Rattle.ev_journal_read.specs.declared.requests.RequestLists.{RequestLists}
-use Rattle.ev_journal_read.specs.Words.{kind_named}
 use Rattle.ev_journal_read.specs.Trees.{list_of, given_text, given_id, given_message, versions_of, versions_at, names_at, kind_of, texts_with, texts_of, lists_with, lists_of, request_with, request_of}
-use Rattle.ev_journal_read.proofs.WordLemmas.{kind_named-url}
 use Rattle.ev_journal_read.proofs.PartLemmas.{name_of-string, list_of-same}
 use Rattle.ev_journal_read.proofs.VersionLemmas.{AreNamed, pairs_of-versions}
 
@@ -127,14 +126,14 @@ holding r = with_versions r.versions (first r)
 
 kind_read : (r : Request) → kind_of (request_tree r) ≡ Some r.kind
 kind_read r =
-    ap (λ o. option_and_then kind_named (option_and_then as_str o))
+    ap (λ o. option_and_then kind_of_url (option_and_then as_str o))
     (past_error (codes "typeUrl") r.error (holding r) refl
     ∙ past_versions (codes "typeUrl") r.versions (first r) refl
     ∙ past_node (codes "typeUrl") r.node (asking r) refl
     ∙ past_names (codes "typeUrl") (codes "resourceNamesSubscribe") r.subscribe (leaving r) refl
     ∙ past_names (codes "typeUrl") (codes "resourceNamesUnsubscribe") r.unsubscribe (answering r) refl
     ∙ past_nonce (codes "typeUrl") r.nonce (typed r) refl)
-    ∙ kind_named-url r.kind
+    ∙ kind_of_type_url r.kind
 
 its_error : (r : Request) → member_or None given_message (codes "errorDetail") (request_tree r) ≡ Some r.error
 its_error r =

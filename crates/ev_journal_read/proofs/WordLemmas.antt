@@ -5,19 +5,16 @@ use Rattle.std.specs.List.{list_all}
 use Rattle.std.specs.Str.Parse.{digits_value}
 use Rattle.std.proofs.lemmas.Str.Parse.{IsNumeralModel, numerals_by_value}
 use Rattle.std.proofs.lemmas.Fmt.{digits_decimal, digits_value-decimal, decimal_nonempty, length-decimal-le}
-use Rattle.ev_types.specs.declared.contents.Kind.{Kind}
-use Rattle.ev_types.specs.declared.contents.Kind.TheVariants.{Cds, Eds, Lds, Rds}
 use Rattle.ev_types.specs.declared.events.Actor.{Actor}
 use Rattle.ev_types.specs.declared.events.Actor.TheVariants as actor
 use Rattle.ev_types.specs.declared.events.Op.{Op}
 use Rattle.ev_types.specs.declared.events.Op.TheVariants.{Connect, Disconnect, Response, Health, FetchTimeout, DrainTimeout, TtlExpired, Publish, Reap, Accept, Close, Settle}
 use Rattle.ev_types.specs.declared.events.Verdict.{Verdict}
-use Rattle.ev_types.specs.declared.events.Verdict.TheVariants.{New, Same, Kept, Unasked, Renewed, Refused}
+use Rattle.ev_types.specs.declared.events.Verdict.TheVariants.{New, Same, InPlace, Back, Kept, Unasked, Renewed, Refused}
 use Rattle.ev_tree.specs.Scalars.{is_numeral, u32_text}
-use Rattle.ev_wire.specs.Requests.{type_url}
 use Rattle.ev_journal.specs.Rendering.{actor_text, op_text, verdict_text}
 use Rattle.ev_journal.specs.Rows.{IsActor, IsVerdict}
-use Rattle.ev_journal_read.specs.Words.{number_behind, actor_named, op_named, rule_of, verdict_named, kind_named}
+use Rattle.ev_journal_read.specs.Words.{number_behind, actor_named, op_named, rule_of, verdict_named}
 
 own : IsNumeralModel (λ ds. list_all is_ascii_digit ds ≡ true) (digits_value 10)
 own = numerals_by_value _ (search rules)
@@ -61,16 +58,12 @@ rule_of-rule n h = rw (lt-ltb n 256 h) refl
 pub verdict_named-text : (verdict : Verdict) → IsVerdict verdict → verdict_named (verdict_text verdict) ≡ Some verdict
 verdict_named-text New h = refl
 verdict_named-text Same h = refl
+verdict_named-text InPlace h = refl
+verdict_named-text Back h = refl
 verdict_named-text Kept h = refl
 verdict_named-text Unasked h = refl
 verdict_named-text Renewed h = refl
 verdict_named-text (Refused rule) h = ap (option_and_then rule_of) (u32_text-decimal rule (omega arith)) ∙ rule_of-rule rule h
-
-pub kind_named-url : (kind : Kind) → kind_named (type_url kind) ≡ Some kind
-kind_named-url Cds = refl
-kind_named-url Eds = refl
-kind_named-url Lds = refl
-kind_named-url Rds = refl
 
 -- a word that doesn't begin with the letter has no number after it
 pub nothing_behind : (letter : ℕ) (word : List ℕ) → ((rest : List ℕ) → word ≡ letter ∷ rest → ⊥) → None ≡ number_behind letter word

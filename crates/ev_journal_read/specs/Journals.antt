@@ -56,14 +56,16 @@ abbrev pub IsFirstAnswer : List ℕ → ℕ → Option Format → Type 0
 IsFirstAnswer first workers (Some format) = first ≡ first_text format workers
 IsFirstAnswer first workers None = (format : Format) → first ≢ first_text format workers
 
--- what is found of one line more: it is in its place and joins those that were read, or it is misplaced and nothing changes
+-- what is found of one line more: it is in its place and joins those that were read,
+-- or it is misplaced and nothing changes
 abbrev pub IsAdded : Body → Body → List ℕ → Bool → Type 0
 IsAdded old new text true = (AreMeant old.rows.items → AreMeant new.rows.items) × (texts_of new.rows.items new.ended ≡ texts_of old.rows.items old.ended ++ text ∷ [])
 IsAdded old new text false = IsMisplaced old.rows.items old.ended text
 
 -- ---- what was read
 
--- these more bytes were taken and no fewer lines are given: none, where the source had given its end and each line was given
+-- these more bytes were taken and no fewer lines are given:
+-- none, where the source had given its end and each line was given
 pub record GoesOn (old new : LinesState) (bytes more : List ℕ) : Type 0 where
   pub taken : HasTaken new (bytes ++ more)
   pub onward : old.given ≤ new.given

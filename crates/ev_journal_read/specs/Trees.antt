@@ -14,7 +14,11 @@ use Rattle.ev_types.specs.declared.events.Actor.{Actor}
 use Rattle.ev_types.specs.declared.events.Op.{Op}
 use Rattle.ev_types.specs.declared.events.Verdict.{Verdict}
 use Rattle.ev_types.specs.declared.events.Answer.{Answer}
-use Rattle.ev_types.specs.declared.events.Answer.TheVariants.{Moved, Replied, Version, Reaped, Elsewhere, Local, Served, Settled}
+use Rattle.ev_types.specs.declared.events.Answer.TheVariants.{Moved, Replied, Version, Reaped, On, Settled}
+use Rattle.ev_types.specs.declared.origins.ChainPlace.{ChainPlace}
+use Rattle.ev_types.specs.declared.origins.ChainPlace.TheVariants.{At}
+use Rattle.ev_types.specs.declared.ways.Way.{Way}
+use Rattle.ev_types.specs.declared.ways.Way.TheVariants.{Elsewhere, NoSecret, Local, Served}
 use Rattle.ev_types.specs.declared.hosts.Host.{Host}
 use Rattle.ev_types.specs.declared.journals.Row.{Row}
 use Rattle.ev_tree.specs.Scalars.{list_in}
@@ -22,7 +26,8 @@ use Rattle.ev_script.specs.Members.{whole_within, name_of, member_of, member_or}
 use Rattle.ev_journal_read.specs.declared.requests.RequestTexts.{RequestTexts}
 use Rattle.ev_journal_read.specs.declared.requests.RequestLists.{RequestLists}
 use Rattle.ev_journal_read.specs.declared.rows.RowHead.{RowHead}
-use Rattle.ev_journal_read.specs.Words.{actor_named, op_named, verdict_named, answer_named, unserved_named, kind_named}
+use Rattle.ev_types.specs.Kinds.{kind_of_url}
+use Rattle.ev_journal_read.specs.Words.{actor_named, op_named, verdict_named, answer_named, place_named, way_named}
 
 -- ---- numbers
 
@@ -90,7 +95,7 @@ names_at key tree = member_or [] (list_of name_of) key tree
 
 -- the kind of a request, by its type URL
 abbrev pub kind_of : Data → Option Kind
-kind_of tree = option_and_then kind_named (member_of as_str (codes "typeUrl") tree)
+kind_of tree = option_and_then kind_of_url (member_of as_str (codes "typeUrl") tree)
 
 -- a request's node, nonce and error together
 abbrev pub texts_with : Option (List ℕ) → Option (List ℕ) → Option (List ℕ) → RequestTexts
@@ -149,15 +154,25 @@ sent_answer requests None = option_map Moved (list_of request_of requests)
 sent_answer requests (Some verdicts) =
     option_and_then (λ sent. option_map (λ said. Replied sent said) (list_of verdict_of verdicts)) (list_of request_of requests)
 
--- a version, and the connections that were closed where there are any
-abbrev pub version_answer : Data → Option Data → Option Answer
-version_answer version None = option_map Version (number64 version)
-version_answer version (Some closed) =
-    option_and_then (λ number. option_map (λ numbers. Settled numbers number) (list_of number64 closed)) (number64 version)
+-- the connections that moved; none are given where they are absent
+abbrev pub moved_at : Data → Option (List ℕ)
+moved_at tree = member_or [] (list_of number64) (codes "moved") tree
+
+-- the connections that were closed and those that moved, and the version of a settle
+abbrev pub settled_with : List ℕ → List ℕ → ℕ → Answer
+settled_with closed moved version = Settled closed moved version
+
+-- a version, and where it is a settle's the connections that were closed and those that moved
+abbrev pub version_answer : Data → Option Data → Data → Option Answer
+version_answer version None tree = option_map Version (number64 version)
+version_answer version (Some closed) tree =
+    option_and_then (λ number. option_and_then (λ closed. option_map (λ moved. settled_with closed moved number) (moved_at tree))
+    (list_of number64 closed))
+    (number64 version)
 
 -- a connection that is answered at once, with a status
-abbrev pub local_answer : ℕ → Data → Option Answer
-local_answer listener tree = option_map (λ status. Local listener status) (member_of number16 (codes "status") tree)
+abbrev pub local_way : Data → Option (Way Host)
+local_way tree = option_map (λ status. Local status) (member_of number16 (codes "status") tree)
 
 -- the host of an address and a port
 abbrev pub host_with : List ℕ → ℕ → Host
@@ -170,27 +185,46 @@ host_of tree =
     (member_of name_of (codes "address") tree)
 
 -- a connection that goes to a host of a cluster
-abbrev pub served_answer : ℕ → Data → Option Answer
-served_answer listener tree =
-    option_and_then (λ cluster. option_map (λ host. Served listener cluster host) (host_of tree)) (member_of generation_of (codes "cluster") tree)
+abbrev pub served_way : Data → Option (Way Host)
+served_way tree =
+    option_and_then (λ cluster. option_map (λ host. Served cluster host) (host_of tree)) (member_of generation_of (codes "cluster") tree)
 
 -- a generation's number that is given
 abbrev pub given_generation : Data → Option (Option ℕ)
 given_generation tree = option_map (λ number. Some number) (generation_of tree)
 
--- a connection that goes where no script tells, by a cluster where one is given
-abbrev pub elsewhere_answer : ℕ → Data → Option Answer
-elsewhere_answer listener tree = option_map (λ cluster. Elsewhere listener cluster) (member_or None given_generation (codes "cluster") tree)
+-- the cluster that is named, where one is
+abbrev pub cluster_at : Data → Option (Option ℕ)
+cluster_at tree = member_or None given_generation (codes "cluster") tree
 
--- the same, by that word and the listener
-abbrev pub taken_answer : List ℕ → ℕ → Data → Option Answer
-taken_answer word listener tree =
-    if bytes_eq word (codes "served") then served_answer listener tree
-    else if bytes_eq word (codes "local") then local_answer listener tree
-    else if bytes_eq word (codes "elsewhere") then elsewhere_answer listener tree
-    else unserved_named word listener
+-- what becomes of a connection, by the word for it
+abbrev pub way_of : List ℕ → Data → Option (Way Host)
+way_of word tree =
+    if bytes_eq word (codes "served") then served_way tree
+    else if bytes_eq word (codes "local") then local_way tree
+    else if bytes_eq word (codes "elsewhere") then option_map (λ cluster. Elsewhere cluster) (cluster_at tree)
+    else if bytes_eq word (codes "noSecret") then option_map (λ cluster. NoSecret cluster) (cluster_at tree)
+    else way_named word
+
+-- a chain's place, by its number or by the word for it
+abbrev pub place_by : Option (List ℕ) → Data → Option ChainPlace
+place_by (Some word) tree = place_named word
+place_by None tree = option_map (λ place. At place) (number32 tree)
+
+-- a chain's place that is given
+abbrev pub given_place : Data → Option (Option ChainPlace)
+given_place tree = option_map (λ place. Some place) (place_by (as_str tree) tree)
+
+-- the chain that was found, where one was
+abbrev pub chain_at : Data → Option (Option ChainPlace)
+chain_at tree = member_or None given_place (codes "chain") tree
 
 -- what becomes of a connection that a listener takes, by the word for it
+abbrev pub taken_answer : List ℕ → ℕ → Data → Option Answer
+taken_answer word listener tree =
+    option_and_then (λ chain. option_map (λ way. On listener chain way) (way_of word tree)) (chain_at tree)
+
+-- a connection that a listener takes
 abbrev pub result_answer : Data → Option Answer
 result_answer tree =
     option_and_then (λ word. option_and_then (λ listener. taken_answer word listener tree) (member_of generation_of (codes "listener") tree))
@@ -199,7 +233,7 @@ result_answer tree =
 -- the answer that a tree with these members would be
 abbrev pub answer_with : Option Data → Option Data → Option Data → Data → Option Answer
 answer_with (Some requests) version reaped tree = sent_answer requests (get (codes "verdicts") tree)
-answer_with None (Some version) reaped tree = version_answer version (get (codes "closed") tree)
+answer_with None (Some version) reaped tree = version_answer version (get (codes "closed") tree) tree
 answer_with None None (Some reaped) tree = option_map Reaped (list_of generation_of reaped)
 answer_with None None None tree = result_answer tree
 

@@ -1,18 +1,20 @@
 -- The words of a row, read back.
 use Rattle.std.specs.Prelude.{ℕ, ◌==◌, List, [], ◌∷◌, if◌then◌else◌, nat_lt, codes, Option, None, Some, option_map, option_and_then}
 use Rattle.std.specs.Str.{bytes_eq}
-use Rattle.ev_types.specs.declared.contents.Kind.{Kind}
-use Rattle.ev_types.specs.declared.contents.Kind.TheVariants.{Cds, Eds, Lds, Rds}
 use Rattle.ev_types.specs.declared.events.Actor.{Actor}
 use Rattle.ev_types.specs.declared.events.Actor.TheVariants as actor
 use Rattle.ev_types.specs.declared.events.Op.{Op}
 use Rattle.ev_types.specs.declared.events.Op.TheVariants.{Connect, Disconnect, Response, Health, FetchTimeout, DrainTimeout, TtlExpired, Publish, Reap, Accept, Close, Settle}
 use Rattle.ev_types.specs.declared.events.Verdict.{Verdict}
-use Rattle.ev_types.specs.declared.events.Verdict.TheVariants.{New, Same, Kept, Unasked, Renewed, Refused}
+use Rattle.ev_types.specs.declared.events.Verdict.TheVariants.{New, Same, InPlace, Back, Kept, Unasked, Renewed, Refused}
 use Rattle.ev_types.specs.declared.events.Answer.{Answer}
-use Rattle.ev_types.specs.declared.events.Answer.TheVariants.{Ignored, Done, Unchanged, InUse, NoListener, NoChain, Undecided, NoRoute, Redirect, NoCluster, NoEndpoint, NotOpen}
+use Rattle.ev_types.specs.declared.events.Answer.TheVariants.{Ignored, Done, Unchanged, InUse, NoListener, NoChain, NotOpen}
+use Rattle.ev_types.specs.declared.hosts.Host.{Host}
+use Rattle.ev_types.specs.declared.origins.ChainPlace.{ChainPlace}
+use Rattle.ev_types.specs.declared.origins.ChainPlace.TheVariants.{Default}
+use Rattle.ev_types.specs.declared.ways.Way.{Way}
+use Rattle.ev_types.specs.declared.ways.Way.TheVariants.{Undecided, NoRoute, Redirect, NoCluster, NoEndpoint}
 use Rattle.ev_tree.specs.Scalars.{u32_text}
-use Rattle.ev_wire.specs.Requests.{type_url}
 
 -- the number after a letter
 abbrev pub number_behind : ℕ → List ℕ → Option ℕ
@@ -54,6 +56,8 @@ abbrev pub verdict_named : List ℕ → Option Verdict
 verdict_named word =
     if bytes_eq word (codes "new") then Some New
     else if bytes_eq word (codes "same") then Some Same
+    else if bytes_eq word (codes "inPlace") then Some InPlace
+    else if bytes_eq word (codes "back") then Some Back
     else if bytes_eq word (codes "kept") then Some Kept
     else if bytes_eq word (codes "unasked") then Some Unasked
     else if bytes_eq word (codes "renewed") then Some Renewed
@@ -71,21 +75,16 @@ answer_named word =
     else if bytes_eq word (codes "notOpen") then Some NotOpen
     else None
 
--- what becomes of a connection that goes to no host that is known, by its word
-abbrev pub unserved_named : List ℕ → ℕ → Option Answer
-unserved_named word listener =
-    if bytes_eq word (codes "undecided") then Some (Undecided listener)
-    else if bytes_eq word (codes "noRoute") then Some (NoRoute listener)
-    else if bytes_eq word (codes "redirect") then Some (Redirect listener)
-    else if bytes_eq word (codes "noCluster") then Some (NoCluster listener)
-    else if bytes_eq word (codes "noEndpoint") then Some (NoEndpoint listener)
-    else None
+-- a chain's place that is a word: that of the default chain
+abbrev pub place_named : List ℕ → Option ChainPlace
+place_named word = if bytes_eq word (codes "default") then Some Default else None
 
--- a kind of resource by its type URL
-abbrev pub kind_named : List ℕ → Option Kind
-kind_named url =
-    if bytes_eq url (type_url Cds) then Some Cds
-    else if bytes_eq url (type_url Eds) then Some Eds
-    else if bytes_eq url (type_url Lds) then Some Lds
-    else if bytes_eq url (type_url Rds) then Some Rds
+-- what becomes of a connection where a word says all of it
+abbrev pub way_named : List ℕ → Option (Way Host)
+way_named word =
+    if bytes_eq word (codes "undecided") then Some Undecided
+    else if bytes_eq word (codes "noRoute") then Some NoRoute
+    else if bytes_eq word (codes "redirect") then Some Redirect
+    else if bytes_eq word (codes "noCluster") then Some NoCluster
+    else if bytes_eq word (codes "noEndpoint") then Some NoEndpoint
     else None

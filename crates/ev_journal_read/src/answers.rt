@@ -1,15 +1,18 @@
-ghost use Rattle.std.specs.Prelude.{◌≡◌, [], None, codes, option_map, IfOk};
+ghost use Rattle.std.specs.Prelude.{◌≡◌, [], option_map, IfOk};
 ghost use Rattle.serde_json.specs.View.{view};
-ghost use Rattle.ev_script.specs.Members.{member_of, member_or};
-ghost use Rattle.ev_journal_read.specs.Trees.{generation_of, number64, list_of, tree_found, verdict_of, sent_answer, version_answer, local_answer, given_generation, elsewhere_answer, host_of, served_answer, taken_answer, result_answer, answer_found, answer_of};
+ghost use Rattle.ev_script.specs.Members.{member_of};
+ghost use Rattle.ev_journal_read.specs.Trees.{generation_of, number64, list_of, tree_found, verdict_of, sent_answer, moved_at, version_answer, local_way, given_generation, cluster_at, host_of, served_way, way_of, place_by, given_place, chain_at, taken_answer, result_answer, answer_found, answer_of};
 ghost use Rattle.ev_journal.specs.Rows.{is_answered_with};
+ghost use Rattle.serde_json.specs.Find.{as_str};
 ghost use Rattle.ev_types.specs.declared.events.Answer.TheVariants as Answer;
+ghost use Rattle.ev_types.specs.declared.origins.ChainPlace.TheVariants.{At};
+ghost use Rattle.ev_types.specs.declared.ways.Way.TheVariants.{Elsewhere, NoSecret};
 
 use crate::lists::{Element, read_list};
-use crate::parts::{generation_at, generation_of, number16_at, number64};
-use crate::words::{answer_named, unserved_named, verdict_named};
+use crate::parts::{generation_at, generation_of, number16_at, number32, number64};
+use crate::words::{answer_named, place_named, verdict_named, way_named};
 use ev_script::{name_at, word_at};
-use ev_types::{Answer, Gen, Host, Op, Verdict};
+use ev_types::{Answer, ChainPlace, Gen, Host, Op, Seq, Verdict, Way};
 use serde_json::Value;
 use std::alloc::{AllocError, Global};
 
@@ -85,7 +88,7 @@ fn answer_with(
         return sent_answer(alloc, requests, tree.get("verdicts"));
     }
     if let Some(version) = version {
-        return version_answer(alloc, version, tree.get("closed"));
+        return version_answer(alloc, version, tree.get("closed"), tree);
     }
     match reaped {
         Some(reaped) => reaped_answer(alloc, reaped),
@@ -113,13 +116,15 @@ fn sent_answer(
     }
 }
 
-// A version, and the connections that were closed where there are any.
+// A version, and where it is a settle's the connections that were closed and those that moved.
 fn version_answer(
     alloc: Global,
     version: &Value,
     closed: Option<&Value>,
+    tree: &Value,
 ) -> Result<Option<Answer>, AllocError>
-    ensures { IfOk result (λ answer. answer ≡ version_answer (view version.now) (tree_found closed.entry)) }
+    ensures { IfOk result (λ answer. answer
+        ≡ version_answer (view version.now) (tree_found closed.entry) (view tree.now)) }
 {
     let Some(version) = number64(version) else {
         return Ok(None);
@@ -127,9 +132,26 @@ fn version_answer(
     let Some(closed) = closed else {
         return Ok(Some(Answer::Version(version)));
     };
-    match read_list(alloc, closed)? {
-        Some(closed) => Ok(Some(Answer::Settled { closed, version })),
+    let Some(closed) = read_list(alloc, closed)? else {
+        return Ok(None);
+    };
+    match moved_at(alloc, tree)? {
+        Some(moved) => Ok(Some(Answer::Settled {
+            closed,
+            moved,
+            version,
+        })),
         None => Ok(None),
+    }
+}
+
+// The connections that moved; none are given where they are absent.
+fn moved_at(alloc: Global, tree: &Value) -> Result<Option<Seq<u64>>, AllocError>
+    ensures { IfOk result (λ moved. moved ≡ moved_at (view tree.now)) }
+{
+    match tree.get("moved") {
+        Some(moved) => read_list(alloc, moved),
+        None => Ok(Some(Seq::new(alloc))),
     }
 }
 
@@ -143,7 +165,7 @@ fn reaped_answer(alloc: Global, reaped: &Value) -> Result<Option<Answer>, AllocE
     }
 }
 
-// What becomes of a connection that a listener takes.
+// A connection that a listener takes.
 fn result_answer(alloc: Global, tree: &Value) -> Result<Option<Answer>, AllocError>
     ensures { IfOk result (λ answer. answer ≡ result_answer (view tree.now)) }
 {
@@ -156,7 +178,7 @@ fn result_answer(alloc: Global, tree: &Value) -> Result<Option<Answer>, AllocErr
     }
 }
 
-// The same, by the word for it and the listener.
+// What becomes of a connection that a listener takes, by the word for it.
 fn taken_answer(
     alloc: Global,
     word: &str,
@@ -165,37 +187,105 @@ fn taken_answer(
 ) -> Result<Option<Answer>, AllocError>
     ensures { IfOk result (λ answer. answer ≡ taken_answer word.now listener (view tree.now)) }
 {
+    let Some(chain) = chain_at(tree) else {
+        return Ok(None);
+    };
+    match way_of(alloc, word, tree)? {
+        Some(way) => Ok(Some(Answer::On {
+            listener,
+            chain,
+            way,
+        })),
+        None => Ok(None),
+    }
+}
+
+// The chain that was found, where one was.
+fn chain_at(tree: &Value) -> Option<Option<ChainPlace>>
+    ensures { result ≡ chain_at (view tree.now) }
+{
+    match tree.get("chain") {
+        Some(chain) => given_place(chain),
+        None => Some(None),
+    }
+}
+
+// A chain's place that is given.
+fn given_place(tree: &Value) -> Option<Option<ChainPlace>>
+    ensures { result ≡ given_place (view tree.now) }
+{
+    match place_of(tree) {
+        Some(place) => Some(Some(place)),
+        None => None,
+    }
+}
+
+// A chain's place, by its number or by the word for it.
+fn place_of(tree: &Value) -> Option<ChainPlace>
+    ensures { result ≡ place_by (as_str (view tree.now)) (view tree.now) }
+{
+    match tree.as_str() {
+        Some(word) => place_named(word),
+        None => numbered_place(number32(tree)),
+    }
+}
+
+// The chain of a number, where there is one.
+fn numbered_place(place: Option<u32>) -> Option<ChainPlace>
+    ensures { result ≡ option_map (λ place. At place) place }
+{
+    match place {
+        Some(place) => Some(ChainPlace::At(place)),
+        None => None,
+    }
+}
+
+// What becomes of a connection, by the word for it.
+fn way_of(alloc: Global, word: &str, tree: &Value) -> Result<Option<Way<Host>>, AllocError>
+    ensures { IfOk result (λ way. way ≡ way_of word.now (view tree.now)) }
+{
     match word {
-        "served" => served_answer(alloc, listener, tree),
-        "local" => Ok(local_answer(listener, tree)),
-        "elsewhere" => Ok(elsewhere_answer(listener, tree)),
-        _ => Ok(unserved_named(word, listener)),
+        "served" => served_way(alloc, tree),
+        "local" => Ok(local_way(tree)),
+        "elsewhere" => Ok(elsewhere_way(cluster_at(tree))),
+        "noSecret" => Ok(no_secret_way(cluster_at(tree))),
+        _ => Ok(way_named(word)),
     }
 }
 
 // A connection that is answered at once.
-fn local_answer(listener: Gen, tree: &Value) -> Option<Answer>
-    ensures { result ≡ local_answer listener (view tree.now) }
+fn local_way(tree: &Value) -> Option<Way<Host>>
+    ensures { result ≡ local_way (view tree.now) }
 {
     match number16_at(tree, "status") {
-        Some(status) => Some(Answer::Local { listener, status }),
+        Some(status) => Some(Way::Local { status }),
         None => None,
     }
 }
 
-// A connection that goes where no script tells.
-fn elsewhere_answer(listener: Gen, tree: &Value) -> Option<Answer>
-    ensures { result ≡ elsewhere_answer listener (view tree.now) }
+// A connection that goes where no script tells, by a cluster where one is named.
+fn elsewhere_way(cluster: Option<Option<Gen>>) -> Option<Way<Host>>
+    ensures { result ≡ option_map (λ cluster. Elsewhere cluster) cluster }
 {
-    match cluster_of(tree) {
-        Some(cluster) => Some(Answer::Elsewhere { listener, cluster }),
+    match cluster {
+        Some(cluster) => Some(Way::Elsewhere { cluster }),
         None => None,
     }
 }
 
-// The cluster by which it goes, where one is given.
-fn cluster_of(tree: &Value) -> Option<Option<Gen>>
-    ensures { result ≡ member_or None given_generation (codes "cluster") (view tree.now) }
+// A connection for which a secret isn't there: the cluster's where one is named, else the chain's.
+fn no_secret_way(cluster: Option<Option<Gen>>) -> Option<Way<Host>>
+    ensures { result ≡ option_map (λ cluster. NoSecret cluster) cluster }
+{
+    match cluster {
+        Some(cluster) => Some(Way::NoSecret { cluster }),
+        None => None,
+    }
+}
+
+// The cluster that is named, where one is.
+fn cluster_at(tree: &Value) -> Option<Option<Gen>>
+    ensures { result ≡ cluster_at (view tree.now) }
 {
     match tree.get("cluster") {
         Some(cluster) => given_generation(cluster),
@@ -214,18 +304,14 @@ fn given_generation(tree: &Value) -> Option<Option<Gen>>
 }
 
 // A connection that goes to a host.
-fn served_answer(alloc: Global, listener: Gen, tree: &Value) -> Result<Option<Answer>, AllocError>
-    ensures { IfOk result (λ answer. answer ≡ served_answer listener (view tree.now)) }
+fn served_way(alloc: Global, tree: &Value) -> Result<Option<Way<Host>>, AllocError>
+    ensures { IfOk result (λ way. way ≡ served_way (view tree.now)) }
 {
     let Some(cluster) = generation_at(tree, "cluster") else {
         return Ok(None);
     };
     match read_host(alloc, tree)? {
-        Some(host) => Ok(Some(Answer::Served {
-            listener,
-            cluster,
-            host,
-        })),
+        Some(host) => Ok(Some(Way::Served { cluster, host })),
         None => Ok(None),
     }
 }

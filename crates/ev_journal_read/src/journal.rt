@@ -22,8 +22,8 @@ use std::alloc::{AllocError, Global};
 ///
 /// # Errors
 /// `Bad` with a line and its kind: kind 9 at the first line that is in no place of the journal, or one line above the
-/// last where the end line is missing; kinds 1 to 3 where a fault of the limits comes before. `Read` where a read failed
-/// before. `OutOfMemory` where there is no memory for the rows.
+/// last where the end line is missing; kinds 1 to 3 where a fault of the limits comes before.
+/// `Read` where a read failed before. `OutOfMemory` where there is no memory for the rows.
 pub fn read_rows<S: Source>(
     alloc: Global,
     first: &[u8],

@@ -32,7 +32,7 @@ fn number16(tree: &Value) -> Option<u16>
 }
 
 // A number of 32 bits.
-fn number32(tree: &Value) -> Option<u32>
+pub(crate) fn number32(tree: &Value) -> Option<u32>
     ensures { result ≡ number32 (view tree.now) }
 {
     match whole_within(0, 4294967295, tree) {

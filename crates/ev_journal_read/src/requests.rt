@@ -5,7 +5,6 @@ ghost use Rattle.ev_journal_read.specs.Trees.{kind_of, texts_of, lists_of, names
 
 use crate::lists::{Element, read_list};
 use crate::parts::{given_text, given_text_at, named};
-use crate::words::kind_named;
 use ev_script::{read_name, word_at};
 use ev_types::{Kind, Name, Request, Seq, Text};
 use serde_json::{Map, Value};
@@ -72,7 +71,7 @@ fn read_request(alloc: Global, tree: &Value) -> Result<Option<Request>, AllocErr
 fn kind_of(tree: &Value) -> Option<Kind>
     ensures { result ≡ kind_of (view tree.now) }
 {
-    kind_named(word_at(tree, "typeUrl")?)
+    Kind::of_url(word_at(tree, "typeUrl")?)
 }
 
 // Its texts.

@@ -1,36 +1,20 @@
 ghost use Rattle.std.specs.Prelude.{◌≡◌, ◌<◌};
-ghost use Rattle.std.specs.Char.{is_ascii_digit};
-ghost use Rattle.std.specs.List.{list_all};
-ghost use Rattle.ev_tree.specs.Scalars.{is_numeral, u32_text};
-ghost use Rattle.ev_journal_read.specs.Words.{number_behind, actor_named, op_named, rule_of, verdict_named, answer_named, unserved_named, kind_named};
+ghost use Rattle.ev_tree.specs.Scalars.{u32_text};
+ghost use Rattle.ev_journal_read.specs.Words.{number_behind, actor_named, op_named, rule_of, verdict_named, answer_named, place_named, way_named};
 
 use ev_tree::MAX_U32_DIGITS;
-use ev_types::{Actor, Answer, Gen, Kind, Op, Verdict};
+use ev_types::{Actor, Answer, ChainPlace, Host, Op, Rule, Verdict, Way, is_numeral};
 
 // The number that 1 to 10 digits write, if it is below 2^32.
 #[tactic(auto, unfolding(ev_tree::specs::Scalars::u32_text))]
 fn number_of(digits: &str) -> Option<u32>
     ensures { result ≡ u32_text digits.now }
 {
-    if is_numeral(digits) {
+    if is_numeral(digits, MAX_U32_DIGITS) {
         digits.parse::<u32>().ok()
     } else {
         None
     }
-}
-
-// Whether a text is 1 to 10 digits.
-fn is_numeral(text: &str) -> bool
-    ensures { result ≡ is_numeral 10 text.now }
-{
-    !text.is_empty() && text.len() <= MAX_U32_DIGITS && are_digits(text.as_bytes())
-}
-
-// Whether each byte is a digit.
-fn are_digits(bytes: &[u8]) -> bool
-    ensures { result ≡ list_all is_ascii_digit bytes.now }
-{
-    bytes.iter().all(|byte| byte.is_ascii_digit())
 }
 
 // The number after a letter.
@@ -80,7 +64,7 @@ fn rule_of(number: u32) -> Option<Verdict>
     ensures { result ≡ rule_of number }
 {
     if number < 256 {
-        Some(Verdict::Refused(number as u8))
+        Some(Verdict::Refused(Rule::new(number as u8)))
     } else {
         None
     }
@@ -93,6 +77,8 @@ pub(crate) fn verdict_named(word: &str) -> Option<Verdict>
     match word {
         "new" => Some(Verdict::New),
         "same" => Some(Verdict::Same),
+        "inPlace" => Some(Verdict::InPlace),
+        "back" => Some(Verdict::Back),
         "kept" => Some(Verdict::Kept),
         "unasked" => Some(Verdict::Unasked),
         "renewed" => Some(Verdict::Renewed),
@@ -116,29 +102,26 @@ pub(crate) fn answer_named(word: &str) -> Option<Answer>
     }
 }
 
-// What becomes of a connection that goes to no host that is known, by its word.
-pub(crate) fn unserved_named(word: &str, listener: Gen) -> Option<Answer>
-    ensures { result ≡ unserved_named word.now listener }
+// A chain's place that is a word: that of the default chain.
+pub(crate) fn place_named(word: &str) -> Option<ChainPlace>
+    ensures { result ≡ place_named word.now }
 {
     match word {
-        "undecided" => Some(Answer::Undecided { listener }),
-        "noRoute" => Some(Answer::NoRoute { listener }),
-        "redirect" => Some(Answer::Redirect { listener }),
-        "noCluster" => Some(Answer::NoCluster { listener }),
-        "noEndpoint" => Some(Answer::NoEndpoint { listener }),
+        "default" => Some(ChainPlace::Default),
         _ => None,
     }
 }
 
-// A kind of resource by its type URL.
-pub(crate) fn kind_named(url: &str) -> Option<Kind>
-    ensures { result ≡ kind_named url.now }
+// What becomes of a connection where a word says all of it.
+pub(crate) fn way_named(word: &str) -> Option<Way<Host>>
+    ensures { result ≡ way_named word.now }
 {
-    match url {
-        "type.googleapis.com/envoy.config.cluster.v3.Cluster" => Some(Kind::Cds),
-        "type.googleapis.com/envoy.config.endpoint.v3.ClusterLoadAssignment" => Some(Kind::Eds),
-        "type.googleapis.com/envoy.config.listener.v3.Listener" => Some(Kind::Lds),
-        "type.googleapis.com/envoy.config.route.v3.RouteConfiguration" => Some(Kind::Rds),
+    match word {
+        "undecided" => Some(Way::Undecided),
+        "noRoute" => Some(Way::NoRoute),
+        "redirect" => Some(Way::Redirect),
+        "noCluster" => Some(Way::NoCluster),
+        "noEndpoint" => Some(Way::NoEndpoint),
         _ => None,
     }
 }

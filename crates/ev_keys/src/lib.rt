@@ -1,5 +1,5 @@
-//! Keys by which tables of an input's names hash, made of that input: so nobody can make names that all meet in one place of a
-//! table, where each look-up would compare them all.
+//! Keys by which tables of an input's names hash, made of that input:
+//! so nobody can make names that all meet in one place of a table, where each look-up would compare them all.
 #![tactic(auto)]
 
 use std::hash::{BuildHasher, DefaultHasher, Hash, Hasher};

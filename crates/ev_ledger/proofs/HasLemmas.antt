@@ -5,6 +5,7 @@ use Rattle.std.specs.Option.{is_some}
 use Rattle.std.specs.Map.Iter.{TakesFirst}
 use Rattle.ev_model.specs.World.{OpenMember}
 use Rattle.ev_ledger.specs.Members.{is_of_worker, member_before, HasOpened}
+use Rattle.ev_ledger.specs.declared.open_on.On.{On}
 use Rattle.ev_ledger.specs.Entries.{is_at_worker, members_of}
 use Rattle.ev_ledger.proofs.OrderLemmas.{any_sorted}
 
@@ -32,7 +33,7 @@ first_there shows p all s t None is takes = sym (none_pass p all (sym is ∙ tak
 first_there shows p all s t (Some x) is takes = sym (one_passes p all (shows x) t (sym is ∙ takes))
 
 -- an entry of a worker is a connection of it
-pub any_members : (worker : ℕ) (es : List ((ℕ × ℕ) × (ℕ × Option ℕ))) → list_any (is_at_worker worker) es ≡ list_any (is_of_worker worker) (members_of es)
+pub any_members : (worker : ℕ) (es : List ((ℕ × ℕ) × On)) → list_any (is_at_worker worker) es ≡ list_any (is_of_worker worker) (members_of es)
 any_members worker [] = refl
 any_members worker (e ∷ es) = ap (λ b. (e.0.0 == worker) || b) (any_members worker es)
 

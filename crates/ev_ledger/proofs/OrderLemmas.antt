@@ -1,5 +1,5 @@
 -- Lists in an order: what a sort leaves of sums, tests and filters, and where a further element goes.
-use Rattle.std.proofs.Common.{◌≡◌, ℕ, ◌+◌, Bool, true, false, not, ◌||◌, cond, List, [], ◌∷◌, ◌++◌, filter, refl, sym, ap, ◌∙◌, arith}
+use Rattle.std.proofs.Common.{◌≡◌, ℕ, ◌+◌, Bool, true, false, not, ◌||◌, cond, List, [], ◌∷◌, ◌++◌, filter, map, refl, sym, ap, ◌∙◌, arith}
 use Rattle.std.specs.List.{list_any, sum_by, AllByRecursion}
 use Rattle.std.proofs.lemmas.Bool.{cond_both, cond-true, cond-false, true≢false, false≢true}
 use Rattle.std.proofs.lemmas.List.Sums.{sum_by-cons}
@@ -73,9 +73,22 @@ module _ {X : Type 0} (le : X → X → Bool) where
   all_so P Q (y ∷ ys) so all = (so y all.0, all_so P Q ys so all.1)
 
   -- an element that is before all others goes first
-  put_first : (x : X) (ys : List X) → AllByRecursion (λ y. le x y ≡ true) ys → put_by le x ys ≡ x ∷ ys
+  pub put_first : (x : X) (ys : List X) → AllByRecursion (λ y. le x y ≡ true) ys → put_by le x ys ≡ x ∷ ys
   put_first x [] all = refl
   put_first x (y ∷ ys) all = cond-true (le x y) (x ∷ y ∷ ys) (y ∷ put_by le x ys) all.0
+
+  -- a change of each element that keeps the order may be made before a sort or after it
+  map_put : (f : X → X) → ((x y : X) → le (f x) (f y) ≡ le x y) → (x : X) (ys : List X) → map f (put_by le x ys) ≡ put_by le (f x) (map f ys)
+  map_put f keeps x [] = refl
+  map_put f keeps x (y ∷ ys) =
+      cond_both (le x y) (x ∷ y ∷ ys) (y ∷ put_by le x ys) (λ zs. map f zs ≡ cond (le (f x) (f y)) (f x ∷ f y ∷ map f ys) (f y ∷ put_by le (f x) (map f ys)))
+      (λ before. sym (cond-true (le (f x) (f y)) (f x ∷ f y ∷ map f ys) (f y ∷ put_by le (f x) (map f ys)) (keeps x y ∙ before)))
+      (λ behind. ap (λ zs. f y ∷ zs) (map_put f keeps x ys)
+      ∙ sym (cond-false (le (f x) (f y)) (f x ∷ f y ∷ map f ys) (f y ∷ put_by le (f x) (map f ys)) (keeps x y ∙ behind)))
+
+  pub sorted_map : (f : X → X) → ((x y : X) → le (f x) (f y) ≡ le x y) → (xs : List X) → sorted_by le (map f xs) ≡ map f (sorted_by le xs)
+  sorted_map f keeps [] = refl
+  sorted_map f keeps (x ∷ xs) = ap (put_by le (f x)) (sorted_map f keeps xs) ∙ sym (map_put f keeps x (sorted_by le xs))
 
   module _ (o : IsOrder le) where
     put_rises : (x : X) (ys : List X) → Rises le ys → Rises le (put_by le x ys)

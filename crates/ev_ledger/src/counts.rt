@@ -2,7 +2,7 @@ ghost use Rattle.std.specs.Prelude.{◌≡◌, ℕ, ◌+◌, ◌-◌, ◌<◌, �
 ghost use Rattle.indexmap.specs.IndexMap.{spare, get};
 ghost use Rattle.ev_ledger.specs.Entries.{HasNoZero, weight, counted};
 
-use ev_types::Gen;
+use crate::open_on::On;
 use indexmap::IndexMap;
 
 /// The count of a number. It takes no memory.
@@ -45,16 +45,17 @@ pub(crate) fn lower(counts: &mut IndexMap<u32, u64>, number: u32)
     }
 }
 
-/// Counts one more connection on a listener and, where it was forwarded, on a cluster; on both once where they have one number.
-pub(crate) fn raise_on(counts: &mut IndexMap<u32, u64>, on: (Gen, Option<Gen>))
+/// Counts one more connection on a listener and, where it was forwarded, on a cluster;
+/// on both once where they have one number.
+pub(crate) fn raise_on(counts: &mut IndexMap<u32, u64>, on: &On)
     requires room { 2 ≤ spare counts.old }
     requires fits { (n : ℕ) → counted counts.old n + 1 < 2 ^ 64 }
-    ensures counts { (n : ℕ) → counted counts.new n ≡ counted counts.old n + weight n on }
+    ensures counts { (n : ℕ) → counted counts.new n ≡ counted counts.old n + weight n on.now }
     ensures none_zero { HasNoZero counts.old → HasNoZero counts.new }
 {
-    let (listener, cluster) = on;
+    let listener = on.listener;
     raise(counts, listener.number());
-    match cluster {
+    match on.cluster {
         Some(cluster) => {
             if cluster.number() != listener.number() {
                 raise(counts, cluster.number());
@@ -65,14 +66,14 @@ pub(crate) fn raise_on(counts: &mut IndexMap<u32, u64>, on: (Gen, Option<Gen>))
 }
 
 /// Counts one less connection on a listener and, where it was forwarded, on a cluster. It takes no memory.
-pub(crate) fn lower_on(counts: &mut IndexMap<u32, u64>, on: (Gen, Option<Gen>))
-    requires { (n : ℕ) → weight n on ≤ counted counts.old n }
-    ensures counts { (n : ℕ) → counted counts.new n + weight n on ≡ counted counts.old n }
+pub(crate) fn lower_on(counts: &mut IndexMap<u32, u64>, on: &On)
+    requires { (n : ℕ) → weight n on.now ≤ counted counts.old n }
+    ensures counts { (n : ℕ) → counted counts.new n + weight n on.now ≡ counted counts.old n }
     ensures none_zero { HasNoZero counts.old → HasNoZero counts.new }
 {
-    let (listener, cluster) = on;
+    let listener = on.listener;
     lower(counts, listener.number());
-    match cluster {
+    match on.cluster {
         Some(cluster) => {
             if cluster.number() != listener.number() {
                 lower(counts, cluster.number());

@@ -1,11 +1,12 @@
 ghost use Rattle.std.specs.Prelude.{◌≡◌, false, [], OnOk, OnErr, IfOk};
-ghost use Rattle.ev_model.specs.Connections.{is_open, member_on, closed};
+ghost use Rattle.ev_model.specs.Connections.{is_open, closed};
 ghost use Rattle.std.specs.List.{list_any};
-ghost use Rattle.ev_ledger.specs.Members.{is_of_worker, with_member, AreApart, AreInOrder, ArePlacesOn, IsAnswerOf, Opens, HasOpenedAfter, HasOpened, count_of, held_in, held_of, on_in};
+ghost use Rattle.ev_ledger.specs.Members.{is_of_worker, member_on, with_member, AreApart, AreInOrder, ArePlacesFrom, ArePlacesOn, IsAnswerOf, Opens, HasOpenedAfter, HasOpened, count_of, on_in};
 
 use crate::counts::{count_in, lower_on, raise_on};
 use crate::members::{Members, found, has_any, is_there, put, take};
-use crate::places::{Places, enter, leave, places_on};
+use crate::open_on::{On, began_at, listener_of};
+use crate::places::{Places, enter_under, leave_under, places_under};
 use ev_types::Gen;
 use indexmap::IndexMap;
 use std::alloc::{AllocError, Global};
@@ -18,7 +19,9 @@ pub struct Ledger {
     members: Members,
     // How many of them are open on a generation, by its number.
     counts: IndexMap<u32, u64>,
+    // Those on each listener, and those whose chains began with each.
     places: Places,
+    begun: Places,
 }
 
 impl Model for Ledger {
@@ -30,7 +33,7 @@ impl Model for Ledger {
 
     ghost view = { λ l. members_of l.members.entries };
 
-    ghost invariant = { λ l. AreEntriesKept l.counts l.places l.members.entries };
+    ghost invariant = { λ l. AreEntriesKept l.counts l.places l.begun l.members.entries };
 }
 
 impl Ledger {
@@ -43,6 +46,7 @@ impl Ledger {
             members: BTreeMap::new(alloc),
             counts: IndexMap::new(alloc),
             places: BTreeSet::new(alloc),
+            begun: BTreeSet::new(alloc),
         }
     }
 
@@ -54,38 +58,37 @@ impl Ledger {
         count_in(&self.counts, number.number())
     }
 
-    /// Opens a worker's connection on a listener and, where it was forwarded, on a cluster. The worker has none of this number
-    /// open. Out of memory, all stays as it was.
-    pub fn open(
-        &mut self,
-        worker: u32,
-        conn: u64,
-        listener: Gen,
-        cluster: Option<Gen>,
-    ) -> Result<(), AllocError>
+    /// Opens a worker's connection on a listener and, where it was forwarded, on a cluster.
+    /// The worker has none of this number open. Out of memory, all stays as it was.
+    pub fn open(&mut self, worker: u32, conn: u64, on: On) -> Result<(), AllocError>
         requires apart { is_open self.old worker conn ≡ false }
-        ensures opened { OnOk result (self.new ≡ with_member (member_on worker conn listener cluster) self.old) }
-        ensures world { OnOk result (Opens (member_on worker conn listener cluster) self.old self.new) }
+        ensures opened { OnOk result (self.new ≡ with_member (member_on worker conn on) self.old) }
+        ensures world { OnOk result (Opens (member_on worker conn on) self.old self.new) }
         ensures err { OnErr result (self.new ≡ self.old) }
     {
         let Ok(_) = self.counts.reserve(2) else {
             return Err(AllocError);
         };
         let place = (worker as u64, conn);
-        let key = (listener.number() as u64, place);
-        let Ok(_) = enter(&mut self.places, key) else {
+        let listener = listener_of(&on);
+        let began = began_at(&on);
+        let Ok(_) = enter_under(&mut self.places, &listener, place) else {
             return Err(AllocError);
         };
-        let forwarded = cluster;
-        let Ok(_) = put(&mut self.members, place, (listener, forwarded)) else {
-            leave(&mut self.places, key);
+        let Ok(_) = enter_under(&mut self.begun, &began, place) else {
+            leave_under(&mut self.places, &listener, place);
             return Err(AllocError);
         };
-        raise_on(&mut self.counts, (listener, cluster));
+        let Ok(_) = put(&mut self.members, place, &on) else {
+            leave_under(&mut self.places, &listener, place);
+            leave_under(&mut self.begun, &began, place);
+            return Err(AllocError);
+        };
+        raise_on(&mut self.counts, &on);
         Ok(())
     }
 
-    /// Closes a worker's connection and answers whether it was open there. It takes no memory.
+    /// Closes a worker's connection and returns whether it was open there. It takes no memory.
     pub fn close(&mut self, worker: u32, conn: u64) -> bool
         ensures answer { result ≡ is_open self.old worker conn }
         ensures closed { self.new ≡ (closed conn worker self.old).opened }
@@ -97,8 +100,11 @@ impl Ledger {
         let Some(on) = take(&mut self.members, place) else {
             return false;
         };
-        leave(&mut self.places, (on.0.number() as u64, place));
-        lower_on(&mut self.counts, on);
+        let listener = listener_of(&on);
+        let began = began_at(&on);
+        leave_under(&mut self.places, &listener, place);
+        leave_under(&mut self.begun, &began, place);
+        lower_on(&mut self.counts, &on);
         true
     }
 
@@ -110,9 +116,8 @@ impl Ledger {
         is_there(&self.members, (worker as u64, conn))
     }
 
-    /// The listener and, where it was forwarded, the cluster of a worker's connection, where it is open. It looks at no other,
-    /// and takes no memory.
-    pub fn on(&self, worker: u32, conn: u64) -> Option<(Gen, Option<Gen>)>
+    /// What a worker's connection is open on, where it is open. It looks at no other, and takes no memory.
+    pub fn on(&self, worker: u32, conn: u64) -> Option<On>
         ensures on { result ≡ on_in worker conn self.now }
         ensures apart { AreApart self.now }
         ensures ordered { AreInOrder self.now }
@@ -126,7 +131,16 @@ impl Ledger {
     {
         // No two are of one worker and number.
         let _ = self.members.len();
-        places_on(alloc, &self.places, number.number() as u64)
+        places_under(alloc, &self.places, number.number() as u64)
+    }
+
+    /// The worker and the number of each connection whose chain began with a generation. It looks at no other.
+    pub fn places_from(&self, alloc: Global, number: Gen) -> Result<Vec<(u64, u64)>, AllocError>
+        ensures places { IfOk result (λ places. ArePlacesFrom number self.now places.items) }
+    {
+        // No two are of one worker and number.
+        let _ = self.members.len();
+        places_under(alloc, &self.begun, number.number() as u64)
     }
 
     /// Whether a worker has a connection open. It is a look-up.

@@ -7,7 +7,9 @@ use Rattle.ev_tree.specs.Rules.{is_name}
 use Rattle.ev_tree.specs.Broken.{least_of}
 use Rattle.ev_tree.specs.Addresses.{address_text_of, address_broken, any_text_of, any_address_broken}
 use Rattle.ev_tree.proofs.Unions.{least_none}
-use Rattle.ev_listener_json.specs.Listeners.{listener_name, own_listener_broken, envoy_listener_broken, envoy_self_broken, lacks_address, named_address, listening_text, is_unusable}
+use Rattle.ev_listener_json.specs.Chains.{envoy_chains_broken}
+use Rattle.ev_listener_json.specs.ListenerFilters.{redirection_broken, listener_extensions}
+use Rattle.ev_listener_json.specs.Listeners.{listens_by_udp, listener_name, own_listener_broken, envoy_listener_broken, envoy_self_broken, lacks_address, named_address, listening_text, is_unusable}
 
 left_false : (a b : Bool) → (a || b) ≡ false → a ≡ false
 left_false true b e = absurd (true≢false e)
@@ -50,8 +52,12 @@ pub envoy_name : (tree : Data) → least_of (envoy_listener_broken tree) ≡ Non
 unfolding envoy_self_broken
 envoy_name tree h =
     let clear = least_none (envoy_listener_broken tree) h in
-    let v3 = right_false _ _ (right_false _ _ (ap (λ (b : BrokenRules). b.v3) clear)) in
-    let v6 = right_false _ _ (right_false _ _ (ap (λ (b : BrokenRules). b.v6) clear)) in
+    let v3 =
+    right_false (listener_extensions tree).broken.v3 _ (right_false (redirection_broken tree).v3 _
+    (right_false (envoy_chains_broken (listens_by_udp tree) tree).v3 _ (ap (λ (b : BrokenRules). b.v3) clear))) in
+    let v6 =
+    right_false (listener_extensions tree).broken.v6 _ (right_false (redirection_broken tree).v6 _
+    (right_false (envoy_chains_broken (listens_by_udp tree) tree).v6 _ (ap (λ (b : BrokenRules). b.v6) clear))) in
     named (is_wrong (text_of (codes "name") tree)) (is_name (listener_name tree)) v3 (left_false _ _ (left_false _ _ (left_false _ _ v6)))
 
 -- an address that V12 lets pass has a text that is a name
@@ -68,5 +74,7 @@ pub envoy_address : (tree : Data) → least_of (envoy_listener_broken tree) ≡ 
 unfolding envoy_self_broken listening_text
 envoy_address tree h =
     let clear = least_none (envoy_listener_broken tree) h in
-    let v14 = right_false _ _ (right_false _ _ (ap (λ (b : BrokenRules). b.v14) clear)) in
+    let v14 =
+    right_false (listener_extensions tree).broken.v14 _ (right_false (redirection_broken tree).v14 _
+    (right_false (envoy_chains_broken (listens_by_udp tree) tree).v14 _ (ap (λ (b : BrokenRules). b.v14) clear))) in
     usable (lacks_address tree) (listening_text tree) (named_address tree) (any_text_of tree) (any_address_broken tree).v12 refl (any_named tree) v14

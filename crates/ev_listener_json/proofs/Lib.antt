@@ -4,3 +4,4 @@ pub mod Leasts
 pub mod Overlaps
 pub mod CollisionLemmas
 pub mod PlaceLemmas
+pub mod FrameLemmas

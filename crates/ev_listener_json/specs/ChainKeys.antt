@@ -1,5 +1,6 @@
--- What filter chains are found by: the values of a criterion, as keys. A key begins with a mark that says of which criterion it
--- is, of which family of IP addresses, or that by the criterion nothing is asked for.
+-- What filter chains are found by: the values of a criterion, as keys.
+-- A key begins with a mark that says of which criterion it is, of which family of IP addresses,
+-- or that by the criterion nothing is asked for.
 use Rattle.std.specs.Prelude.{ℕ, ◌+◌, ◌++◌, List, [], ◌∷◌, map}
 use Rattle.std.specs.List.{flat_map}
 use Rattle.std.specs.Hash as fed

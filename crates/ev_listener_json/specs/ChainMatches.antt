@@ -1,4 +1,5 @@
--- A filter chain's match (`envoy.config.listener.v3.FilterChainMatch`) with all its criteria, and the rules that it breaks.
+-- A filter chain's match (`envoy.config.listener.v3.FilterChainMatch`) with all its criteria,
+-- and the rules that it breaks.
 -- What is no match, as one that is missing, has no criterion; members of other names are passed over.
 use Rattle.std.specs.Prelude.{ℕ, ◌||◌, ◌==◌, List, [], length, map, Bool, false, not, if◌then◌else◌, Option, Some, None, codes}
 use Rattle.std.specs.Str.{str_to_ascii_lowercase}

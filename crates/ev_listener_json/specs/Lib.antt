@@ -11,3 +11,5 @@ pub mod ChainMatches
 pub mod Chains
 pub mod ChainKeys
 pub mod ChainPlaces
+pub mod ChainExtensions
+pub mod Frames

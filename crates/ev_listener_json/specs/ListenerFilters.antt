@@ -1,4 +1,5 @@
--- Listener filters (`envoy.config.listener.v3.ListenerFilter`): those that restore the original destination of a redirected connection.
+-- Listener filters (`envoy.config.listener.v3.ListenerFilter`):
+-- those that restore the original destination of a redirected connection.
 use Rattle.std.specs.Prelude.{ℕ, ◌||◌, List, [], Bool, false, if◌then◌else◌, codes}
 use Rattle.std.specs.List.{list_any}
 use Rattle.std.specs.Str.{bytes_eq}
@@ -6,7 +7,11 @@ use Rattle.serde_json.specs.Data.{Data}
 use Rattle.ev_tree.specs.declared.broken.BrokenRules.{BrokenRules}
 use Rattle.ev_tree.specs.Forms.{is_wrong, is_absent, given_or, listed, text_of, boolean_of, object_of, objects_of}
 use Rattle.ev_tree.specs.Broken.{none_broken, either_broken, any_broken}
+use Rattle.ev_secret_json.specs.declared.referring.References.{References}
+use Rattle.ev_secret_json.specs.References.{each_joined}
+use Rattle.ev_secret_json.specs.Extensions.{filter_extension}
 use Rattle.ev_listener_json.specs.Filters.{config_of}
+use Rattle.ev_listener_json.specs.Chains.{has_api}
 
 -- the listener filters, in order
 unfoldable pub listener_filters_of : Data → List Data
@@ -52,3 +57,13 @@ unfoldable pub redirection_broken : Data → BrokenRules
 redirection_broken listener = either_broken (any_broken listener_filter_broken (listener_filters_of listener)) (record none_broken {
   v6 = is_wrong (boolean_of (codes "use_original_dst") listener) || is_wrong (objects_of (codes "listener_filters") listener);
 })
+
+-- ---- the extensions that its listener filters ask for
+
+-- these references without their list where it is hidden: what they break is judged all the same
+abbrev pub hidden_where : Bool → References → References
+hidden_where hides found = record { list = if hides then [] else found.list; broken = found.broken }
+
+-- An API listener waits for its manager's extensions alone.
+unfoldable pub listener_extensions : Data → References
+listener_extensions listener = hidden_where (has_api listener) (each_joined filter_extension (listener_filters_of listener))

@@ -1,4 +1,5 @@
--- Listeners (`envoy.config.listener.v3.Listener`), and the rules that they break, by this project's own rules and as Envoy reads them.
+-- Listeners (`envoy.config.listener.v3.Listener`), and the rules that they break,
+-- by this project's own rules and as Envoy reads them.
 use Rattle.std.specs.Prelude.{ℕ, ◌||◌, ◌&&◌, ◌==◌, List, [], ◌∷◌, ◌++◌, length, map, Bool, false, not, if◌then◌else◌, None, Result, unwrap_or, codes}
 use Rattle.std.specs.Str.{bytes_eq}
 use Rattle.serde_json.specs.Data.{Data}
@@ -18,8 +19,9 @@ use Rattle.ev_tree.specs.Rules.{judged, is_name}
 use Rattle.ev_tree.specs.Broken.{none_broken, either_broken, any_broken, least_of}
 use Rattle.ev_listener_json.specs.Parts.{first_of}
 use Rattle.ev_listener_json.specs.Filters.{chain_serve, chain_broken}
-use Rattle.ev_listener_json.specs.ListenerFilters.{hands_over, restores, redirection_broken}
-use Rattle.ev_listener_json.specs.Chains.{chains_of, no_criteria, has_api, envoy_chains_of, envoy_default_of, envoy_chains_broken}
+use Rattle.ev_listener_json.specs.Frames.{in_place_text_of}
+use Rattle.ev_listener_json.specs.ListenerFilters.{hands_over, restores, redirection_broken, listener_extensions}
+use Rattle.ev_listener_json.specs.Chains.{chains_of, plain_chain, has_api, envoy_chains_of, envoy_default_of, envoy_chains_broken}
 
 -- ---- the parts of a listener
 
@@ -31,7 +33,7 @@ is_udp Absent = false
 is_udp Wrong = false
 is_udp (Given protocol) = protocol == 1
 
--- what the chain serves. One without a filter that serves breaks V16 or V17; it stands for a table with no hosts.
+-- what the chain serves. One without a filter that serves breaks V16 or V17; it represents a table with no hosts.
 unfoldable pub serve_of : Data → Serve
 serve_of tree = unwrap_or (first_of (map chain_serve (chains_of tree))) (Inline (record { hosts = [] }))
 
@@ -61,8 +63,10 @@ own_listener_of tree = record {
   takes_every_address = false;
   restores = false;
   hands_over = false;
-  filter_chains = record { criteria = no_criteria; serve = serve_of tree } ∷ [];
+  filter_chains = plain_chain (serve_of tree) ∷ [];
   default_filter_chain = None;
+  extensions = [];
+  frame_text = [];
   body_text = body_text_of Own tree;
 }
 
@@ -117,10 +121,12 @@ envoy_self_broken tree = record none_broken {
   v14 = has_bad_address tree;
 }
 
--- what a listener breaks: what its chains break, what its members about redirected connections break, and what it breaks itself
+-- what a listener breaks: what its chains break, what its members about redirected connections
+-- and the extensions of its listener filters break, and what it breaks itself
 abbrev pub envoy_listener_broken : Data → BrokenRules
 envoy_listener_broken tree =
-    either_broken (envoy_chains_broken (listens_by_udp tree) tree) (either_broken (redirection_broken tree) (envoy_self_broken tree))
+    either_broken (envoy_chains_broken (listens_by_udp tree) tree)
+    (either_broken (redirection_broken tree) (either_broken (listener_extensions tree).broken (envoy_self_broken tree)))
 
 abbrev pub envoy_listener_of : Data → Listener
 envoy_listener_of tree = record {
@@ -131,6 +137,8 @@ envoy_listener_of tree = record {
   hands_over = hands_over tree;
   filter_chains = envoy_chains_of tree;
   default_filter_chain = envoy_default_of tree;
+  extensions = (listener_extensions tree).list;
+  frame_text = in_place_text_of tree;
   body_text = body_text_of Envoy tree;
 }
 

@@ -33,7 +33,8 @@ route_name_of manager = given_or [] (text_of (codes "route_config_name") (rds_of
 unfoldable pub inline_of : Data → Data
 inline_of manager = inside (object_of (codes "route_config") manager)
 
--- by the own rules `scoped_routes` counts as given in any form, and is refused; as Envoy reads it, it is an object, and a third way
+-- by the own rules `scoped_routes` counts as given in any form, and is refused;
+-- as Envoy reads it, it is an object, and a third way
 abbrev pub has_scopes : Profile → Data → Bool
 has_scopes Own manager = is_given (field_of (codes "scoped_routes") manager)
 has_scopes Envoy manager = is_given (object_of (codes "scoped_routes") manager)
@@ -71,7 +72,8 @@ manager_broken profile manager = either_broken (table_broken profile (inline_of 
 abbrev pub is_scoped : Profile → Data → Bool
 is_scoped profile manager = is_envoy profile && has_scopes profile manager
 
--- the routes of this name, where one is asked for, else something that isn't read, or the routes that stand in the manager
+-- the routes of this name, where one is asked for, else something that isn't read,
+-- or the routes that stand in the manager
 abbrev pub serve_with : Bool → List ℕ → Bool → Bool → RouteTable → Serve
 serve_with asks name limited scoped table =
     if asks && is_name name then Rds name limited

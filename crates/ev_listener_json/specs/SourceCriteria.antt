@@ -33,7 +33,7 @@ is_source_port d = is_given_port (u32_in d)
 abbrev pub are_source_ports : List Data → Bool
 are_source_ports ds = list_all is_source_port ds
 
--- the port. What is none breaks V6; it stands for port 0, which never shows.
+-- the port. What is none breaks V6; it represents port 0, which never shows.
 abbrev pub port_or_zero : Option ℕ → ℕ
 port_or_zero None = 0
 port_or_zero (Some port) = if is_destination port then port else 0
@@ -89,7 +89,8 @@ sources_of tree = record {
   ports = map source_port_in (source_port_trees tree);
 }
 
--- What they break: what one of the ranges breaks, and what they break themselves. V6: wrong forms, and a port that is none.
+-- What they break: what one of the ranges breaks, and what they break themselves. V6:
+-- wrong forms, and a port that is none.
 unfoldable pub sources_broken : Data → BrokenRules
 sources_broken tree =
     either_broken (any_broken cidr_range_broken (direct_range_trees tree))

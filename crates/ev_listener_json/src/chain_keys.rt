@@ -19,8 +19,8 @@ pub(crate) enum Criterion {
     SourcePort,
 }
 
-/// A value that a filter chain asks for by a criterion, or that it asks for none, as a key. Contracts see what it is made of: a
-/// mark, a prefix length, bits, and a text. It takes no memory.
+/// A value that a filter chain asks for by a criterion, or that it asks for none, as a key.
+/// Contracts see what it is made of: a mark, a prefix length, bits, and a text. It takes no memory.
 #[derive(Drop)]
 pub(crate) struct ChainKey<'a> {
     mark: u8,
@@ -134,7 +134,8 @@ impl<'a> Hash for ChainKey<'a> {
     }
 }
 
-/// What a table of these chains' keys hashes by: it is made of all that they ask for, so that no chain can be made to meet others there.
+/// What a table of these chains' keys hashes by: it is made of all that they ask for,
+/// so that no chain can be made to meet others there.
 pub(crate) fn hash_keys_of(chains: &[FilterChain]) -> Keys {
     let mut fed = DefaultHasher::new();
     for chain in chains {

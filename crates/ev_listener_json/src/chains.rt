@@ -18,7 +18,7 @@ use std::alloc::{AllocError, Global};
 /// members aren't looked at.
 ///
 /// # Errors
-/// `Rule` with the least rule that it breaks, of V2, V6, V10 and V17 to V24, and `OutOfMemory`.
+/// `Rule` with the lowest-numbered rule that it breaks, of V2, V6, V10 and V17 to V24, and `OutOfMemory`.
 pub fn read_chain(alloc: Global, chain: &Value) -> Result<Serve, ReadError>
     ensures reading { ReadsAs result (chain_reading (view chain.now)) }
 {

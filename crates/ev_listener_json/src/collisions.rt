@@ -10,7 +10,8 @@ use crate::chain_places::ChainPlaces;
 use ev_types::{FilterChain, FilterChainMatch};
 use std::alloc::{AllocError, Global};
 
-/// Whether two filter chains may take one connection: by each criterion they have a value in common, or none in both. Each chain is compared with those before it that are found by its keys.
+/// Whether two filter chains may take one connection: by each criterion they have a value in common, or none in both.
+/// Each chain is compared with those before it that are found by its keys.
 pub fn has_collision(alloc: Global, chains: &[FilterChain]) -> Result<bool, AllocError>
     ensures { IfOk result (λ has. has ≡ has_collision (map (λ (c : declared.FilterChain). c.criteria) chains.now)) }
 {

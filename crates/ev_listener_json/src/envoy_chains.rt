@@ -2,14 +2,17 @@
 ghost use Rattle.std.specs.Prelude.{◌≡◌, None, [], ◌∷◌, IfOk, map};
 ghost use Rattle.serde_json.specs.View.{view};
 ghost use Rattle.ev_tree.specs.Broken.{any_broken};
-ghost use Rattle.ev_tree.specs.Forms.{found_map};
-ghost use Rattle.ev_listener_json.specs.Chains.{no_criteria, served_by, serve_or_other, filters_broken, envoy_chain_of, envoy_chain_broken, has_api, is_manager, api_chain_of, api_broken, chains_of, default_serve, default_broken, given_default_of, given_chains_broken, envoy_chains_broken, envoy_chains_of, envoy_default_of};
+ghost use Rattle.ev_tree.specs.Floats.{plain_text};
+ghost use Rattle.ev_tree.specs.Forms.{found_map, tree_of};
+ghost use Rattle.ev_listener_json.specs.Chains.{no_criteria, plain_chain, served_by, serve_or_other, filters_broken, served_broken, chain_with, envoy_chain_of, envoy_chain_broken, has_api, is_manager, api_chain_of, api_broken, chains_of, default_chain, default_broken, given_default_of, given_chains_broken, envoy_chains_broken, envoy_chains_of, envoy_default_of};
 
+use crate::chain_extensions::{find_chain_extensions, find_kind_extensions};
 use crate::chain_matches::inspect_filter_chain_match;
 use crate::collisions::has_collision;
 use crate::filters::{FilterKind, choose_kind, inspect_config, inspect_filters};
-use ev_tree::{BrokenRules, Found, Inspection, member, more_than_one};
-use ev_types::{FilterChain, FilterChainMatch, Profile, Seq, Serve, Shared};
+use ev_secret_json::find_transport_secrets;
+use ev_tree::{BrokenRules, Found, Inspection, body_text, member, more_than_one};
+use ev_types::{FilterChain, FilterChainMatch, Profile, Seq, Serve, Shared, Text};
 use serde_json::Value;
 use std::alloc::{AllocError, Global};
 
@@ -18,14 +21,14 @@ use std::alloc::{AllocError, Global};
 pub struct ChainsFound {
     /// The chains in order.
     pub chains: Vec<FilterChain>,
-    /// What the default chain serves, if there is one.
-    pub default: Option<Serve>,
+    /// The default chain, if there is one.
+    pub default: Option<FilterChain>,
     /// The rules that they break.
     pub broken: BrokenRules,
 }
 
-/// Inspects the chains of a listener as Envoy reads them: one that listens by UDP needs none. An API listener hides those that are
-/// given.
+/// Inspects the chains of a listener as Envoy reads them: one that listens by UDP needs none.
+/// An API listener hides those that are given.
 #[tactic(auto, unfolding(crate::specs::Chains::envoy_chains_of, crate::specs::Chains::envoy_default_of, crate::specs::Chains::envoy_chains_broken))]
 pub fn inspect_envoy_chains(
     alloc: Global,
@@ -75,7 +78,7 @@ pub fn has_api(alloc: Global, listener: &Value) -> Result<bool, AllocError>
     Ok(!api.is_absent())
 }
 
-// Inspects an API listener: its connection manager stands for the one filter of one chain without a match.
+// Inspects an API listener: its connection manager represents the one filter of one chain without a match.
 fn inspect_api(alloc: Global, listener: &Value) -> Result<ChainsFound, AllocError>
     ensures chains { IfOk result (λ found. found.chains.items ≡ api_chain_of (view listener.now) ∷ []) }
     ensures default { IfOk result (λ found. found.default ≡ None) }
@@ -87,6 +90,7 @@ fn inspect_api(alloc: Global, listener: &Value) -> Result<ChainsFound, AllocErro
     let name = member::text(alloc, config, "@type")?;
     let kind = choose_kind(name);
     let below = inspect_config(alloc, Profile::Envoy, kind, config)?;
+    let extensions = find_kind_extensions(alloc, kind, config)?;
     let own = BrokenRules {
         v6: outer.is_wrong() | inner.is_wrong() | name.is_wrong(),
         v17: !is_manager(kind),
@@ -96,12 +100,25 @@ fn inspect_api(alloc: Global, listener: &Value) -> Result<ChainsFound, AllocErro
     chains.push(FilterChain {
         criteria: Shared::new(alloc, no_criteria(alloc))?,
         serve: serve_or_other(below.value),
+        secrets: Seq::new(alloc),
+        extensions: extensions.list,
+        body_text: part_text(alloc, config)?,
     })?;
     Ok(ChainsFound {
         chains,
         default: None,
-        broken: below.broken.or(own),
+        broken: below.broken.or(extensions.broken.or(own)),
     })
+}
+
+// The text of a part of a listener that may be missing.
+fn part_text(alloc: Global, part: Option<&Value>) -> Result<Text, AllocError>
+    ensures { IfOk result (λ text. text ≡ plain_text (tree_of part.entry)) }
+{
+    match part {
+        Some(part) => body_text(alloc, Profile::Envoy, part),
+        None => body_text(alloc, Profile::Envoy, &Value::Null),
+    }
 }
 
 // Whether a filter of this kind is a connection manager.
@@ -151,19 +168,53 @@ fn inspect_envoy_chain(alloc: Global, chain: &Value) -> Result<Inspection<Filter
     ensures value { IfOk result (λ found. found.value ≡ envoy_chain_of (view chain.now)) }
     ensures broken { IfOk result (λ found. found.broken ≡ envoy_chain_broken (view chain.now)) }
 {
-    let below = inspect_served(alloc, chain)?;
     let matched = member::object(alloc, Some(chain), "filter_chain_match")?;
     let criteria = inspect_filter_chain_match(alloc, member::inner(matched))?;
+    let below = inspect_with(alloc, criteria.value, chain)?;
     let own = BrokenRules {
         v6: matched.is_wrong(),
         ..BrokenRules::none()
     };
     Ok(Inspection {
         broken: below.broken.or(criteria.broken.or(own)),
+        value: below.value,
+    })
+}
+
+// Inspects a chain that takes the connections that a match asks for, its own match left aside.
+fn inspect_with(
+    alloc: Global,
+    criteria: FilterChainMatch,
+    chain: &Value,
+) -> Result<Inspection<FilterChain>, AllocError>
+    ensures value { IfOk result (λ found. found.value ≡ chain_with criteria (view chain.now)) }
+    ensures broken { IfOk result (λ found. found.broken ≡ served_broken (view chain.now)) }
+{
+    let served = inspect_served(alloc, chain)?;
+    let secrets = find_transport_secrets(alloc, Some(chain))?;
+    let extensions = find_chain_extensions(alloc, chain)?;
+    Ok(Inspection {
+        broken: served.broken.or(secrets.broken.or(extensions.broken)),
         value: FilterChain {
-            criteria: Shared::new(alloc, criteria.value)?,
-            serve: below.value,
+            criteria: Shared::new(alloc, criteria)?,
+            serve: served.value,
+            secrets: secrets.list,
+            extensions: extensions.list,
+            body_text: body_text(alloc, Profile::Envoy, chain)?,
         },
+    })
+}
+
+/// A chain that has a way of serving alone, and takes every connection.
+pub fn plain_chain(alloc: Global, serve: Serve) -> Result<FilterChain, AllocError>
+    ensures { IfOk result (λ chain. chain ≡ plain_chain serve) }
+{
+    Ok(FilterChain {
+        criteria: Shared::new(alloc, no_criteria(alloc))?,
+        serve,
+        secrets: Seq::new(alloc),
+        extensions: Seq::new(alloc),
+        body_text: Text::from_string(String::new(alloc)),
     })
 }
 
@@ -189,13 +240,13 @@ fn inspect_served(alloc: Global, chain: &Value) -> Result<Inspection<Serve>, All
 fn inspect_default(
     alloc: Global,
     chain: Found<&Value>,
-) -> Result<Inspection<Option<Serve>>, AllocError>
-    ensures value { IfOk result (λ found. found.value ≡ default_serve (found_map (λ v. view v.now) chain.entry)) }
+) -> Result<Inspection<Option<FilterChain>>, AllocError>
+    ensures value { IfOk result (λ found. found.value ≡ default_chain (found_map (λ v. view v.now) chain.entry)) }
     ensures broken { IfOk result (λ found. found.broken ≡ default_broken (found_map (λ v. view v.now) chain.entry)) }
 {
     match chain {
         Found::Given(chain) => {
-            let found = inspect_served(alloc, chain)?;
+            let found = inspect_with(alloc, no_criteria(alloc), chain)?;
             Ok(Inspection {
                 value: Some(found.value),
                 broken: found.broken,

@@ -1,9 +1,10 @@
-//! Listeners out of JSON: a listener is read whole, or refused by the least rule that it breaks.
+//! Listeners out of JSON: a listener is read whole, or refused by the lowest-numbered rule that it breaks.
 //!
 //! # Choices
 //!
-//! - By the own rules the default filter chain is looked for, and not into: it is refused by V16, whatever is in it, so a
-//!   wrong form inside it isn't V6. As Envoy reads it, it is read but for its match.
+//! - By the own rules the default filter chain is looked for, and not into:
+//!   it is refused by V16, whatever is in it, so a wrong form inside it isn't V6.
+//!   As Envoy reads it, it is read but for its match.
 //! - Rules below V16 are looked for in all chains and all filters: of two chains of which one asks for routes by an
 //!   empty name the answer is V2.
 //! - A filter serves where it is worth something to serve: so V17 counts the filters that are, and there is no second
@@ -13,7 +14,7 @@
 //! - V17 is asked of each chain. Where there isn't exactly one chain, V16 is broken, so this shows only with one.
 //! - A `typed_config` that is absent or has no `@type` makes its filter one that is passed over; an `@type` that
 //!   isn't text is V6.
-//! - A chain without a filter that serves stands for a table with no hosts in the definition of the value; it breaks
+//! - A chain without a filter that serves represents a table with no hosts in the definition of the value; it breaks
 //!   V16 or V17, so this never shows.
 //! - A match with all its criteria is read by `inspect_filter_chain_match`. A range that is none is read as all IPv4
 //!   addresses, and a source port that is none as port 0; they break V16 and V6, so this never shows.
@@ -23,8 +24,14 @@
 //! - `source_ports` and `source_type` have readers here, since ev_tree has none for a list of numbers, nor this enum.
 //! - By the own rules a TCP proxy's other specifiers (`cluster_header` and the like) break V22 as in a route: it is the
 //!   same reader. As Envoy reads it, it has no other specifiers, so they are passed over.
+//! - The filters of a chain are gone over once for what they serve and once for the extensions
+//!   that they ask for, so each has a definition by itself.
+//! - The text of a listener without its chains is that of a copy, made without them:
+//!   it takes memory in proportion to its own length.
+//! - The chain of an API listener has the text of its connection manager.
 #![tactic(auto)]
 
+mod chain_extensions;
 mod chain_keys;
 mod chain_matches;
 mod chain_places;
@@ -33,6 +40,7 @@ mod cidr_ranges;
 mod collisions;
 mod envoy_chains;
 mod filters;
+mod frames;
 mod listener_filters;
 mod listeners;
 mod managers;

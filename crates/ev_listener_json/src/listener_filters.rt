@@ -1,11 +1,14 @@
-//! What a listener does with a redirected connection.
+//! Listener filters: what a listener does with a redirected connection, and the extensions that they ask for.
 ghost use Rattle.std.specs.Prelude.{◌≡◌, map, IfOk};
 ghost use Rattle.std.specs.List.{list_any};
 ghost use Rattle.serde_json.specs.View.{view};
 ghost use Rattle.ev_tree.specs.Broken.{any_broken};
-ghost use Rattle.ev_listener_json.specs.ListenerFilters.{is_original_dst_by, is_original_dst, listener_filter_broken, hands_over, restores, redirection_broken};
+ghost use Rattle.ev_listener_json.specs.ListenerFilters.{is_original_dst_by, is_original_dst, listener_filter_broken, hands_over, restores, redirection_broken, hidden_where, listener_extensions};
 
+use crate::envoy_chains::has_api;
+use ev_secret_json::{References, find_extensions};
 use ev_tree::{BrokenRules, Inspection, member};
+use ev_types::Seq;
 use serde_json::Value;
 use std::alloc::{AllocError, Global};
 
@@ -95,5 +98,31 @@ fn is_original_dst_by(unconfigured: bool, name: &str, kind: &str) -> bool
         name == "envoy.filters.listener.original_dst"
     } else {
         kind == "type.googleapis.com/envoy.extensions.filters.listener.original_dst.v3.OriginalDst"
+    }
+}
+
+/// The extensions that the listener filters of a listener ask for: an API listener waits for none of them.
+pub(crate) fn find_listener_extensions(
+    alloc: Global,
+    listener: &Value,
+) -> Result<References, AllocError>
+    ensures { IfOk result (λ found. found ≡ listener_extensions (view listener.now)) }
+{
+    let filters = member::objects(alloc, Some(listener), "listener_filters")?;
+    let found = find_extensions(alloc, member::elements(filters))?;
+    let hides = has_api(alloc, listener)?;
+    Ok(hide_where(alloc, hides, found))
+}
+
+// These references without their list where it is hidden.
+fn hide_where(alloc: Global, hides: bool, found: References) -> References
+    ensures { result ≡ hidden_where hides found }
+{
+    if !hides {
+        return found;
+    }
+    References {
+        list: Seq::new(alloc),
+        broken: found.broken,
     }
 }

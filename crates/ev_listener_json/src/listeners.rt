@@ -1,4 +1,4 @@
-ghost use Rattle.std.specs.Prelude.{◌≡◌, ◌==◌, IfOk, true, length, if◌then◌else◌};
+ghost use Rattle.std.specs.Prelude.{◌≡◌, ◌==◌, [], IfOk, true, length, if◌then◌else◌};
 ghost use Rattle.serde_json.specs.Data.{Data};
 ghost use Rattle.serde_json.specs.View.{view};
 ghost use Rattle.std.specs.String.{string_bytes};
@@ -9,22 +9,21 @@ ghost use Rattle.ev_tree.specs.Broken.{rules_of, least_of};
 ghost use Rattle.ev_listener_json.specs.Listeners.{listener_reading, listener_broken, own_listener_broken, listener_name, serve_of, is_udp, listens_by_udp, is_every_address, listening_text, listening_port, is_unusable, envoy_self_broken, named_with};
 
 use crate::chains::{inspect_chains, serve_or_none};
-use crate::envoy_chains::{has_api, inspect_envoy_chains, no_criteria};
-use crate::listener_filters::inspect_redirection;
+use crate::envoy_chains::{has_api, inspect_envoy_chains, plain_chain};
+use crate::frames::in_place_text;
+use crate::listener_filters::{find_listener_extensions, inspect_redirection};
 use ev_tree::{
     AddressText, BrokenRules, EnumTable, Found, ReadError, any_address, body_text, is_name, member,
     socket_address,
 };
-use ev_types::{
-    FilterChain, Host, Listener, Name, NameError, Profile, Seq, Serve, Shared, SocketAddress,
-};
+use ev_types::{Host, Listener, Name, NameError, Profile, Seq, Serve, SocketAddress, Text};
 use serde_json::Value;
 use std::alloc::{AllocError, Global};
 
 /// A listener (`envoy.config.listener.v3.Listener`) in a profile.
 ///
 /// # Errors
-/// `Rule` with the least rule that it breaks, of V2 (the name of the routes that it asks for), V3 (its own
+/// `Rule` with the lowest-numbered rule that it breaks, of V2 (the name of what it asks for), V3 (its own
 /// name, where it is no name), V6, V10, V14, V16 to V24 and, as Envoy reads it, V26 and V27, and `OutOfMemory`.
 pub fn read_listener(alloc: Global, profile: Profile, value: &Value) -> Result<Listener, ReadError>
     ensures { ReadsAs result (listener_reading profile (view value.now)) }
@@ -44,10 +43,7 @@ fn read_own_listener(alloc: Global, value: &Value) -> Result<Listener, ReadError
         return Err(ReadError::Rule(rule));
     }
     let mut chains = Vec::new(alloc);
-    chains.push(FilterChain {
-        criteria: Shared::new(alloc, no_criteria(alloc))?,
-        serve: found.serve,
-    })?;
+    chains.push(plain_chain(alloc, found.serve)?)?;
     Ok(Listener {
         name: make_name(alloc, found.name)?,
         address: SocketAddress {
@@ -59,6 +55,8 @@ fn read_own_listener(alloc: Global, value: &Value) -> Result<Listener, ReadError
         hands_over: false,
         filter_chains: Seq::from_vec(chains),
         default_filter_chain: None,
+        extensions: Seq::new(alloc),
+        frame_text: empty_text(alloc),
         body_text: body_text(alloc, Profile::Own, value)?,
     })
 }
@@ -70,7 +68,10 @@ fn read_envoy_listener(alloc: Global, value: &Value) -> Result<Listener, ReadErr
     let own = inspect_envoy_listener(alloc, value)?;
     let below = inspect_envoy_chains(alloc, value, own.udp)?;
     let redirection = inspect_redirection(alloc, value)?;
-    let broken = below.broken.or(redirection.broken.or(own.broken));
+    let extensions = find_listener_extensions(alloc, value)?;
+    let broken = below
+        .broken
+        .or(redirection.broken.or(extensions.broken.or(own.broken)));
     if let Some(rule) = broken.least() {
         return Err(ReadError::Rule(rule));
     }
@@ -87,8 +88,17 @@ fn read_envoy_listener(alloc: Global, value: &Value) -> Result<Listener, ReadErr
         hands_over: redirection.hands_over,
         filter_chains: Seq::from_vec(below.chains),
         default_filter_chain: below.default,
+        extensions: extensions.list,
+        frame_text: in_place_text(alloc, value)?,
         body_text: body_text(alloc, Profile::Envoy, value)?,
     })
+}
+
+// A text without a byte.
+fn empty_text(alloc: Global) -> Text
+    ensures { result ≡ [] }
+{
+    Text::from_string(String::new(alloc))
 }
 
 // What is found of a listener itself, as Envoy reads it. The values count where no rule is broken.
@@ -101,7 +111,8 @@ struct EnvoyParts<'a> {
     udp: bool,
 }
 
-// Inspects a listener itself, as Envoy reads it: its name and its address, its members about redirected connections left aside.
+// Inspects a listener itself, as Envoy reads it: its name and its address,
+// its members about redirected connections left aside.
 fn inspect_envoy_listener(alloc: Global, value: &Value) -> Result<EnvoyParts<'_>, AllocError>
     ensures name { IfOk result (λ found. found.name.now ≡ listener_name (view value.now)) }
     ensures address { IfOk result (λ found. string_bytes found.address ≡ listening_text (view value.now)) }

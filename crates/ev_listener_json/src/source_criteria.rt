@@ -19,7 +19,8 @@ pub(crate) struct Sources {
     pub ports: Seq<u16>,
 }
 
-/// Inspects what a filter chain's match asks of where a connection comes from: it, and the rules that it breaks, of V6 and V16.
+/// Inspects what a filter chain's match asks of where a connection comes from:
+/// it, and the rules that it breaks, of V6 and V16.
 pub(crate) fn inspect_sources(
     alloc: Global,
     tree: Option<&Value>,

@@ -1,3 +1,2 @@
-pub mod FrameLemmas
+pub mod EndLemmas
 pub mod RetiredLemmas
-pub mod RemoveLemmas

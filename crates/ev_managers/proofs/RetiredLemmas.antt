@@ -1,9 +1,8 @@
--- Which generations of both managers retired, and which changed.
+-- Which generations retired, and which changed.
 use Rattle.std.proofs.Common.{◌≡◌, ◌∙◌, ℕ, Bool, true, false, not, ◌&&◌, ◌||◌, nat_eq, List, [], ◌++◌, Option, None, Some, option_map, option_to_list, refl, sym, ap}
-use Rattle.std.proofs.Math.Bool.{or_assoc, or-false}
+use Rattle.std.proofs.Math.Bool.{or_assoc}
 use Rattle.std.proofs.lemmas.List.Folds.{list_any-append}
 use Rattle.ev_types.specs.declared.contents.Kind.{Kind}
-use Rattle.ev_types.specs.declared.contents.Kind.TheVariants.{Cds, Eds, Lds, Rds}
 use Rattle.ev_types.specs.Statuses.{is_live, is_active}
 use Rattle.ev_types.specs.declared.rows.RowStatus.{RowStatus}
 use Rattle.ev_types.specs.declared.rows.RowStatus.TheVariants.{Warming, Active, Draining, Dropped}
@@ -11,16 +10,16 @@ use Rattle.ev_types.specs.declared.rows.GenRow.{GenRow}
 use Rattle.ev_model.specs.Rows.{with_statuses}
 use Rattle.ev_model.specs.Signals.{is_draining, rows_ended}
 use Rattle.ev_model.specs.Tidy.{status_by}
-use Rattle.ev_generations.specs.Tables.{row_in}
-use Rattle.ev_generations.proofs.TableLemmas.{row_in-with_statuses}
+use Rattle.ev_indexes.specs.Tables.{row_in}
+use Rattle.ev_indexes.proofs.TableLemmas.{row_in-with_statuses}
+use Rattle.ev_mentions.specs.Keys.{named}
 use Rattle.ev_indexes.specs.declared.state.State.{State}
 use Rattle.ev_indexes.specs.Due.{is_one_of}
 use Rattle.ev_indexes.specs.Indexes.{IsIndexed, numbers_where, serves, status_in, warms}
 use Rattle.ev_warming.specs.Changes.{is_over, has_retired, began_to_serve, began_to_drain}
-use Rattle.ev_warming.specs.declared.manager.Manager.{Manager}
 use Rattle.ev_warming.proofs.RetiredLemmas.{tells-ended}
 use Rattle.ev_managers.specs.declared.managers.Managers.{Managers}
-use Rattle.ev_managers.specs.Managers.{HaveSameRows, manager_of, with_manager}
+use Rattle.ev_managers.specs.Managers.{HaveSameRows}
 use Rattle.ev_managers.specs.Moved.{AreRetired, Grows, is_moved}
 
 -- where the rows are the same, none retired
@@ -31,34 +30,18 @@ none-retired before after same number = by (is_over (row_in number before)) ∙ 
     by true = refl
     by false = refl
 
--- of neither manager
+-- where each generation stays as it is
 pub none-are : (before after : Managers) → HaveSameRows before after → AreRetired [] before after
-none-are before after same n =
-    λ i. none-retired before.clusters.state.table.rows after.clusters.state.table.rows same.clusters n i
-    || none-retired before.listeners.state.table.rows after.listeners.state.table.rows same.listeners n i
-
--- those of the manager that alone changed
-pub retired-with : (m : Managers) (kind : Kind) (own : Manager) (numbers : List ℕ)
-    → ((n : ℕ) → is_one_of numbers n ≡ has_retired n (manager_of m kind).state.table.rows own.state.table.rows) → AreRetired numbers m (with_manager m kind own)
-retired-with m Cds own numbers told n =
-    told n ∙ sym (or-false (has_retired n m.clusters.state.table.rows own.state.table.rows))
-    ∙ (λ i. has_retired n m.clusters.state.table.rows own.state.table.rows || none-retired m.listeners.state.table.rows m.listeners.state.table.rows refl n i)
-retired-with m Eds own numbers told n =
-    told n ∙ sym (or-false (has_retired n m.clusters.state.table.rows own.state.table.rows))
-    ∙ (λ i. has_retired n m.clusters.state.table.rows own.state.table.rows || none-retired m.listeners.state.table.rows m.listeners.state.table.rows refl n i)
-retired-with m Lds own numbers told n =
-    told n ∙ (λ i. none-retired m.clusters.state.table.rows m.clusters.state.table.rows refl n i || has_retired n m.listeners.state.table.rows own.state.table.rows)
-retired-with m Rds own numbers told n =
-    told n ∙ (λ i. none-retired m.clusters.state.table.rows m.clusters.state.table.rows refl n i || has_retired n m.listeners.state.table.rows own.state.table.rows)
+none-are before after same n = none-retired before.core.state.table.rows after.core.state.table.rows same n
 
 -- those that were live under a name that has come to its end
-pub ended-are : (s : State) (name numbers : List ℕ) (warming active : Option ℕ) (after : List GenRow) → IsIndexed s
-    → option_to_list warming ≡ numbers_where (warms name) s.table.rows → option_to_list active ≡ numbers_where (serves name) s.table.rows
-    → after ≡ rows_ended s.kind name s.table.rows → numbers ≡ option_to_list warming ++ option_to_list active
+pub ended-are : (s : State) (kind : Kind) (name numbers : List ℕ) (warming active : Option ℕ) (after : List GenRow) → IsIndexed s
+    → option_to_list warming ≡ numbers_where (warms (named kind name)) s.table.rows → option_to_list active ≡ numbers_where (serves (named kind name)) s.table.rows
+    → after ≡ rows_ended kind name s.table.rows → numbers ≡ option_to_list warming ++ option_to_list active
     → (number : ℕ) → is_one_of numbers number ≡ has_retired number s.table.rows after
-ended-are s name numbers warming active after x w a ended are number =
+ended-are s kind name numbers warming active after x w a ended are number =
     ap (λ ns. is_one_of ns number) are
-    ∙ (tells-ended s.kind name s.table.rows x.table.apart x.kinds warming active after [] w a ended).told number
+    ∙ (tells-ended kind name s.table.rows x.table.apart warming active after [] w a ended).told number
 
 -- numbers with more of them
 pub put-are : (before after : List GenRow) (numbers put drained : List ℕ) → put ≡ numbers ++ drained
@@ -77,12 +60,6 @@ put-moved before after numbers put served drained are serve drain number =
     ∙ (λ i. list_any-append (nat_eq number) numbers served i || drain number i)
     ∙ (λ i. (is_one_of numbers number || serve number i) || began_to_drain number before after)
     ∙ or_assoc (is_one_of numbers number) (began_to_serve number before after) (began_to_drain number before after)
-
--- of one manager, then of the other
-pub put-both : (numbers first both : List ℕ) (one other : ℕ → Bool) → Grows numbers first one → Grows first both other
-    → Grows numbers both (λ number. one number || other number)
-put-both numbers first both one other here there number =
-    there number ∙ (λ i. here number i || other number) ∙ or_assoc (is_one_of numbers number) (one number) (other number)
 
 drained_by : (succeeded ready : Bool) (status : RowStatus)
     → (is_active status && is_draining (status_by succeeded ready status)) ≡ (not (is_live (status_by succeeded ready status)) && not (not (is_live status)))

@@ -1,3 +1,2 @@
 pub mod Managers
-pub mod Lending
 pub mod Moved

@@ -1,20 +1,15 @@
--- Which generations of both managers retired, and which came to serve.
+-- Which generations retired, and which came to serve.
 use Rattle.std.specs.Prelude.{◌≡◌, ℕ, Bool, ◌||◌, List}
 use Rattle.ev_types.specs.declared.rows.GenRow.{GenRow}
 use Rattle.ev_indexes.specs.Due.{is_one_of}
 use Rattle.ev_indexes.specs.declared.state.State.{State}
-use Rattle.ev_warming.specs.Changes.{has_retired, began_to_serve, began_to_drain}
+use Rattle.ev_warming.specs.Changes.{HaveRetired, began_to_serve, began_to_drain}
 use Rattle.ev_managers.specs.declared.managers.Managers.{Managers}
 use Rattle.ev_managers.specs.declared.moved.Moved.{Moved}
 
--- a test of a number's row before and after, among clusters or among listeners
-abbrev pub of_either : (ℕ → List GenRow → List GenRow → Bool) → ℕ → Managers → Managers → Bool
-of_either test number before after =
-    test number before.clusters.state.table.rows after.clusters.state.table.rows || test number before.listeners.state.table.rows after.listeners.state.table.rows
-
 -- these began to drain or were dropped between the managers before and after, and no others
 abbrev pub AreRetired : List ℕ → Managers → Managers → Type 0
-AreRetired numbers before after = (number : ℕ) → is_one_of numbers number ≡ of_either has_retired number before after
+AreRetired numbers before after = HaveRetired numbers before.core.state after.core.state
 
 -- the row of this number came to serve, or served and drains
 abbrev pub is_moved : ℕ → List GenRow → List GenRow → Bool
@@ -28,8 +23,3 @@ Grows numbers more test = (number : ℕ) → is_one_of more number ≡ (is_one_o
 pub record TellsPromoted (before after : State) (moved more : Moved) : Type 0 where
   pub retired : Grows moved.retired more.retired (λ number. began_to_drain number before.table.rows after.table.rows)
   pub changed : Grows moved.changed more.changed (λ number. is_moved number before.table.rows after.table.rows)
-
--- the same of both managers
-pub record AreTold (moved more : Moved) (before after : Managers) : Type 0 where
-  pub retired : Grows moved.retired more.retired (λ number. of_either began_to_drain number before after)
-  pub changed : Grows moved.changed more.changed (λ number. of_either is_moved number before after)

@@ -3,14 +3,14 @@ ghost use Rattle.ev_warming.specs.Worlds.{means_something, with_result};
 ghost use Rattle.ev_managers.specs.Managers.{AreForgotten, AreManagersKept, AnswerFor, Follow};
 
 use crate::Managers;
-use ev_generations::Steps;
+use ev_indexes::Steps;
 use ev_types::{Host, Name};
 use std::alloc::{AllocError, Global};
 use std::sync::ledger::Ledger;
 
 impl Managers {
-    /// A health result of a host of a cluster; of listeners there are none. Answers whether it is for a generation; where it is for
-    /// none, all stays as it was. Out of memory, nothing is promised.
+    /// A health result of a host of a cluster; of listeners there are none. Answers whether it is for a generation;
+    /// where it is for none, all stays as it was. Out of memory, it is unspecified.
     pub fn health<L: Ledger>(
         &mut self,
         alloc: Global,
@@ -26,7 +26,6 @@ impl Managers {
         ensures stands { OnOk result (Follow self.old self.new (with_result cluster.now host.now healthy)) }
         ensures ignored { IfOk result (λ meant. AnswerFor self.old meant (means_something cluster.now host.now)) }
     {
-        let meant = self.clusters.note(alloc, cluster, host, healthy, steps)?;
-        Ok(meant)
+        self.core.note(alloc, cluster, host, healthy, steps)
     }
 }

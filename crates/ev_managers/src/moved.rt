@@ -4,15 +4,14 @@ ghost use Rattle.ev_warming.specs.Managers.{IsKept};
 ghost use Rattle.ev_warming.specs.Worlds.{Follows};
 ghost use Rattle.ev_managers.specs.Moved.{TellsPromoted};
 
-use ev_generations::Steps;
-use ev_indexes::put_all;
+use ev_indexes::{Steps, put_all};
 use ev_types::{Gen, Seq};
 use ev_warming::Manager;
 use std::alloc::{AllocError, Global};
 use std::sync::ledger::Ledger;
 
-/// What an event moves: which generations began to drain or were dropped, and of which a picture may show something else than before.
-/// A number is of one kind, so clusters and listeners are in one list.
+/// What an event moves: which generations began to drain or were dropped, and of which a picture may show something
+/// else than before. A number is of one kind, so clusters and listeners are in one list.
 #[derive(Drop)]
 pub struct Moved {
     pub retired: Seq<Gen>,
@@ -42,7 +41,8 @@ impl Moved {
     }
 }
 
-/// Each generation of a manager that is due serves, and the one that served its name before it drains; both are reported.
+/// Each generation of a manager that is due serves, and the one that served its name before it drains; both are
+/// reported.
 pub(crate) fn promote<L: Ledger>(
     manager: &mut Manager,
     alloc: Global,
@@ -51,7 +51,6 @@ pub(crate) fn promote<L: Ledger>(
 ) -> Result<(), AllocError>
     requires { IsKept manager.old }
     ensures kept { OnOk result (IsKept manager.new) }
-    ensures kind { OnOk result (manager.new.state.kind ≡ manager.old.state.kind) }
     ensures made { OnOk result (manager.new.state.table.made ≡ manager.old.state.table.made) }
     ensures told { OnOk result (TellsPromoted manager.old.state manager.new.state moved.old moved.new) }
     ensures stands { OnOk result (Follows manager.old.state manager.new.state promoted) }

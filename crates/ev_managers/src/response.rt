@@ -1,19 +1,17 @@
-ghost use Rattle.std.specs.Prelude.{◌≡◌, ◌+◌, ◌^◌, ◌<◌, false, true, Some, length, IfOk, OnOk};
-ghost use Rattle.ev_model.specs.Watching.{is_by_name};
+ghost use Rattle.std.specs.Prelude.{◌≡◌, ◌+◌, ◌^◌, ◌<◌, Some, length, IfOk, OnOk};
 ghost use Rattle.ev_warming.specs.Worlds.{with_response};
-ghost use Rattle.ev_managers.specs.Managers.{AreManagersKept, HaveSameRows, MayBeGiven, Follow};
+ghost use Rattle.ev_managers.specs.Managers.{AreManagersKept, MayBeGiven, Follow};
 ghost use Rattle.ev_managers.specs.Moved.{AreRetired};
 
 use crate::Managers;
-use crate::managers::is_by_name;
-use ev_generations::Steps;
+use ev_indexes::Steps;
 use ev_types::{Gen, Kind, Response, Seq, Verdict};
 use std::alloc::{AllocError, Global};
 use std::sync::ledger::Ledger;
 
 impl Managers {
-    /// A response of this kind, with the verdicts on its resources: removals first, then its resources in order. Answers
-    /// which generations retired. Out of memory, nothing is promised.
+    /// A response of this kind, with the verdicts on its resources: removals first, then its resources in order.
+    /// Answers which generations retired. Out of memory, it is unspecified.
     pub fn respond<L: Ledger>(
         &mut self,
         alloc: Global,
@@ -26,46 +24,17 @@ impl Managers {
         requires typed { response.now.kind ≡ Some kind }
         requires one_each { length verdicts.now ≡ length response.now.items }
         requires given { MayBeGiven self.old kind verdicts.now response.now.items }
-        requires room { self.old.made + length response.now.items < 2 ^ 32 }
+        requires room { self.old.core.state.table.made + length response.now.items < 2 ^ 32 }
         ensures kept { OnOk result (AreManagersKept self.new) }
         ensures retired { IfOk result (λ retired. AreRetired retired self.old self.new) }
-        // Whatever world they stood for, they stand for that world once the response's removals and resources are in.
+        // Whatever world they represented, they represent that world once the response's removals and resources are in.
         ensures stands { OnOk result (Follow self.old self.new (with_response kind verdicts.now response.now)) }
     {
-        if is_by_name(kind) {
-            self.arrive_all(alloc, kind, response, verdicts, steps)?;
+        if kind.is_by_name() {
+            self.core
+                .arrive_all(alloc, kind, response, verdicts, steps)?;
             return Ok(Seq::new(alloc));
         }
-        // the numbers go on after the last one that was drawn for either kind
-        let made = self.made;
-        let own = self.of_mut(kind);
-        let retired = own.apply(alloc, made, response, verdicts, steps)?;
-        let drawn = own.made();
-        self.made = drawn;
-        Ok(retired)
-    }
-
-    // A response of what generations depend on.
-    fn arrive_all<L: Ledger>(
-        &mut self,
-        alloc: Global,
-        kind: Kind,
-        response: &Response,
-        verdicts: &[Verdict],
-        steps: &mut Steps<L>,
-    ) -> Result<(), AllocError>
-        requires kept { AreManagersKept self.old }
-        requires by_name { is_by_name kind ≡ true }
-        requires typed { response.now.kind ≡ Some kind }
-        requires one_each { length verdicts.now ≡ length response.now.items }
-        requires given { MayBeGiven self.old kind verdicts.now response.now.items }
-        ensures kept { OnOk result (AreManagersKept self.new) }
-        ensures rows { OnOk result (HaveSameRows self.old self.new) }
-        ensures stands { OnOk result (Follow self.old self.new (with_response kind verdicts.now response.now)) }
-    {
-        let made = self.made;
-        let own = self.of_mut(kind);
-        own.arrive_all(alloc, made, response, verdicts, steps)?;
-        Ok(())
+        self.core.apply(alloc, kind, response, verdicts, steps)
     }
 }

@@ -1,21 +1,18 @@
 ghost use Rattle.std.specs.Prelude.{◌≡◌, ◌++◌, false, true, IfOk, OnOk, option_to_list};
+ghost use Rattle.ev_types.specs.Kinds.{is_by_name};
 ghost use Rattle.ev_model.specs.Signals.{with_end};
-ghost use Rattle.ev_model.specs.Watching.{is_by_name};
-ghost use Rattle.ev_types.specs.declared.rows.Arrival.TheVariants.{Ended};
 ghost use Rattle.ev_warming.specs.Arrivals.{with_arrived};
-ghost use Rattle.ev_managers.specs.Managers.{AreManagersKept, HaveSameRows, is_watched_in, no_value, Follow, FollowEnd};
+ghost use Rattle.ev_managers.specs.Managers.{AreManagersKept, HaveSameRows, is_watched_in, last_value, Follow, FollowEnd};
 ghost use Rattle.ev_managers.specs.Moved.{AreRetired};
 
 use crate::Managers;
-use crate::managers::is_by_name;
-use ev_generations::Steps;
-use ev_indexes::Standing;
+use ev_indexes::{Standing, Steps};
 use ev_types::{Arrival, Assignment, Content, Gen, Kind, Name, RouteTable, Seq, Shared};
 use std::alloc::{AllocError, Global};
 use std::sync::ledger::Ledger;
 
 impl Managers {
-    /// Something came for a name of endpoints or of routes that a live generation depends on. Out of memory, nothing is promised.
+    /// Something was received for a name of a kind that a live generation depends on. Out of memory, it is unspecified.
     pub fn arrive<L: Ledger>(
         &mut self,
         alloc: Global,
@@ -30,14 +27,13 @@ impl Managers {
         ensures rows { OnOk result (HaveSameRows self.old self.new) }
         ensures stands { OnOk result (Follow self.old self.new (with_arrived kind arrival.now name.now)) }
     {
-        let made = self.made;
-        let own = self.of_mut(kind);
-        own.arrive(alloc, made, name, arrival, steps)?;
+        self.core.arrive(alloc, kind, name, arrival, steps)?;
         Ok(())
     }
 
-    /// What a name of this kind stands for has come to its end: a cluster or listener goes as if it were removed, and endpoints or
-    /// routes become none, where the name is watched. Answers which generations retired. Out of memory, nothing is promised.
+    /// What a name of this kind represents has come to its end: a cluster or listener goes as if it were removed,
+    /// endpoints or routes become none, where the name is watched, and a secret or an extension stays what it is.
+    /// Answers which generations retired. Out of memory, it is unspecified.
     pub fn end<L: Ledger>(
         &mut self,
         alloc: Global,
@@ -48,16 +44,15 @@ impl Managers {
         requires kept { AreManagersKept self.old }
         ensures kept { OnOk result (AreManagersKept self.new) }
         ensures retired { IfOk result (λ retired. AreRetired retired self.old self.new) }
-        // Whatever world they stood for, they stand for that world where the name has come to its end: one of endpoints or of routes
-        // is to be watched.
+        // Whatever world they represented, they represent that world where the name has come to its end: one of what is
+        // asked for by name is to be watched.
         ensures stands { OnOk result (FollowEnd self.old self.new kind name.now) }
     {
-        if is_by_name(kind) {
+        if kind.is_by_name() {
             self.end_value(alloc, kind, name, steps)?;
             return Ok(Seq::new(alloc));
         }
-        let retired = self.end_rows(alloc, kind, name, steps)?;
-        Ok(retired)
+        self.end_rows(alloc, kind, name, steps)
     }
 
     // A name of generations has come to its end: one that warms is dropped, and one that serves drains. Answers both.
@@ -74,14 +69,12 @@ impl Managers {
         ensures retired { IfOk result (λ retired. AreRetired retired self.old self.new) }
         ensures stands { OnOk result (Follow self.old self.new (with_end kind name.now)) }
     {
-        let own = self.of_mut(kind);
-        let ended = own.end(name, steps)?;
-        let retired = stood(alloc, ended)?;
-        Ok(retired)
+        let ended = self.core.end(kind, name, steps)?;
+        stood(alloc, ended)
     }
 
-    // A name of what generations depend on has come to its end: where it is watched, its value is none from now on. That tells
-    // nothing.
+    // A name of what generations depend on has come to its end: where it is watched, its value is none from now on, or
+    // stays, if it is a secret's or an extension's. That tells nothing.
     fn end_value<L: Ledger>(
         &mut self,
         alloc: Global,
@@ -98,27 +91,30 @@ impl Managers {
         if !self.is_watched(kind, name.as_str()) {
             return Ok(());
         }
-        let none = none_of(alloc, kind)?;
-        self.arrive(alloc, kind, name, &none, steps)?;
+        let Some(value) = last_value(alloc, kind)? else {
+            return Ok(());
+        };
+        self.arrive(alloc, kind, name, &Arrival::Ended(value), steps)?;
         Ok(())
     }
 }
 
-// The end of a time to live, with no endpoints or no routes from now on.
-fn none_of(alloc: Global, kind: Kind) -> Result<Arrival, AllocError>
-    ensures { IfOk result (λ arrival. arrival ≡ Ended (no_value kind)) }
+// What a name represents once its time to live is over: no endpoints or no routes. Others stay what they are.
+fn last_value(alloc: Global, kind: Kind) -> Result<Option<Content>, AllocError>
+    ensures { IfOk result (λ value. value ≡ last_value kind) }
 {
     match kind {
-        Kind::Cds | Kind::Eds => {
+        Kind::Eds => {
             let none = Assignment::new(Seq::new(alloc));
-            Ok(Arrival::Ended(Content::Assignment(Shared::new(alloc, none)?)))
+            Ok(Some(Content::Assignment(Shared::new(alloc, none)?)))
         }
-        Kind::Lds | Kind::Rds => {
+        Kind::Rds => {
             let none = RouteTable {
                 hosts: Seq::new(alloc),
             };
-            Ok(Arrival::Ended(Content::Routes(Shared::new(alloc, none)?)))
+            Ok(Some(Content::Routes(Shared::new(alloc, none)?)))
         }
+        Kind::Cds | Kind::Lds | Kind::Sds | Kind::Ecds => Ok(None),
     }
 }
 

@@ -5,7 +5,7 @@ use indexmap::Equivalent;
 use std::hash::{Hash, Hasher};
 use std::marker::Model;
 
-/// A text as a key, among texts and among names: it stands for the name of the same bytes, and there may be none.
+/// A text as a key, among texts and among names: it represents the name of the same bytes, and there may be none.
 #[derive(Drop)]
 pub struct NameKey<'a> {
     name: &'a str,

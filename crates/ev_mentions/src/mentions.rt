@@ -14,8 +14,8 @@ use std::marker::Model;
 
 type NameSet<'a> = IndexSet<NameKey<'a>, Keys>;
 
-/// The names that a response mentions, each found by a look-up: those of its resources, and those that it removes. Contracts see
-/// the response.
+/// The names that a response mentions, each found by a look-up:
+/// those of its resources, and those that it removes. Contracts see the response.
 #[derive(Drop)]
 pub struct Mentions<'a> {
     response: &'a Response,
@@ -79,8 +79,8 @@ impl<'a> Mentions<'a> {
         self.removed.contains(&NameKey::new(name))
     }
 
-    /// Whether the response removes the name: it is among the removed names and no resource has it. A name that is in both
-    /// isn't removed.
+    /// Whether the response removes the name: it is among the removed names
+    /// and no resource has it. A name that is in both isn't removed.
     pub fn is_removed(&self, name: &str) -> bool
         ensures { result ≡ is_removed self.now name.now }
     {

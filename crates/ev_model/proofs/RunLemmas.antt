@@ -7,14 +7,14 @@ use Rattle.std.proofs.lemmas.Bool.{both_ways}
 use Rattle.ev_types.specs.Items.{ItemParts, ResponseParts}
 use Rattle.ev_types.specs.Events.{MayMake}
 use Rattle.ev_types.specs.declared.contents.Kind.{Kind}
-use Rattle.ev_types.specs.declared.contents.Kind.TheVariants.{Cds, Eds, Lds, Rds}
+use Rattle.ev_types.specs.declared.contents.Kind.TheVariants.{Cds, Eds, Lds, Rds, Sds, Ecds}
 use Rattle.ev_types.specs.declared.contents.Content.{Content}
 use Rattle.ev_types.specs.declared.contents.Body.{Body}
 use Rattle.ev_types.specs.declared.contents.Body.TheVariants.{Good, Bad, Beat}
 use Rattle.ev_types.specs.declared.hosts.Host.{Host}
 use Rattle.ev_types.specs.declared.rows.GenRow.{GenRow}
 use Rattle.ev_types.specs.declared.events.Verdict.{Verdict}
-use Rattle.ev_types.specs.declared.events.Verdict.TheVariants.{New, Same, Kept, Unasked, Renewed, Refused}
+use Rattle.ev_types.specs.declared.events.Verdict.TheVariants.{New, InPlace, Back, Same, Kept, Unasked, Renewed, Refused}
 use Rattle.ev_types.specs.declared.events.Actor.{Actor}
 use Rattle.ev_types.specs.declared.events.Actor.TheVariants.{Stream, Health as health_checker, Timer, Main, Worker}
 use Rattle.ev_types.specs.declared.events.Event.{Event}
@@ -27,7 +27,7 @@ use Rattle.ev_model.specs.Live.{lives_of}
 use Rattle.ev_model.specs.Watching.{is_watched}
 use Rattle.ev_model.specs.Phase.{is_clusters}
 use Rattle.ev_model.specs.Verdicts.{verdicts_of}
-use Rattle.ev_model.specs.Rows.{with_removals, with_content, add_row, keep_value, keep_version, told_of_refusal, refuse, add_item, add_items, made_names, with_first}
+use Rattle.ev_model.specs.Rows.{with_removals, with_content, add_row, add_in_place, go_back, keep_value, keep_version, told_of_refusal, refuse, add_item, add_items, made_names, with_first}
 use Rattle.ev_model.specs.Versions.{is_bounded}
 use Rattle.ev_model.specs.Picture.{shown_of, shown_same}
 use Rattle.ev_model.specs.Dead.{shown_at}
@@ -71,6 +71,8 @@ removals-held Cds response world = refl
 removals-held Eds response world = refl
 removals-held Lds response world = refl
 removals-held Rds response world = refl
+removals-held Sds response world = refl
+removals-held Ecds response world = refl
 
 told-held : (kind : Kind) (name : List ℕ) (world : World) (b : Bool) → is_watched (lives_of world) kind name ≡ b
     → (told_of_refusal kind name world).held ≡ world.held
@@ -82,6 +84,8 @@ refuse-held Cds name world = refl
 refuse-held Eds name world = told-held Eds name world (is_watched (lives_of world) Eds name) refl
 refuse-held Lds name world = refl
 refuse-held Rds name world = told-held Rds name world (is_watched (lives_of world) Rds name) refl
+refuse-held Sds name world = told-held Sds name world (is_watched (lives_of world) Sds name) refl
+refuse-held Ecds name world = told-held Ecds name world (is_watched (lives_of world) Ecds name) refl
 
 content-held : (change : Content → World → World) (body : Body) (world : World)
     → ((content : Content) → (change content world).held ≡ world.held)
@@ -91,7 +95,9 @@ content-held change (Bad rule) world keeps = refl
 content-held change Beat world keeps = refl
 
 item-held : (kind : Kind) (verdict : Verdict) (item : ItemParts) (world : World) → (add_item kind verdict item world).held ≡ world.held
-item-held kind New item world = content-held (add_row kind item) item.body world (λ content. refl)
+item-held kind New item world = content-held (λ content. add_row kind item content []) item.body world (λ content. refl)
+item-held kind InPlace item world = content-held (add_in_place kind item) item.body world (λ content. refl)
+item-held kind Back item world = content-held (λ content. go_back kind item) item.body world (λ content. refl)
 item-held kind Same item world = content-held (λ content. keep_version kind item) item.body world (λ content. refl)
 item-held kind Kept item world = content-held (keep_value kind item) item.body world (λ content. refl)
 item-held kind Unasked item world = refl
@@ -109,6 +115,8 @@ first-held Cds names world = refl
 first-held Eds names world = refl
 first-held Lds names world = refl
 first-held Rds names world = refl
+first-held Sds names world = refl
+first-held Ecds names world = refl
 
 answered-held : (kind : Kind) (response : ResponseParts) (verdicts : List Verdict) (world : World)
     → (answered kind response verdicts world).0.held ≡ world.held
@@ -135,6 +143,8 @@ timeout-held Eds name world = name-held Eds name world
 timeout-held Lds name world =
     if-held (is_clusters world.phase || (is_some world.first_listeners || world.late_listeners)) _ _ world refl refl
 timeout-held Rds name world = name-held Rds name world
+timeout-held Sds name world = name-held Sds name world
+timeout-held Ecds name world = name-held Ecds name world
 
 expire-held : (numbers : List ℕ) (world : World) → (expire numbers world).0.held ≡ world.held
 expire-held [] world = refl
@@ -145,6 +155,8 @@ end-held Cds name world = refl
 end-held Eds name world = refl
 end-held Lds name world = refl
 end-held Rds name world = refl
+end-held Sds name world = refl
+end-held Ecds name world = refl
 
 -- no event changes how many workers there are
 pub length-held : (format : Format) (world : World) (actor : Actor) (event : Event) → length (step format world actor event).0.held ≡ length world.held

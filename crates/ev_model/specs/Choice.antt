@@ -1,5 +1,6 @@
--- Where a connection goes, chosen in a picture: by the listener, its filter chain, what that serves, a route and its action, a
--- cluster, and a host of it. Source: the Envoy v3 API on listeners, filter chains, virtual hosts, routes and weighted clusters,
+-- Where a connection goes, chosen in a picture: by the listener, its filter chain, what that serves,
+-- a route and its action, a cluster, and a host of it. Source:
+-- the Envoy v3 API on listeners, filter chains, virtual hosts, routes and weighted clusters,
 -- and on priorities and weights of hosts; the pick number is this project's own, for Envoy's load balancing policies.
 use Rattle.std.specs.Prelude.{ℕ, ◌-◌, ◌+◌, ◌/◌, ◌%◌, min, Bool, not, ◌&&◌, ◌==◌, nat_lt, if◌then◌else◌, List, [], ◌∷◌, filter, find, map, take, drop, length, Option, Some, None, codes, option_map, slice_get, unwrap_or}
 use Rattle.std.specs.List.{flat_map, range_with_len, sum}
@@ -30,8 +31,12 @@ use Rattle.ev_model.specs.declared.pictures.Routing.TheVariants.{Table, Tcp, Oth
 use Rattle.ev_model.specs.declared.pictures.ServedChain.{ServedChain}
 use Rattle.ev_model.specs.declared.pictures.ServedCluster.{ServedCluster}
 use Rattle.ev_model.specs.declared.pictures.ServedListener.{ServedListener}
+use Rattle.ev_types.specs.declared.ways.Way.{Way}
+use Rattle.ev_types.specs.declared.ways.Way.TheVariants.{Undecided, Elsewhere, NoRoute, Local, Redirect, NoCluster, NoEndpoint, NoSecret, Served}
 use Rattle.ev_model.specs.declared.pictures.Choice.{Choice}
-use Rattle.ev_model.specs.declared.pictures.Choice.TheVariants.{NoListener, NoChain, Undecided, Elsewhere, NoRoute, Local, Redirect, NoCluster, NoEndpoint, Served}
+use Rattle.ev_model.specs.declared.pictures.Choice.TheVariants.{NoListener, NoChain, On}
+use Rattle.ev_model.specs.declared.pictures.Secrets.{Secrets}
+use Rattle.ev_model.specs.declared.pictures.Secrets.TheVariants.{There, Missing, Unknown}
 use Rattle.ev_model.specs.declared.pictures.Taken.{Taken}
 use Rattle.ev_model.specs.declared.pictures.Taken.TheVariants.{No, Yes, Undecided as undecided}
 
@@ -73,8 +78,8 @@ pub record Reached : Type 0 where
   pub listener : ServedListener
   pub local_end : Peer
 
--- the listener that takes a connection which came to this one: where it hands over, the one where the connection is meant to go,
--- if there is one
+-- the listener that takes a connection which came to this one:
+-- where it hands over, the one where the connection is meant to go, if there is one
 abbrev pub taker_of : List ServedListener → Ask → ServedListener → ServedListener
 taker_of listeners ask listener = if listener.hands_over then unwrap_or (listener_for listeners (meant_of ask)) listener else listener
 
@@ -178,7 +183,8 @@ abbrev pub name_at : List WeightedCluster → Option ℕ → List ℕ
 name_at clusters None = []
 name_at clusters (Some place) = name_in (slice_get clusters place)
 
--- the name of the cluster that a pick takes: the first where the sum of the first weights is above the pick modulo the whole sum
+-- the name of the cluster that a pick takes: the first where the sum of the first weights is above the
+-- pick modulo the whole sum
 abbrev pub name_picked : List WeightedCluster → ℕ → List ℕ
 name_picked clusters pick = name_at clusters (place_above (pick % weight_sum clusters) (map (λ (c : WeightedCluster). c.weight) clusters))
 
@@ -200,80 +206,101 @@ weight_at priority h = if h.priority == priority then h.weight else 0
 abbrev pub counted_weights : List HostRowParts → List ℕ
 counted_weights hosts = map (weight_at (lowest_priority hosts)) hosts
 
--- the place of the host that a pick takes: the first of the lowest priority where the sum of the first weights is above the
--- pick modulo the whole sum; there is none where there is no host
+-- the place of the host that a pick takes: the first of the lowest priority where the sum
+-- of the first weights is above the pick modulo the whole sum; there is none where there is no host
 abbrev pub host_place : List HostRowParts → ℕ → Option ℕ
 host_place [] pick = None
 host_place (h ∷ hs) pick = place_above (pick % sum (counted_weights (h ∷ hs))) (counted_weights (h ∷ hs))
 
+-- what becomes of a connection; a host is named by its place in the cluster's list
+abbrev pub Course : Type 0
+Course = Way ℕ
+
 -- the host is there, or none may be chosen
-abbrev pub served_at : ℕ → ℕ → Option ℕ → Choice
-served_at listener cluster None = NoEndpoint listener
-served_at listener cluster (Some place) = Served listener cluster place
+abbrev pub served_at : ℕ → Option ℕ → Course
+served_at cluster None = NoEndpoint
+served_at cluster (Some place) = Served cluster place
 
 -- to a host of the cluster, or where Envoy finds one by itself
-abbrev pub in_cluster : ℕ → ServedCluster → ℕ → Choice
-in_cluster listener cluster pick =
-    if cluster.elsewhere
-    then Elsewhere listener (Some cluster.number)
-    else served_at listener cluster.number (host_place cluster.hosts pick)
+abbrev pub to_host : ServedCluster → ℕ → Course
+to_host cluster pick =
+    if cluster.elsewhere then Elsewhere (Some cluster.number) else served_at cluster.number (host_place cluster.hosts pick)
+
+-- by the cluster's secrets: without one each handshake fails;
+-- where one may be missing, nothing in a script says where it goes
+abbrev pub by_secrets : Secrets → ServedCluster → ℕ → Course
+by_secrets There cluster pick = to_host cluster pick
+by_secrets Missing cluster pick = NoSecret (Some cluster.number)
+by_secrets Unknown cluster pick = Elsewhere (Some cluster.number)
+
+-- no host of the cluster may be chosen, and Envoy finds none by itself
+abbrev pub has_no_host : ServedCluster → Bool
+has_no_host cluster = not cluster.elsewhere && (length cluster.hosts == 0)
+
+-- by a cluster: first whether it has a host, then its secrets
+abbrev pub in_cluster : ServedCluster → ℕ → Course
+in_cluster cluster pick = if has_no_host cluster then NoEndpoint else by_secrets cluster.secrets cluster pick
 
 -- with the cluster, if there is one
-abbrev pub choice_in : ℕ → Option ServedCluster → ℕ → Choice
-choice_in listener None pick = NoCluster listener
-choice_in listener (Some cluster) pick = in_cluster listener cluster pick
+abbrev pub course_in : Option ServedCluster → ℕ → Course
+course_in None pick = NoCluster
+course_in (Some cluster) pick = in_cluster cluster pick
 
 -- to a target: of several clusters one is picked, and its hosts get the pick divided by the sum of the weights
-abbrev pub forwarded : Picture → ℕ → ℕ → Target → Choice
-forwarded picture pick listener (One name) = choice_in listener (cluster_named picture.shown.clusters name) pick
-forwarded picture pick listener (Weighted clusters) =
-    choice_in listener (cluster_named picture.shown.clusters (name_picked clusters pick)) (pick / weight_sum clusters)
-forwarded picture pick listener elsewhere = Elsewhere listener None
+abbrev pub forwarded : Picture → ℕ → Target → Course
+forwarded picture pick (One name) = course_in (cluster_named picture.shown.clusters name) pick
+forwarded picture pick (Weighted clusters) =
+    course_in (cluster_named picture.shown.clusters (name_picked clusters pick)) (pick / weight_sum clusters)
+forwarded picture pick elsewhere = Elsewhere None
 
 -- by an action: a direct response and a redirect are answered at once
-abbrev pub acted : Picture → ℕ → ℕ → Action → Choice
-acted picture pick listener (Forward target) = forwarded picture pick listener target
-acted picture pick listener redirect = Redirect listener
-acted picture pick listener (local status) = Local listener status
-acted picture pick listener by_filter = Elsewhere listener None
+abbrev pub acted : Picture → ℕ → Action → Course
+acted picture pick (Forward target) = forwarded picture pick target
+acted picture pick redirect = Redirect
+acted picture pick (local status) = Local status
+acted picture pick by_filter = Elsewhere None
 
 -- by what a route says, and its action
-abbrev pub by_word : Picture → ℕ → ℕ → Action → Taken → Choice
-by_word picture pick listener action No = NoRoute listener
-by_word picture pick listener action Yes = acted picture pick listener action
-by_word picture pick listener action undecided = Undecided listener
+abbrev pub by_word : Picture → ℕ → Action → Taken → Course
+by_word picture pick action No = NoRoute
+by_word picture pick action Yes = acted picture pick action
+by_word picture pick action undecided = Undecided
 
 -- by the route, if there is one
-abbrev pub by_route : Picture → Ask → ℕ → Option Route → Choice
-by_route picture ask listener None = NoRoute listener
-by_route picture ask listener (Some route) = by_word picture ask.pick listener route.action (match_says (requested_of ask) route.route_match)
+abbrev pub by_route : Picture → Ask → Option Route → Course
+by_route picture ask None = NoRoute
+by_route picture ask (Some route) = by_word picture ask.pick route.action (match_says (requested_of ask) route.route_match)
 
 -- by the virtual host, if there is one
-abbrev pub by_host : Picture → Ask → ℕ → Option VirtualHost → Choice
-by_host picture ask listener None = NoRoute listener
-by_host picture ask listener (Some h) = by_route picture ask listener (route_for h (requested_of ask))
+abbrev pub by_host : Picture → Ask → Option VirtualHost → Course
+by_host picture ask None = NoRoute
+by_host picture ask (Some h) = by_route picture ask (route_for h (requested_of ask))
 
 -- by what a chain serves
-abbrev pub by_routing : Picture → Ask → ℕ → Routing → Choice
-by_routing picture ask listener (Table table) = by_host picture ask listener (virtual_host_for table ask.host)
-by_routing picture ask listener (Tcp target) = forwarded picture ask.pick listener target
-by_routing picture ask listener Other = Elsewhere listener None
+abbrev pub by_routing : Picture → Ask → Routing → Course
+by_routing picture ask (Table table) = by_host picture ask (virtual_host_for table ask.host)
+by_routing picture ask (Tcp target) = forwarded picture ask.pick target
+by_routing picture ask Other = Elsewhere None
+
+-- by a chain: without a secret of its own no handshake succeeds, whatever it serves
+abbrev pub course_of : Picture → Ask → ServedChain → Course
+course_of picture ask chain = if chain.lacks_secret then NoSecret None else by_routing picture ask chain.routing
 
 -- by the chain, if there is one
-abbrev pub by_chain : Picture → Ask → ℕ → Option Routing → Choice
+abbrev pub by_chain : Picture → Ask → ℕ → Option ServedChain → Choice
 by_chain picture ask listener None = NoChain
-by_chain picture ask listener (Some routing) = by_routing picture ask listener routing
+by_chain picture ask listener (Some chain) = On listener chain.place chain.origin (course_of picture ask chain)
 
--- what is served: by the chain that is left, else by the default chain
-abbrev pub routing_left : List ServedChain → Option Routing → Option Routing
-routing_left chains default = option_or (option_map (λ (c : ServedChain). c.routing) (slice_get chains 0)) default
+-- the chain that is left, else the default chain
+abbrev pub chain_left : List ServedChain → Option ServedChain → Option ServedChain
+chain_left chains default = option_or (slice_get chains 0) default
 
 -- by the chains that are left; where one of them asks for a source and none is given, nothing in a script decides
 abbrev pub by_chains : Picture → Ask → ServedListener → Incoming → List ServedChain → Choice
 by_chains picture ask listener incoming chains =
     if lacks_source incoming chains
-    then Undecided listener.number
-    else by_chain picture ask listener.number (routing_left chains listener.default_filter_chain)
+    then On listener.number None None Undecided
+    else by_chain picture ask listener.number (chain_left chains listener.default_filter_chain)
 
 -- by the listener that takes it
 abbrev pub by_reached : Picture → Ask → Reached → Choice

@@ -1,5 +1,5 @@
--- What a route says of a request: no, yes, or that nothing in a script decides it. Source: the Envoy v3 API on route matches, header
--- matchers, query parameter matchers and string matchers.
+-- What a route says of a request: no, yes, or that nothing in a script decides it. Source:
+-- the Envoy v3 API on route matches, header matchers, query parameter matchers and string matchers.
 use Rattle.std.specs.Prelude.{ℕ, ℤ, int_lt, int_le, Bool, true, false, not, ◌||◌, ◌&&◌, ◌==◌, is_some, if◌then◌else◌, List, [], ◌∷◌, find, map, take_while, Option, Some, None, codes, option_map, unwrap_or}
 use Rattle.std.specs.List.{list_any, before_first, after_first, slice_split}
 use Rattle.std.specs.Str.{bytes_eq, str_to_ascii_lowercase}

@@ -1,9 +1,10 @@
--- Which generations nothing holds any more. This project's own; that an old generation stays while connections are open on it
--- is draining of Envoy's documentation. In format 2 a draining listener waits for its drain timeout too.
+-- Which generations nothing holds any more. This project's own;
+-- that an old generation stays while connections are open on it is draining of Envoy's documentation.
+-- In format 2 a draining listener waits for its drain timeout too.
 use Rattle.std.specs.Prelude.{ℕ, Bool, false, true, not, ◌&&◌, ◌||◌, ◌==◌, List, [], ◌∷◌, ◌++◌, map, Option, Some, None, slice_index_or}
 use Rattle.std.specs.List.{list_any, flat_map}
 use Rattle.ev_types.specs.declared.contents.Kind.{Kind}
-use Rattle.ev_types.specs.declared.contents.Kind.TheVariants.{Cds, Eds, Lds, Rds}
+use Rattle.ev_types.specs.declared.contents.Kind.TheVariants.{Cds, Eds, Lds, Rds, Sds, Ecds}
 use Rattle.ev_types.specs.declared.journals.Format.{Format}
 use Rattle.ev_types.specs.declared.journals.Format.TheVariants.{One, Two}
 use Rattle.ev_types.specs.declared.rows.RowStatus.{RowStatus}
@@ -66,6 +67,8 @@ waits_for_timer Two Cds = false
 waits_for_timer Two Eds = false
 waits_for_timer Two Lds = true
 waits_for_timer Two Rds = false
+waits_for_timer Two Sds = false
+waits_for_timer Two Ecds = false
 
 -- a generation that was dropped is dead, and one that drains where nothing holds it
 abbrev pub is_dead_at : RowStatus → Bool → Bool
@@ -74,7 +77,8 @@ is_dead_at Active held = false
 is_dead_at Draining held = not held
 is_dead_at Dropped held = true
 
--- nothing holds the generation any more, by the numbers that are shown, the connections, and the numbers whose drain timeout came
+-- nothing holds the generation any more, by the numbers that are shown, the connections,
+-- and the numbers whose drain timeout came
 abbrev pub is_dead_by : Format → List ℕ → List OpenMember → List ℕ → GenRow → Bool
 is_dead_by format shown opened expired row =
     is_dead_at row.status

@@ -59,7 +59,8 @@ may_pass Two resting os = if resting then prefix_len (λ (o : Operation). is_set
 abbrev pub passed : Format → ScriptParts → List Entry → Actor → ℕ
 passed format script journal actor = may_pass format (is_resting format script journal actor) (operations_left script journal actor)
 
--- the operations of an actor that may come next after the journal: the first one left, and each after those that may be left out
+-- the operations of an actor that may come next after the journal:
+-- the first one left, and each after those that may be left out
 abbrev pub next_operations : Format → ScriptParts → List Entry → Actor → List Operation
 next_operations format script journal actor = take (passed format script journal actor + 1) (operations_left script journal actor)
 

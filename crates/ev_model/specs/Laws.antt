@@ -1,31 +1,37 @@
--- What holds of every journal that is a run, so that operators may rely on it. This project's own; each law speaks of the
--- journal, by the rules of its format, and the worlds that it leads through.
+-- What holds of every journal that is a run, so that operators may rely on it.
+-- This project's own; each law speaks of the journal, by the rules of its format, and the worlds that it leads through.
 use Rattle.std.specs.Prelude.{ℕ, ◌≡◌, ◌<◌, ◌≤◌, ◌+◌, ◌⊎◌, ◌↔◌, false, if◌then◌else◌, IsTrue, List, [], ◌∷◌, map, filter, filter_map, take, drop, All, Contains, Option, Some, None, slice_get}
 use Rattle.std.specs.List.{list_any, list_all, zip}
 use Rattle.std.specs.List.Sorted.{IsStrictlyIncreasing}
 use Rattle.std.specs.Option.{option_or}
 use Rattle.ev_types.specs.Items.{ItemParts, ResponseParts}
 use Rattle.ev_types.specs.declared.contents.Kind.{Kind}
-use Rattle.ev_types.specs.declared.contents.Kind.TheVariants.{Cds, Eds, Lds, Rds}
+use Rattle.ev_types.specs.declared.contents.Kind.TheVariants.{Cds, Eds, Lds, Rds, Sds, Ecds}
 use Rattle.ev_types.specs.declared.contents.Body.{Body}
 use Rattle.ev_types.specs.declared.contents.Body.TheVariants.{Good}
 use Rattle.ev_types.specs.declared.contents.Request.{Request}
 use Rattle.ev_types.specs.declared.events.Actor.{Actor}
 use Rattle.ev_types.specs.declared.events.Actor.TheVariants.{Worker}
 use Rattle.ev_types.specs.declared.events.Event.TheVariants.{Response, DrainTimeout, Publish, Reap}
-use Rattle.ev_types.specs.declared.events.Answer.TheVariants.{Done, Replied}
+use Rattle.ev_types.specs.declared.events.Answer.TheVariants.{Done, Replied, Settled}
+use Rattle.ev_types.specs.declared.listeners.FilterChain.{FilterChain}
+use Rattle.ev_types.specs.declared.origins.Origin.{Origin}
 use Rattle.ev_types.specs.declared.journals.Format.{Format}
 use Rattle.ev_types.specs.declared.journals.Format.TheVariants.{Two}
 use Rattle.ev_types.specs.declared.events.Verdict.{Verdict}
-use Rattle.ev_types.specs.declared.events.Verdict.TheVariants.{New, Same, Kept, Unasked, Renewed, Refused}
+use Rattle.ev_types.specs.declared.events.Verdict.TheVariants.{New, InPlace, Back, Same, Kept, Unasked, Renewed, Refused}
 use Rattle.ev_types.specs.declared.events.Entry.{Entry}
 use Rattle.ev_types.specs.declared.rows.GenRow.{GenRow}
 use Rattle.ev_types.specs.declared.rows.KeptVersion.{KeptVersion}
 use Rattle.ev_types.specs.declared.rows.Live.{Live}
 use Rattle.ev_types.specs.declared.rows.RowStatus.{RowStatus}
 use Rattle.ev_types.specs.declared.rows.RowStatus.TheVariants.{Active, Draining}
+use Rattle.ev_model.specs.declared.pictures.ServedListener.{ServedListener}
 use Rattle.ev_model.specs.declared.pictures.Shown.{Shown}
-use Rattle.ev_model.specs.World.{World, last_version}
+use Rattle.ev_model.specs.World.{World, OpenMember, last_version}
+use Rattle.ev_model.specs.Origins.{PlacedChain, placed_in, origin_at}
+use Rattle.ev_model.specs.Connections.{shows_chain, is_chain_shown}
+use Rattle.ev_model.specs.Dead.{is_open_on, last_picture}
 use Rattle.ev_model.specs.Live.{lives_of}
 use Rattle.ev_model.specs.Versions.{is_version_of}
 use Rattle.ev_model.specs.Verdicts.{rule_of, is_taken, verdict_of, lives_after, lives_left}
@@ -35,7 +41,7 @@ use Rattle.ev_model.specs.Warming.{is_ready, value_of}
 use Rattle.ev_model.specs.Rows.{is_row_of}
 use Rattle.ev_model.specs.Picture.{has_number, is_shown}
 use Rattle.ev_model.specs.Runs.{world_at, IsRun}
-use Rattle.ev_model.specs.Entries.{MadeRow, made_of, names_row, has_ended_wait, is_accept, version_settled_by, last_settled, version_published, numbers_reaped, connection_of, closes}
+use Rattle.ev_model.specs.Entries.{MadeRow, made_of, names_row, has_ended_wait, is_accept, version_settled_by, last_settled, version_published, numbers_reaped, connection_of, releases}
 
 -- a journal, with its format, and the workers and the node of its machine
 pub record Told : Type 0 where
@@ -60,8 +66,8 @@ pub record IsServing (world : World) (number : ℕ) : Type 0 where
   pub active : row.status ≡ Active
   pub ready : IsTrue (is_ready world row)
 
--- the generation of this number was made, and each of its waits was ended by an entry not after place q: for what has to come anew,
--- by one since it was made
+-- the generation of this number was made, and each of its waits was ended by an entry not after place q:
+-- for what has to come anew, by one since it was made
 pub record WasAnswered (told : Told) (number q : ℕ) : Type 0 where
   pub row : MadeRow
   pub made : made_of told.journal number ≡ Some row
@@ -92,7 +98,8 @@ pub record Accepts (told : Told) (k : ℕ) (worker : Actor) (number : ℕ) : Typ
   pub by : entry.actor ≡ worker
   pub names : IsTrue (names_row number entry.answer)
 
--- connections go only to warmed generations: what an accept names had warmed before the picture that its worker holds was published
+-- connections go only to warmed generations: what an accept names had warmed before the picture
+-- that its worker holds was published
 abbrev pub Warmed : Told → Type 0
 Warmed told =
     (k : ℕ) (worker : Actor) (number : ℕ) → Accepts told k worker number → WasWarm told number (last_settled (take k told.journal) worker) k
@@ -116,14 +123,14 @@ pub record Opened (told : Told) (j : ℕ) (actor : Actor) (number connection : �
   pub names : IsTrue (names_row number entry.answer)
   pub of : connection_of entry.event ≡ Some connection
 
--- an entry between the places j and k has closed the actor's connection
-abbrev pub IsClosedBetween : Told → ℕ → ℕ → Actor → ℕ → Type 0
-IsClosedBetween told j k actor connection = IsTrue (list_any (closes actor connection) (drop (j + 1) (take k told.journal)))
+-- by an entry between the places j and k the actor's connection was closed, or moved on
+abbrev pub IsReleasedBetween : Told → ℕ → ℕ → Actor → ℕ → Type 0
+IsReleasedBetween told j k actor connection = IsTrue (list_any (releases actor connection) (drop (j + 1) (take k told.journal)))
 
--- each connection that an accept before place k opened on the generation was closed between
-abbrev pub IsClosedBefore : Told → ℕ → ℕ → Type 0
-IsClosedBefore told number k =
-    (j : ℕ) (actor : Actor) (connection : ℕ) → j < k → Opened told j actor number connection → IsClosedBetween told j k actor connection
+-- each connection that an accept before place k opened on the generation was closed between, or moved on
+abbrev pub IsReleasedBefore : Told → ℕ → ℕ → Type 0
+IsReleasedBefore told number k =
+    (j : ℕ) (actor : Actor) (connection : ℕ) → j < k → Opened told j actor number connection → IsReleasedBetween told j k actor connection
 
 -- the picture of this version was published, and doesn't show the generation
 pub record IsHidden (world : World) (version number : ℕ) : Type 0 where
@@ -136,9 +143,11 @@ pub record IsUnseen (told : Told) (number k : ℕ) : Type 0 where
   pub held : (worker : ℕ) → worker < told.workers → IsHidden (world_told told k) (last_settled (take k told.journal) (Worker worker)) number
   pub last : IsHidden (world_told told k) (last_version (world_told told k)) number
 
--- a generation is destroyed only when no connection is open on it and no worker's snapshot holds it
+-- a generation is destroyed only when no connection is open on it,
+-- those that it had were closed or moved on, and no worker's snapshot holds it
 pub record IsUnused (told : Told) (number k : ℕ) : Type 0 where
-  pub closed : IsClosedBefore told number k
+  pub released : IsReleasedBefore told number k
+  pub free : list_any (is_open_on number) (world_told told k).opened ≡ false
   pub unseen : IsUnseen told number k
 
 -- the entry at place k is a reaping that destroys the generation
@@ -152,7 +161,8 @@ pub record Reaps (told : Told) (k number : ℕ) : Type 0 where
 abbrev pub Unused : Told → Type 0
 Unused told = (k number : ℕ) → Reaps told k number → IsUnused told number k
 
--- the entry at place k neither destroys the generation again, nor accepts a connection on it, nor publishes a picture that shows it
+-- the entry at place k neither destroys the generation again, nor accepts a connection on it,
+-- nor publishes a picture that shows it
 pub record IsGone (told : Told) (number k : ℕ) (entry : Entry) : Type 0 where
   pub reaped : has_number number (numbers_reaped entry.answer) ≡ false
   pub accepted : names_row number entry.answer ≡ false
@@ -181,12 +191,15 @@ pub record KeepsValue (before after : World) (kind : Kind) (name : List ℕ) : T
   pub value : value_of after kind name ≡ value_of before kind name
   pub version : versions_named after kind name ≡ versions_named before kind name
 
--- what a refusal leaves: a cluster's or listener's generations and version; a name's value and version, or it isn't watched any more
+-- what a refusal leaves: a cluster's or listener's generations and version;
+-- a name's value and version, or it isn't watched any more
 abbrev pub Keeps : World → World → Kind → List ℕ → Type 0
 Keeps before after Cds name = KeepsRows before after Cds name
 Keeps before after Eds name = KeepsValue before after Eds name ⊎ (is_watched (lives_of after) Eds name ≡ false)
 Keeps before after Lds name = KeepsRows before after Lds name
 Keeps before after Rds name = KeepsValue before after Rds name ⊎ (is_watched (lives_of after) Rds name ≡ false)
+Keeps before after Sds name = KeepsValue before after Sds name ⊎ (is_watched (lives_of after) Sds name ≡ false)
+Keeps before after Ecds name = KeepsValue before after Ecds name ⊎ (is_watched (lives_of after) Ecds name ≡ false)
 
 -- the resource at this place of the response is refused
 pub record IsRefusedAt (response : ResponseParts) (verdicts : List Verdict) (place : ℕ) (item : ItemParts) : Type 0 where
@@ -244,14 +257,16 @@ complaints rules items = filter_map (λ (one : Option ℕ × ItemParts). complai
 -- the rule that a resource with this verdict was refused by
 abbrev pub refused_by : Verdict → Option ℕ
 refused_by New = None
+refused_by InPlace = None
+refused_by Back = None
 refused_by Same = None
 refused_by Kept = None
 refused_by Unasked = None
 refused_by Renewed = None
 refused_by (Refused rule) = Some rule
 
--- the first request carries the response's nonce, has no error exactly where no resource breaks a written rule, and names
--- those that break one, in order; they alone are refused
+-- the first request carries the response's nonce, has no error exactly where no resource breaks
+-- a written rule, and names those that break one, in order; they alone are refused
 pub record IsRepliedByRules (world : World) (kind : Kind) (response : ResponseParts) (requests : List Request) (verdicts : List Verdict) : Type 0 where
   pub reply : Request
   pub first : slice_get requests 0 ≡ Some reply
@@ -298,7 +313,57 @@ Waited told =
     (j k number : ℕ) (name : List ℕ) → told.format ≡ Two → j ≤ k → StandsAt told j number Lds name Active → Reaps told k number
     → HasWaited told number name k
 
--- all seven
+-- the entry at place k is a settle of this worker that closes and moves these connections,
+-- and the connection was open before it
+pub record SettlesWith (told : Told) (k : ℕ) (member : OpenMember) (closed moved : List ℕ) : Type 0 where
+  pub entry : Entry
+  pub there : IsEntryAt told k entry
+  pub by : entry.actor ≡ Worker member.worker
+  pub version : ℕ
+  pub answer : entry.answer ≡ Settled closed moved version
+  pub among : Contains (world_told told k).opened member
+
+-- the last picture shows the listener
+abbrev pub IsShownNow : World → ServedListener → Type 0
+IsShownNow world listener = Contains (last_picture world).shown.listeners listener
+
+-- a settle closes a connection whose chain was found only where its listener's drain timeout came
+-- and no listener that the last picture shows has its chain
+abbrev pub ClosesDrained : Told → Type 0
+ClosesDrained told =
+    (k : ℕ) (member : OpenMember) (closed moved : List ℕ) → SettlesWith told k member closed moved → IsTrue (has_number member.connection closed)
+    → IsTrue (has_number member.listener (world_told told k).expired)
+    × (is_chain_shown member.origin (last_picture (world_told told k)).shown ≡ false)
+
+-- where a listener of the last picture has its chain, the connection is open afterwards, on that listener
+abbrev pub ChainsStay : Told → Type 0
+ChainsStay told =
+    (k : ℕ) (member : OpenMember) (closed moved : List ℕ) (listener : ServedListener) → SettlesWith told k member closed moved
+    → IsShownNow (world_told told k) listener → IsTrue (shows_chain member.origin listener)
+    → (has_number member.connection closed ≡ false)
+    × Contains (world_told told (k + 1)).opened (record member { listener = listener.number })
+
+-- after the first k entries a generation has this chain, of this origin
+pub record HasChain (told : Told) (k : ℕ) (origin : Origin) (chain : FilterChain) : Type 0 where
+  pub row : GenRow
+  pub among : Contains (world_told told k).rows row
+  pub placed : PlacedChain
+  pub there : Contains (placed_in row.content) placed
+  pub begins : origin_at row.number row.kept placed.place ≡ origin
+  pub same : placed.chain ≡ chain
+
+-- two chains of one origin have equal bodies: so a connection that moves stays on the chain that accepted it
+abbrev pub BodiesStay : Told → Type 0
+BodiesStay told =
+    (j k : ℕ) (origin : Origin) (chain other : FilterChain) → HasChain told j origin chain → HasChain told k origin other
+    → chain.body_text ≡ other.body_text
+
+-- a chain that stays keeps its connections
+pub record KeepsConnections (told : Told) : Type 0 where
+  pub closes : ClosesDrained told
+  pub stays : ChainsStay told
+
+-- all nine
 pub record Laws (told : Told) : Type 0 where
   pub warmed : Warmed told
   pub forward : Forward told
@@ -307,6 +372,8 @@ pub record Laws (told : Told) : Type 0 where
   pub stays : Stays told
   pub acknowledged : Acknowledged told
   pub waited : Waited told
+  pub connections : KeepsConnections told
+  pub bodies : BodiesStay told
 
 -- every run has the laws
 abbrev pub RunsHaveLaws : Type 0

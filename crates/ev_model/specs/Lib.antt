@@ -4,6 +4,7 @@ pub mod Live
 pub mod Versions
 pub mod Watching
 pub mod Verdicts
+pub mod Origins
 pub mod Rows
 pub mod Warming
 pub mod Phase

@@ -1,5 +1,5 @@
--- Which generations are live. This project's own words for Envoy's cluster and listener managers: a generation that warms
--- lives beside the one that serves, until it takes its place.
+-- Which generations are live. This project's own words for Envoy's cluster
+-- and listener managers: a generation that warms lives beside the one that serves, until it takes its place.
 use Rattle.std.specs.Prelude.{ℕ, Bool, ◌&&◌, nat_lt, if◌then◌else◌, List, [], ◌∷◌, filter, map, Option, Some, None}
 use Rattle.std.specs.Str.{bytes_eq}
 use Rattle.ev_types.specs.declared.contents.Kind.{Kind}

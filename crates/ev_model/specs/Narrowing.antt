@@ -1,6 +1,7 @@
--- Which filter chains of a listener are left for a connection: by one criterion after the other they are narrowed to those that
--- ask for the best value that any of them asks for, or else to those that ask for none; and nothing comes back. Source: the order
--- of matching in Envoy's `FilterChainMatch`.
+-- Which filter chains of a listener are left for a connection:
+-- by one criterion after the other they are narrowed to those that ask for the best value that any of them asks for,
+-- or else to those that ask for none; and nothing comes back. Source:
+-- the order of matching in Envoy's `FilterChainMatch`.
 use Rattle.std.specs.Prelude.{ℕ, ◌==◌, ◌/◌, ◌^◌, Bool, not, ◌&&◌, ◌||◌, if◌then◌else◌, List, [], ◌∷◌, ◌++◌, filter, find, length, codes, Option, Some, None, is_some}
 use Rattle.std.specs.Option.{option_eq}
 use Rattle.std.specs.List.{list_any}
@@ -15,8 +16,8 @@ use Rattle.ev_types.specs.FilterChains.{nat_same, source_type_same, has_value, p
 use Rattle.ev_types.specs.Ips.{ip_same, cidr_range_same, ranges_about}
 use Rattle.ev_model.specs.declared.pictures.ServedChain.{ServedChain}
 
--- what a connection brings that chains ask for: the end that it is taken to come to, what it says of itself, and who connects,
--- where that is said
+-- what a connection brings that chains ask for: the end that it is taken to come to,
+-- what it says of itself, and who connects, where that is said
 pub record Incoming : Type 0 where
   pub port : ℕ
   pub ip : Option Ip
@@ -34,7 +35,8 @@ abbrev pub chains_with : {A : Type 0} → (A → A → Bool) → (FilterChainMat
 chains_with same values chains (Some value) = filter (λ (c : ServedChain). has_value same (values c.criteria) value) chains
 chains_with same values chains None = filter (λ (c : ServedChain). length (values c.criteria) == 0) chains
 
--- narrowed by one criterion: to the first value, of those that the connection brings, the best first, that some chain asks for
+-- narrowed by one criterion: to the first value, of those that the connection brings, the best first,
+-- that some chain asks for
 abbrev pub narrowed : {A : Type 0} → (A → A → Bool) → (FilterChainMatch → List A) → List A → List ServedChain → List ServedChain
 narrowed same values brought chains = chains_with same values chains (find (is_asked same values chains) brought)
 

@@ -1,5 +1,5 @@
--- Which operations a script holds for each actor, in which order a replay takes them, and when a journal holds them. This
--- project's own.
+-- Which operations a script holds for each actor, in which order a replay takes them,
+-- and when a journal holds them. This project's own.
 use Rattle.std.specs.Prelude.{ℕ, ◌≡◌, ◌+◌, ◌%◌, Bool, true, false, not, ◌&&◌, ◌||◌, ◌==◌, IsTrue, ◌⊎◌, ⊤, nat_lt, nat_le, if◌then◌else◌, List, [], ◌∷◌, ◌++◌, map, filter, length, refl}
 use Rattle.std.specs.Bool.{Decides}
 use Rattle.std.specs.List.{range_with_len, list_any, flat_map}
@@ -93,7 +93,8 @@ is_since_settle lines line other =
 abbrev pub batch_limit : ℕ
 batch_limit = 256
 
--- A batch is full at a line: it is an accept or close, and with it those since the worker's last settle line are that many.
+-- A batch is full at a line: it is an accept or close, and with it those since the worker's last
+-- settle line are that many.
 -- A settle is forced after each full batch, so twice as many make a full batch again, and so on.
 abbrev pub is_full_at : List Line → Line → Bool
 is_full_at lines line = is_batched line.event && (length (filter (is_since_settle lines line) lines) % batch_limit == 0)
@@ -129,7 +130,8 @@ abbrev pub is_in_batch : List Operation → Operation → Operation → Bool
 is_in_batch os last o =
     is_batched o.event && actor_same o.actor last.actor && is_earlier o last && not (list_any (is_settle_between o last) os)
 
--- an operation that is no accept or close, with its batch before it: a worker's accepts and closes since the settle before
+-- an operation that is no accept or close, with its batch before it:
+-- a worker's accepts and closes since the settle before
 abbrev pub with_batch : List Operation → Operation → List Operation
 with_batch os last = filter (is_in_batch os last) os ++ last ∷ []
 
@@ -203,7 +205,8 @@ AreDone rests (o ∷ os) (deed ∷ deeds) =
     ((deed.operation ≡ o) × AreDone deed.rests os deeds)
     ⊎ (IsTrue (is_settle o.event && rests) × AreDone rests os (deed ∷ deeds))
 
--- The journal holds the actor's operations of the script, in order. In format 2 settles may be left out while the actor rests:
+-- The journal holds the actor's operations of the script, in order.
+-- In format 2 settles may be left out while the actor rests:
 -- from the start, or from a settle after which it has no connection open.
 abbrev pub Fits : Format → ScriptParts → List Entry → Actor → Type 0
 Fits One script journal actor = entries_of journal actor ≡ operations_of script actor

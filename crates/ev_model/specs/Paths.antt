@@ -16,7 +16,8 @@ ends_with text back = nat_le (length back) (length text) && bytes_eq (drop (leng
 abbrev pub without_query : List ℕ → List ℕ
 without_query path = take_while (λ byte. not (byte == 63)) path
 
--- the path is taken by the match: by how it begins, by the whole of it, or up to a `/`, the query left aside in the last two
+-- the path is taken by the match: by how it begins, by the whole of it, or up to a `/`,
+-- the query left aside in the last two
 abbrev pub is_path_taken : List ℕ → PathMatch → Bool
 is_path_taken path (Prefix front) = begins_with path front
 is_path_taken path (Path whole) = bytes_eq (without_query path) whole

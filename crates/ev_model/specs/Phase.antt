@@ -1,4 +1,5 @@
--- How far the proxy has booted. Source: Envoy's initialization: listeners are asked for once the first clusters have warmed;
+-- How far the proxy has booted. Source: Envoy's initialization:
+-- listeners are asked for once the first clusters have warmed;
 -- the order and the test are this project's profile.
 use Rattle.std.specs.Prelude.{ℕ, Bool, true, false, not, ◌&&◌, ◌||◌, if◌then◌else◌, List, Option, Some, None}
 use Rattle.std.specs.List.{list_any, list_all}
@@ -44,7 +45,8 @@ listeners_have_come world = have_come world.late_listeners (has_come world.rows 
 abbrev pub listeners_phase : Bool → Phase
 listeners_phase listeners_come = if listeners_come then Serving else Listeners
 
--- the phase that follows, by whether the first clusters and the first listeners have come: this one, the next or the next but one
+-- the phase that follows, by whether the first clusters and the first listeners have come:
+-- this one, the next or the next but one
 abbrev pub phase_from : Bool → Bool → Phase → Phase
 phase_from clusters_come listeners_come Clusters = if clusters_come then listeners_phase listeners_come else Clusters
 phase_from clusters_come listeners_come Listeners = listeners_phase listeners_come

@@ -1,6 +1,6 @@
--- What workers may serve: a picture shows it, and has a version. This project's own, for Envoy's snapshots of clusters and
--- listeners on its worker threads.
-use Rattle.std.specs.Prelude.{ℕ, ◌≡◌, Bool, true, false, ◌&&◌, ◌==◌, if◌then◌else◌, List, [], ◌∷◌, ◌++◌, filter, map, length, Option, Some, None, option_map, refl}
+-- What workers may serve: a picture shows it, and has a version.
+-- This project's own, for Envoy's snapshots of clusters and listeners on its worker threads.
+use Rattle.std.specs.Prelude.{ℕ, ◌≡◌, Bool, true, false, ◌&&◌, ◌==◌, if◌then◌else◌, List, [], ◌∷◌, ◌++◌, filter, map, length, Option, Some, None, option_map, is_some, not, refl}
 use Rattle.std.specs.List.{list_any, flat_map}
 use Rattle.std.specs.Option.{option_eq}
 use Rattle.std.specs.Str.{bytes_eq}
@@ -12,11 +12,13 @@ use Rattle.ev_types.specs.Kinds.{kind_same}
 use Rattle.ev_types.specs.Same.{bool_same, bool_decides, both_decide, decides_as, bytes_decide, numbers_decide, option_decides}
 use Rattle.ev_types.specs.SameHosts.{host_same, rows_same, host_decides, rows_decide}
 use Rattle.ev_types.specs.SameRoutes.{target_same, route_table_same, target_decides, route_table_decides}
+use Rattle.ev_types.specs.Origins.{chain_place_same, chain_place_decides, origin_same, origin_decides}
 use Rattle.ev_types.specs.Statuses.{is_active}
+use Rattle.ev_types.specs.declared.references.Reference.{Reference}
 use Rattle.ev_types.specs.declared.contents.Kind.{Kind}
-use Rattle.ev_types.specs.declared.contents.Kind.TheVariants.{Cds, Rds, Lds}
+use Rattle.ev_types.specs.declared.contents.Kind.TheVariants.{Cds, Rds, Lds, Sds}
 use Rattle.ev_types.specs.declared.contents.Content.{Content}
-use Rattle.ev_types.specs.declared.contents.Content.TheVariants.{Cluster as a_cluster, Assignment as an_assignment, Listener as a_listener, Routes as routes}
+use Rattle.ev_types.specs.declared.contents.Content.TheVariants.{Cluster as a_cluster, Assignment as an_assignment, Listener as a_listener, Routes as routes, Secret as a_secret, Extension as an_extension}
 use Rattle.ev_types.specs.declared.clusters.Discovery.{Discovery}
 use Rattle.ev_types.specs.declared.clusters.Discovery.TheVariants.{Static, Eds as by_eds, Elsewhere}
 use Rattle.ev_types.specs.declared.listeners.FilterChain.{FilterChain}
@@ -31,9 +33,13 @@ use Rattle.ev_model.specs.declared.pictures.Routing.TheVariants.{Table, Tcp, Oth
 use Rattle.ev_model.specs.declared.pictures.ServedChain.{ServedChain}
 use Rattle.ev_model.specs.declared.pictures.ServedCluster.{ServedCluster}
 use Rattle.ev_model.specs.declared.pictures.ServedListener.{ServedListener}
+use Rattle.ev_model.specs.declared.pictures.Secrets.{Secrets}
+use Rattle.ev_model.specs.declared.pictures.Secrets.TheVariants.{There, Missing, Unknown}
+use Rattle.ev_model.specs.Origins.{PlacedChain, placed_from, placed_default, origin_at}
 use Rattle.ev_model.specs.World.{World, Arrived, HealthResult}
 use Rattle.ev_model.specs.Sorted.{sorted_by}
 use Rattle.ev_model.specs.Versions.{is_before}
+use Rattle.ev_model.specs.Verdicts.{is_given}
 use Rattle.ev_model.specs.Warming.{value_by, assignment_by, is_eligible_by}
 use Rattle.ev_model.specs.Phase.{is_serving}
 
@@ -57,6 +63,31 @@ is_elsewhere (a_cluster cluster) = is_discovered_elsewhere cluster.discovery
 is_elsewhere (an_assignment rows) = false
 is_elsewhere (a_listener listener) = false
 is_elsewhere (routes table) = false
+is_elsewhere a_secret = false
+is_elsewhere an_extension = false
+
+-- the secret has no value
+abbrev pub is_missing : List Arrived → Reference → Bool
+is_missing arrivals reference = not (is_some (value_by arrivals Sds reference.name))
+
+-- one of these secrets has none
+abbrev pub lacks_one : List Arrived → List Reference → Bool
+lacks_one arrivals references = list_any (is_missing arrivals) references
+
+-- a cluster's secrets are there, or one of them is missing;
+-- where a match chooses among transport sockets, nothing in a script says whether a missing one is asked for
+abbrev pub secrets_with : List Arrived → List Reference → Option (List Reference) → Secrets
+secrets_with arrivals secrets None = if lacks_one arrivals secrets then Missing else There
+secrets_with arrivals secrets (Some by_match) = if lacks_one arrivals (secrets ++ by_match) then Unknown else There
+
+-- the secrets of a content
+abbrev pub secrets_by : List Arrived → Content → Secrets
+secrets_by arrivals (a_cluster cluster) = secrets_with arrivals cluster.secrets cluster.secrets_by_match
+secrets_by arrivals (an_assignment rows) = There
+secrets_by arrivals (a_listener listener) = There
+secrets_by arrivals (routes table) = There
+secrets_by arrivals a_secret = There
+secrets_by arrivals an_extension = There
 
 -- an active cluster, with the hosts that may be chosen in the order of its assignment
 abbrev pub served_cluster : List Arrived → List HealthResult → GenRow → ServedCluster
@@ -65,6 +96,7 @@ served_cluster arrivals results row = record {
   name = row.name;
   hosts = filter (is_eligible_by results row) (assignment_by arrivals row.content);
   elsewhere = is_elsewhere row.content;
+  secrets = secrets_by arrivals row.content;
 }
 
 -- the active clusters, in the order of their names
@@ -78,6 +110,8 @@ table_in (Some (a_cluster cluster)) = record { hosts = [] }
 table_in (Some (an_assignment rows)) = record { hosts = [] }
 table_in (Some (a_listener listener)) = record { hosts = [] }
 table_in (Some (routes table)) = table
+table_in (Some a_secret) = record { hosts = [] }
+table_in (Some an_extension) = record { hosts = [] }
 
 -- where a chain's connections go: by the routes that are its name's value, by its own, to its target, or elsewhere
 abbrev pub routing_of : List Arrived → Serve → Routing
@@ -86,9 +120,19 @@ routing_of arrivals (Inline table) = Table table
 routing_of arrivals (by_tcp target) = Tcp target
 routing_of arrivals by_other = Other
 
--- a chain, with where its connections go
-abbrev pub served_chain : List Arrived → FilterChain → ServedChain
-served_chain arrivals chain = record { criteria = chain.criteria; routing = routing_of arrivals chain.serve }
+-- a fact of a chain, where the chain is known by its body
+abbrev pub where_given : {A : Type 0} → FilterChain → A → Option A
+where_given chain fact = if is_given chain.body_text then Some fact else None
+
+-- a chain of a generation, with where its connections go
+abbrev pub served_chain : List Arrived → GenRow → PlacedChain → ServedChain
+served_chain arrivals row p = record {
+  place = where_given p.chain p.place;
+  origin = where_given p.chain (origin_at row.number row.kept p.place);
+  criteria = p.chain.criteria;
+  routing = routing_of arrivals p.chain.serve;
+  lacks_secret = lacks_one arrivals p.chain.secrets;
+}
 
 -- an active listener; what is no listener isn't shown
 abbrev pub served_listener : List Arrived → GenRow → Content → List ServedListener
@@ -102,10 +146,12 @@ served_listener arrivals row (a_listener listener) = record {
   udp = listener.address.udp;
   restores = listener.restores;
   hands_over = listener.hands_over;
-  filter_chains = map (served_chain arrivals) listener.filter_chains;
-  default_filter_chain = option_map (routing_of arrivals) listener.default_filter_chain;
+  filter_chains = map (served_chain arrivals row) (placed_from 0 listener.filter_chains);
+  default_filter_chain = option_map (λ (c : FilterChain). served_chain arrivals row (placed_default c)) listener.default_filter_chain;
 } ∷ []
 served_listener arrivals row (routes table) = []
+served_listener arrivals row a_secret = []
+served_listener arrivals row an_extension = []
 
 -- the active listeners, in the order of their names
 abbrev pub served_listeners : List Arrived → List GenRow → List ServedListener
@@ -122,10 +168,21 @@ shown_of world = record {
 abbrev pub picture_of : World → Picture
 picture_of world = record { version = length world.pictures; shown = shown_of world }
 
--- the same generation of the same cluster, with the same hosts and the same mark
+-- both say the same of a cluster's secrets
+abbrev pub secrets_same : Secrets → Secrets → Bool
+secrets_same There There = true
+secrets_same Missing Missing = true
+secrets_same Unknown Unknown = true
+secrets_same a b = false
+
+-- the same generation of the same cluster, with the same hosts and the same marks
 abbrev pub served_cluster_same : ServedCluster → ServedCluster → Bool
 served_cluster_same a b =
-    (a.number == b.number) && bytes_eq a.name b.name && rows_same a.hosts b.hosts && bool_same a.elsewhere b.elsewhere
+    (a.number == b.number)
+    && bytes_eq a.name b.name
+    && rows_same a.hosts b.hosts
+    && bool_same a.elsewhere b.elsewhere
+    && secrets_same a.secrets b.secrets
 
 -- the same routes, or the same target; what isn't read is one
 abbrev pub routing_same : Routing → Routing → Bool
@@ -134,9 +191,17 @@ routing_same (Tcp a) (Tcp b) = target_same a b
 routing_same Other Other = true
 routing_same a b = false
 
--- the same connections are taken, with the same routing
+-- the same place and origin
+abbrev pub stands_same : ServedChain → ServedChain → Bool
+stands_same a b = option_eq chain_place_same a.place b.place && option_eq origin_same a.origin b.origin
+
+-- the same connections are taken, with the same routing and the same mark, by the chain of the same place and origin
 abbrev pub served_chain_same : ServedChain → ServedChain → Bool
-served_chain_same a b = filter_chain_match_same a.criteria b.criteria && routing_same a.routing b.routing
+served_chain_same a b =
+    stands_same a b
+    && filter_chain_match_same a.criteria b.criteria
+    && routing_same a.routing b.routing
+    && bool_same a.lacks_secret b.lacks_secret
 
 -- the same address, and the same marks
 abbrev pub listens_same : ServedListener → ServedListener → Bool
@@ -154,7 +219,7 @@ served_listener_same a b =
     && (a.number == b.number)
     && bytes_eq a.name b.name
     && pointwise served_chain_same a.filter_chains b.filter_chains
-    && option_eq routing_same a.default_filter_chain b.default_filter_chain
+    && option_eq served_chain_same a.default_filter_chain b.default_filter_chain
 
 -- the same clusters and the same listeners
 abbrev pub shown_same : Shown → Shown → Bool
@@ -172,14 +237,25 @@ has_number number numbers = list_any (λ n. n == number) numbers
 abbrev pub is_shown : ℕ → Shown → Bool
 is_shown number shown = has_number number (numbers_shown shown)
 
+pub secrets_decide : (a b : Secrets) → Decides (secrets_same a b) (a ≡ b)
+secrets_decide There There = (λ h. refl, λ e. refl)
+secrets_decide Missing Missing = (λ h. refl, λ e. refl)
+secrets_decide Unknown Unknown = (λ h. refl, λ e. refl)
+secrets_decide a b = (λ h. cc, λ e. cc)
+
 pub served_cluster_decides : (a b : ServedCluster) → Decides (served_cluster_same a b) (a ≡ b)
 served_cluster_decides a b = decides_as
+    (both_decide
     (both_decide (both_decide (both_decide (numbers_decide a.number b.number) (bytes_decide a.name b.name)) (rows_decide a.hosts b.hosts))
     (bool_decides a.elsewhere b.elsewhere))
-    (λ p. λ i. record { number = p.0.0.0 i; name = p.0.0.1 i; hosts = p.0.1 i; elsewhere = p.1 i })
+    (secrets_decide a.secrets b.secrets))
+    (λ p. λ i. record { number = p.0.0.0.0 i; name = p.0.0.0.1 i; hosts = p.0.0.1 i; elsewhere = p.0.1 i; secrets = p.1 i })
     (λ e. (
-      ((ap (λ (c : ServedCluster). c.number) e, ap (λ (c : ServedCluster). c.name) e), ap (λ (c : ServedCluster). c.hosts) e),
-      ap (λ (c : ServedCluster). c.elsewhere) e,
+      (
+        ((ap (λ (c : ServedCluster). c.number) e, ap (λ (c : ServedCluster). c.name) e), ap (λ (c : ServedCluster). c.hosts) e),
+        ap (λ (c : ServedCluster). c.elsewhere) e,
+      ),
+      ap (λ (c : ServedCluster). c.secrets) e,
     ))
 
 pub routing_decides : (a b : Routing) → Decides (routing_same a b) (a ≡ b)
@@ -189,9 +265,25 @@ routing_decides Other Other = (λ h. refl, λ e. refl)
 routing_decides a b = (λ h. cc, λ e. cc)
 
 pub served_chain_decides : (a b : ServedChain) → Decides (served_chain_same a b) (a ≡ b)
-served_chain_decides a b = decides_as (both_decide (filter_chain_match_decides a.criteria b.criteria) (routing_decides a.routing b.routing))
-    (λ (p, q). λ i. record { criteria = p i; routing = q i })
-    (λ e. (ap (λ (c : ServedChain). c.criteria) e, ap (λ (c : ServedChain). c.routing) e))
+served_chain_decides a b = decides_as
+    (both_decide
+    (both_decide
+    (both_decide
+    (both_decide (option_decides chain_place_decides a.place b.place) (option_decides origin_decides a.origin b.origin))
+    (filter_chain_match_decides a.criteria b.criteria))
+    (routing_decides a.routing b.routing))
+    (bool_decides a.lacks_secret b.lacks_secret))
+    (λ p. λ i. record { place = p.0.0.0.0 i; origin = p.0.0.0.1 i; criteria = p.0.0.1 i; routing = p.0.1 i; lacks_secret = p.1 i })
+    (λ e. (
+      (
+        (
+          (ap (λ (c : ServedChain). c.place) e, ap (λ (c : ServedChain). c.origin) e),
+          ap (λ (c : ServedChain). c.criteria) e,
+        ),
+        ap (λ (c : ServedChain). c.routing) e,
+      ),
+      ap (λ (c : ServedChain). c.lacks_secret) e,
+    ))
 
 pub served_listener_decides : (a b : ServedListener) → Decides (served_listener_same a b) (a ≡ b)
 served_listener_decides a b = decides_as
@@ -205,7 +297,7 @@ served_listener_decides a b = decides_as
     (numbers_decide a.number b.number))
     (bytes_decide a.name b.name))
     (pointwise_decides served_chain_decides a.filter_chains b.filter_chains))
-    (option_decides routing_decides a.default_filter_chain b.default_filter_chain))
+    (option_decides served_chain_decides a.default_filter_chain b.default_filter_chain))
     (λ p. λ i. record {
       number = p.0.0.0.1 i;
       name = p.0.0.1 i;

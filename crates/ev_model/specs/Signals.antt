@@ -1,12 +1,14 @@
--- What health results and timers do. Source: cluster manager warming (a checked cluster waits for a first result of each host;
--- initial fetch timeouts) and draining of Envoy's documentation; the end of a time to live, of the xDS transport protocol.
+-- What health results and timers do. Source: cluster manager warming (a checked cluster waits
+-- for a first result of each host;
+-- initial fetch timeouts) and draining of Envoy's documentation;
+-- the end of a time to live, of the xDS transport protocol.
 use Rattle.std.specs.Prelude.{ℕ, Bool, true, false, not, ◌&&◌, ◌||◌, if◌then◌else◌, List, [], ◌∷◌, ◌++◌, filter, map, Option, Some, None, is_some}
 use Rattle.std.specs.List.{list_any}
 use Rattle.ev_types.specs.SameHosts.{has_host}
 use Rattle.ev_types.specs.Statuses.{is_live}
 use Rattle.ev_types.specs.declared.hosts.Host.{Host}
 use Rattle.ev_types.specs.declared.contents.Kind.{Kind}
-use Rattle.ev_types.specs.declared.contents.Kind.TheVariants.{Cds, Eds, Lds, Rds}
+use Rattle.ev_types.specs.declared.contents.Kind.TheVariants.{Cds, Eds, Lds, Rds, Sds, Ecds}
 use Rattle.ev_types.specs.declared.events.Answer.{Answer}
 use Rattle.ev_types.specs.declared.events.Answer.TheVariants.{Ignored, Done, Moved}
 use Rattle.ev_types.specs.declared.contents.Content.{Content}
@@ -55,7 +57,8 @@ health_of host healthy (row ∷ rows) world = moved world (with_results host hea
 abbrev pub health : List ℕ → Host → Bool → World → World × Answer
 health name host healthy world = health_of host healthy (rows_meant world.arrivals name host world.rows) world
 
--- the generation of this number waits for the name within a limit: it was neither told of it, nor has the wait timed out
+-- the generation of this number waits for the name within a limit:
+-- it was neither told of it, nor has the wait timed out
 abbrev pub awaits : List Arrived → Kind → List ℕ → ℕ → Dependency → Bool
 awaits arrivals kind name number d =
     is_dependency kind name d && d.limited && not (has_word arrivals number d || has_timeout arrivals number d)
@@ -68,7 +71,7 @@ is_waiting arrivals kind name row = is_live row.status && list_any (awaits arriv
 abbrev pub is_awaited : List Arrived → List GenRow → Kind → List ℕ → Bool
 is_awaited arrivals rows kind name = list_any (is_waiting arrivals kind name) rows
 
--- the fetch timeout of a name of endpoints or routes
+-- the fetch timeout of a name that is awaited
 abbrev pub name_timeout : Kind → List ℕ → World → World × Answer
 name_timeout kind name world =
     if is_awaited world.arrivals world.rows kind name
@@ -98,6 +101,8 @@ fetch_timeout Cds name world = clusters_timeout world
 fetch_timeout Eds name world = name_timeout_of Eds name world
 fetch_timeout Lds name world = listeners_timeout world
 fetch_timeout Rds name world = name_timeout_of Rds name world
+fetch_timeout Sds name world = name_timeout_of Sds name world
+fetch_timeout Ecds name world = name_timeout_of Ecds name world
 
 -- it was replaced or removed after it had served
 abbrev pub is_draining : RowStatus → Bool
@@ -139,13 +144,15 @@ no_hosts = an_assignment []
 abbrev pub no_routes : Content
 no_routes = routes (record { hosts = [] })
 
--- a resource has come to its end: a cluster or listener goes as if it were removed, and endpoints or routes become none, of which
--- the control plane has said nothing
+-- a resource has come to its end: a cluster or listener is removed, endpoints or routes become none,
+-- of which the control plane has said nothing, and a secret or an extension stays what it is
 abbrev pub with_end : Kind → List ℕ → World → World
 with_end Cds name world = record world { rows = rows_ended Cds name world.rows }
 with_end Eds name world = record world { arrivals = world.arrivals ++ arrived world.made Eds (Ended no_hosts) name ∷ [] }
 with_end Lds name world = record world { rows = rows_ended Lds name world.rows }
 with_end Rds name world = record world { arrivals = world.arrivals ++ arrived world.made Rds (Ended no_routes) name ∷ [] }
+with_end Sds name world = world
+with_end Ecds name world = world
 
 -- the version of the resource goes, and with it the mark that its life is bounded
 abbrev pub forget_version : Kind → List ℕ → World → World

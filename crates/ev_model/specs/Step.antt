@@ -1,5 +1,6 @@
--- What one event does to the world, and how it is answered, by the rules of a journal's format. Source: the xDS transport
--- protocol, incremental variant, for streams and responses; the other events are in modules of their own.
+-- What one event does to the world, and how it is answered, by the rules of a journal's format.
+-- Source: the xDS transport protocol, incremental variant, for streams and responses;
+-- the other events are in modules of their own.
 use Rattle.std.specs.Prelude.{ℕ, true, false, List, if◌then◌else◌, Option, Some, None}
 use Rattle.ev_types.specs.Items.{ResponseParts}
 use Rattle.ev_types.specs.declared.contents.Kind.{Kind}

@@ -1,6 +1,6 @@
--- What follows each event of the stream, the health checker and the timers by itself, but publications, reapings and what is
--- ignored. Source: cluster manager warming of Envoy's documentation: an updated generation serves once it has warmed, and the
--- one before it drains.
+-- What follows each event of the stream, the health checker and the timers by itself,
+-- but publications, reapings and what is ignored. Source: cluster manager warming of Envoy's documentation:
+-- an updated generation serves once it has warmed, and the one before it drains.
 use Rattle.std.specs.Prelude.{Bool, not, ◌&&◌, ◌||◌, ◌==◌, if◌then◌else◌, List, filter}
 use Rattle.std.specs.List.{list_any}
 use Rattle.ev_types.specs.SameHosts.{has_host}
@@ -12,7 +12,8 @@ use Rattle.ev_types.specs.declared.rows.KeptVersion.{KeptVersion}
 use Rattle.ev_types.specs.declared.rows.Live.{Live}
 use Rattle.ev_model.specs.World.{World, Arrived, HealthResult}
 use Rattle.ev_model.specs.Live.{lives_of}
-use Rattle.ev_model.specs.Watching.{is_watched, is_by_name}
+use Rattle.ev_types.specs.Kinds.{is_by_name}
+use Rattle.ev_model.specs.Watching.{is_watched}
 use Rattle.ev_model.specs.Warming.{is_ready_by, assignment_by}
 use Rattle.ev_model.specs.Rows.{is_row_of, with_statuses}
 use Rattle.ev_model.specs.Phase.{phase_after}
@@ -46,7 +47,7 @@ promoted_rows arrivals results rows = with_statuses (promoted_status arrivals re
 abbrev pub promoted : World → World
 promoted world = record world { rows = promoted_rows world.arrivals world.results world.rows }
 
--- what came for names that these live rows watch
+-- what was received for names that these live rows watch
 abbrev pub arrivals_watched : List Live → List Arrived → List Arrived
 arrivals_watched lives arrivals = filter (λ (a : Arrived). is_watched lives a.kind a.name) arrivals
 
@@ -54,7 +55,7 @@ arrivals_watched lives arrivals = filter (λ (a : Arrived). is_watched lives a.k
 abbrev pub is_version_due : List Live → KeptVersion → Bool
 is_version_due lives kept = not (is_by_name kept.kind) || is_watched lives kept.kind kept.name
 
--- second: values, marks and versions of endpoints and routes go whose name isn't watched any more
+-- second: what is known of a name, and its version, are removed where the name isn't watched any more
 abbrev pub without_unwatched : World → World
 without_unwatched world = record world {
   arrivals = arrivals_watched (lives_of world) world.arrivals;

@@ -1,27 +1,31 @@
--- What is said of each resource of a response. This project's profile: removals come before additions, a resource is refused
--- by the lowest rule that it breaks, and an address that is taken is looked at only where no other rule applies. A heartbeat
--- renews the version that is kept; of another version it is stale, and refused where anybody would hear it.
-use Rattle.std.specs.Prelude.{ℕ, Bool, true, false, not, ◌&&◌, ◌||◌, ◌+◌, nat_le, if◌then◌else◌, List, [], ◌∷◌, ◌++◌, filter, length, Option, Some, None}
+-- What is said of each resource of a response. This project's profile:
+-- removals come before additions, a resource is refused by the lowest rule that it breaks,
+-- and an address that is taken is looked at only where no other rule applies.
+-- A heartbeat renews the version that is kept; of another version it is stale, and refused where anybody would hear it.
+use Rattle.std.specs.Prelude.{ℕ, Bool, true, false, not, ◌&&◌, ◌||◌, ◌+◌, nat_le, if◌then◌else◌, List, [], ◌∷◌, ◌++◌, filter, length, find, nat_lt, Option, Some, None}
 use Rattle.std.specs.List.{list_any}
 use Rattle.std.specs.Str.{bytes_eq}
 use Rattle.ev_types.specs.Items.{ItemParts, ResponseParts}
 use Rattle.ev_types.specs.SameHosts.{socket_same}
 use Rattle.ev_types.specs.SameContents.{content_same}
+use Rattle.ev_types.specs.SameListeners.{listener_same}
+use Rattle.ev_types.specs.Kinds.{is_by_name}
+use Rattle.ev_types.specs.declared.listeners.Listener.{Listener}
 use Rattle.ev_types.specs.declared.hosts.SocketAddress.{SocketAddress}
 use Rattle.ev_types.specs.declared.contents.Kind.{Kind}
-use Rattle.ev_types.specs.declared.contents.Kind.TheVariants.{Cds, Eds, Lds, Rds}
+use Rattle.ev_types.specs.declared.contents.Kind.TheVariants.{Cds, Eds, Lds, Rds, Sds, Ecds}
 use Rattle.ev_types.specs.declared.contents.Body.{Body}
 use Rattle.ev_types.specs.declared.contents.Body.TheVariants.{Good, Bad, Beat}
 use Rattle.ev_types.specs.declared.contents.Content.{Content}
-use Rattle.ev_types.specs.declared.contents.Content.TheVariants.{Cluster as a_cluster, Assignment as an_assignment, Listener as a_listener, Routes as routes}
+use Rattle.ev_types.specs.declared.contents.Content.TheVariants.{Cluster as a_cluster, Assignment as an_assignment, Listener as a_listener, Routes as routes, Secret as a_secret, Extension as an_extension}
 use Rattle.ev_types.specs.declared.events.Verdict.{Verdict}
-use Rattle.ev_types.specs.declared.events.Verdict.TheVariants.{New, Same, Kept, Unasked, Renewed, Refused}
+use Rattle.ev_types.specs.declared.events.Verdict.TheVariants.{New, InPlace, Back, Same, Kept, Unasked, Renewed, Refused}
 use Rattle.ev_types.specs.declared.rows.Live.{Live}
 use Rattle.ev_types.specs.declared.rows.KeptVersion.{KeptVersion}
 use Rattle.ev_types.specs.Kinds.{kind_same}
 use Rattle.ev_model.specs.Live.{is_named, latest, newest_of}
 use Rattle.ev_model.specs.Versions.{is_kept}
-use Rattle.ev_model.specs.Watching.{is_by_name, is_watched}
+use Rattle.ev_model.specs.Watching.{is_watched}
 
 -- the items of this name
 abbrev pub items_named : List ℕ → List ItemParts → List ItemParts
@@ -39,7 +43,8 @@ is_removed response name = is_among name response.removed && (not (nat_le 1 (len
 abbrev pub lives_left : Kind → ResponseParts → List Live → List Live
 lives_left kind response lives = filter (λ (live : Live). not (kind_same live.kind kind && is_removed response live.name)) lives
 
--- somebody hears a resource of this kind and name: of clusters and listeners all, of endpoints and routes those that are watched
+-- somebody hears a resource of this kind and name: of clusters and listeners all,
+-- of endpoints and routes those that are watched
 abbrev pub is_heard : Kind → List Live → List ℕ → Bool
 is_heard kind lives name = not (is_by_name kind) || is_watched lives kind name
 
@@ -70,7 +75,7 @@ lesser None other = other
 lesser (Some rule) None = Some rule
 lesser (Some rule) (Some other) = if nat_le rule other then Some rule else Some other
 
--- the least rule that the resource breaks, the addresses that are taken left aside
+-- the lowest-numbered rule that the resource breaks, the addresses that are taken left aside
 abbrev pub rule_of : Kind → ResponseParts → List Live → List KeptVersion → ItemParts → Option ℕ
 rule_of kind response lives versions item =
     lesser (stale_rule kind lives versions item item.body)
@@ -82,6 +87,8 @@ listening_address (a_cluster cluster) = None
 listening_address (an_assignment rows) = None
 listening_address (a_listener listener) = Some listener.address
 listening_address (routes table) = None
+listening_address a_secret = None
+listening_address an_extension = None
 
 -- both have an address, and it is the same, by the same protocol
 abbrev pub shares_address : Option SocketAddress → Option SocketAddress → Bool
@@ -99,14 +106,64 @@ abbrev pub against : Option Live → Content → Verdict
 against None content = New
 against (Some live) content = if content_same live.content content then Same else New
 
+-- the text is given: where it isn't, only the fields that are read count
+abbrev pub is_given : List ℕ → Bool
+is_given text = nat_lt 0 (length text)
+
+-- the generation that serves the name
+abbrev pub serving_of : List Live → Kind → List ℕ → Option Live
+serving_of lives kind name = find (λ (live : Live). is_named kind name live && not live.warming) lives
+
+-- the update differs from the listener in its chains alone:
+-- their frames are equal, it has chains, and it isn't for datagrams
+abbrev pub changes_chains : Listener → Listener → Bool
+changes_chains active update =
+    is_given update.frame_text
+    && not update.address.udp
+    && bytes_eq active.frame_text update.frame_text
+    && nat_lt 0 (length update.filter_chains)
+
+-- the update is the listener again, by its whole body
+abbrev pub returns_to : Listener → Listener → Bool
+returns_to active update = is_given update.body_text && listener_same active update
+
+-- what an update is to the listener that serves: it again, a change of its chains, or another one
+abbrev pub update_verdict : Listener → Listener → Verdict
+update_verdict active update = if returns_to active update then Back else (if changes_chains active update then InPlace else New)
+
+-- what a content is to the one that serves
+abbrev pub content_verdict : Content → Content → Verdict
+content_verdict (a_listener active) (a_listener update) = update_verdict active update
+content_verdict active update = New
+
+-- what it is to the generation that serves, if there is one
+abbrev pub serving_verdict : Option Live → Content → Verdict
+serving_verdict None content = New
+serving_verdict (Some live) content = content_verdict live.content content
+
+-- same as the newest generation, or else by the one that serves
+abbrev pub listener_verdict : Option Live → Option Live → Content → Verdict
+listener_verdict None serving content = New
+listener_verdict (Some newest) serving content = if content_same newest.content content then Same else serving_verdict serving content
+
+-- a value is kept where its name is watched
+abbrev pub value_verdict : Bool → Verdict
+value_verdict watched = if watched then Kept else Unasked
+
 -- the verdict on a good resource
 abbrev pub good_verdict : Kind → List Live → List ℕ → Content → Verdict
 good_verdict Cds lives name content = against (newest_of lives Cds name) content
-good_verdict Lds lives name content = if is_taken lives name content then Refused 15 else against (newest_of lives Lds name) content
-good_verdict Eds lives name content = if is_watched lives Eds name then Kept else Unasked
-good_verdict Rds lives name content = if is_watched lives Rds name then Kept else Unasked
+good_verdict Lds lives name content =
+    if is_taken lives name content
+    then Refused 15
+    else listener_verdict (newest_of lives Lds name) (serving_of lives Lds name) content
+good_verdict Eds lives name content = value_verdict (is_watched lives Eds name)
+good_verdict Rds lives name content = value_verdict (is_watched lives Rds name)
+good_verdict Sds lives name content = value_verdict (is_watched lives Sds name)
+good_verdict Ecds lives name content = value_verdict (is_watched lives Ecds name)
 
--- the verdict on a heartbeat that isn't refused: one of the version that is kept renews it, and any other was asked for by no one
+-- the verdict on a heartbeat that isn't refused: one of the version that is kept renews it,
+-- and any other was asked for by no one
 abbrev pub beat_verdict : Kind → List KeptVersion → ItemParts → Verdict
 beat_verdict kind versions item = if is_kept versions kind item.name item.version then Renewed else Unasked
 
@@ -130,10 +187,14 @@ abbrev pub number_after : Option Live → ℕ
 number_after None = 1
 number_after (Some live) = live.number + 1
 
--- the live rows after a new generation: the one that warmed under its name goes, and the new one warms
+-- the live rows without the one that warms under the name
+abbrev pub without_warming : Kind → List ℕ → List Live → List Live
+without_warming kind name lives = filter (λ (live : Live). not (is_named kind name live && live.warming)) lives
+
+-- the live rows after a new generation: the one that warmed under its name is removed, and the new one warms
 abbrev pub with_new : Kind → List ℕ → Content → List Live → List Live
 with_new kind name content lives =
-    filter (λ (live : Live). not (is_named kind name live && live.warming)) lives
+    without_warming kind name lives
     ++ record { kind = kind; number = number_after (latest lives); name = name; content = content; warming = true } ∷ []
 
 -- the live rows after a verdict
@@ -141,6 +202,12 @@ abbrev pub lives_after : Kind → Verdict → List ℕ → Body → List Live �
 lives_after kind New name (Good content) lives = with_new kind name content lives
 lives_after kind New name (Bad rule) lives = lives
 lives_after kind New name Beat lives = lives
+lives_after kind InPlace name (Good content) lives = with_new kind name content lives
+lives_after kind InPlace name (Bad rule) lives = lives
+lives_after kind InPlace name Beat lives = lives
+lives_after kind Back name (Good content) lives = without_warming kind name lives
+lives_after kind Back name (Bad rule) lives = lives
+lives_after kind Back name Beat lives = lives
 lives_after kind Same name body lives = lives
 lives_after kind Kept name body lives = lives
 lives_after kind Unasked name body lives = lives
@@ -154,7 +221,7 @@ verdicts_from kind response versions lives (item ∷ items) =
     let verdict = verdict_of kind response lives versions item in
     verdict ∷ verdicts_from kind response versions (lives_after kind verdict item.name item.body lives) items
 
--- the verdicts on a response whose type is one of the four
+-- the verdicts on a response whose type is read
 abbrev pub verdicts_for : Kind → List Live → List KeptVersion → ResponseParts → List Verdict
 verdicts_for kind lives versions response = verdicts_from kind response versions (lives_left kind response lives) response.items
 

@@ -1,8 +1,10 @@
--- What a generation waits for, and which hosts may be chosen. Source: cluster manager warming of Envoy's documentation: a
--- cluster waits for its endpoints and, where it is health checked, for a first result of each host; a listener waits for its
--- routes; a wait ends with a response, a refusal, a notice of absence, or the initial fetch timeout. An updated cluster waits until
--- its endpoints are sent anew, though they may be as before: of a fresh dependency only what came since the generation was made
--- counts. Each word looks at what came and at the health results; the same word of a world takes that world's.
+-- What a generation waits for, and which hosts may be chosen. Source:
+-- cluster manager warming of Envoy's documentation: a cluster waits for its endpoints and, where it is health checked,
+-- for a first result of each host; a listener waits for its routes;
+-- a wait ends with a response, a refusal, a notice of absence, or the initial fetch timeout.
+-- An updated cluster waits until its endpoints are sent anew, though they may be as before:
+-- of a fresh dependency only what came since the generation was made counts.
+-- Each word looks at what came and at the health results; the same word of a world takes that world's.
 use Rattle.std.specs.Prelude.{ℕ, Bool, true, false, not, ◌&&◌, ◌||◌, ◌==◌, nat_le, List, [], filter, filter_map, map, Option, Some, None, unwrap_or}
 use Rattle.std.specs.List.{list_any, list_all, last_or}
 use Rattle.std.specs.Str.{bytes_eq}
@@ -13,7 +15,7 @@ use Rattle.ev_types.specs.declared.hosts.Host.{Host}
 use Rattle.ev_types.specs.declared.contents.Kind.{Kind}
 use Rattle.ev_types.specs.declared.contents.Kind.TheVariants.{Eds}
 use Rattle.ev_types.specs.declared.contents.Content.{Content}
-use Rattle.ev_types.specs.declared.contents.Content.TheVariants.{Cluster as a_cluster, Assignment as an_assignment, Listener as a_listener, Routes as routes}
+use Rattle.ev_types.specs.declared.contents.Content.TheVariants.{Cluster as a_cluster, Assignment as an_assignment, Listener as a_listener, Routes as routes, Secret as a_secret, Extension as an_extension}
 use Rattle.ev_types.specs.declared.clusters.Discovery.{Discovery}
 use Rattle.ev_types.specs.declared.clusters.Discovery.TheVariants.{Static, Eds as by_eds, Elsewhere}
 use Rattle.ev_types.specs.declared.rows.Arrival.{Arrival}
@@ -26,7 +28,7 @@ use Rattle.ev_model.specs.Watching.{Dependency, dependencies_of}
 abbrev pub is_for : Kind → List ℕ → Arrived → Bool
 is_for kind name a = kind_same a.kind kind && bytes_eq a.name name
 
--- what came for a name of this kind, in order of coming
+-- what was received for a name of this kind, in order of coming
 abbrev pub came_for : List Arrived → Kind → List ℕ → List Arrival
 came_for arrivals kind name = map (λ (a : Arrived). a.arrival) (filter (is_for kind name) arrivals)
 
@@ -70,20 +72,21 @@ is_told_by arrivals kind name = list_any is_word (came_for arrivals kind name)
 abbrev pub is_told : World → Kind → List ℕ → Bool
 is_told world kind name = is_told_by world.arrivals kind name
 
--- how many numbers were drawn when the last of this sort came for the name, if one did
+-- how many numbers were allocated when the last of this sort came for the name, if one did
 abbrev pub last_made : (Arrival → Bool) → List Arrived → Kind → List ℕ → Option ℕ
 last_made is arrivals kind name =
     last_or None (map (λ (a : Arrived). a.made) (filter (λ (a : Arrived). is_for kind name a && is a.arrival) arrivals))
 
--- how many were drawn when the name was last told of
+-- how many were allocated when the name was last told of
 abbrev pub last_told : List Arrived → Kind → List ℕ → Option ℕ
 last_told arrivals kind name = last_made is_word arrivals kind name
 
--- how many were drawn when the wait for the name last timed out
+-- how many were allocated when the wait for the name last timed out
 abbrev pub last_timed : List Arrived → Kind → List ℕ → Option ℕ
 last_timed arrivals kind name = last_made is_timeout arrivals kind name
 
--- what came when so many numbers were drawn counts for the generation of this number; of a fresh dependency only if that stood by then
+-- what came when so many numbers were allocated counts for the generation of this number;
+-- of a fresh dependency only if that stood by then
 abbrev pub counts_for : ℕ → Dependency → Option ℕ → Bool
 counts_for number d None = false
 counts_for number d (Some made) = not d.fresh || nat_le number made
@@ -115,6 +118,8 @@ rows_in (Some (a_cluster cluster)) = []
 rows_in (Some (an_assignment rows)) = rows
 rows_in (Some (a_listener listener)) = []
 rows_in (Some (routes table)) = []
+rows_in (Some a_secret) = []
+rows_in (Some an_extension) = []
 
 -- the hosts given in a cluster, or the value of its service, or none
 abbrev pub discovered : List Arrived → Discovery → List HostRowParts
@@ -128,6 +133,8 @@ assignment_by arrivals (a_cluster cluster) = discovered arrivals cluster.discove
 assignment_by arrivals (an_assignment rows) = []
 assignment_by arrivals (a_listener listener) = []
 assignment_by arrivals (routes table) = []
+assignment_by arrivals a_secret = []
+assignment_by arrivals an_extension = []
 
 -- the assignment of a row now
 abbrev pub assignment_of : World → GenRow → List HostRowParts
@@ -139,6 +146,8 @@ is_checked (a_cluster cluster) = cluster.checked
 is_checked (an_assignment rows) = false
 is_checked (a_listener listener) = false
 is_checked (routes table) = false
+is_checked a_secret = false
+is_checked an_extension = false
 
 -- the result is of this row's number and this host
 abbrev pub is_result_of : ℕ → Host → HealthResult → Bool

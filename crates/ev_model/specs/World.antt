@@ -1,5 +1,6 @@
--- What the managers know, as lists and marks. This project's own: the sources are the cluster manager's and the listener
--- manager's states, of which Envoy's documentation on warming, draining and discovery speaks.
+-- What the managers know, as lists and marks. This project's own:
+-- the sources are the cluster manager's and the listener manager's states, of which Envoy's documentation on warming,
+-- draining and discovery speaks.
 use Rattle.std.specs.Prelude.{ℕ, Bool, false, List, [], ◌∷◌, Option, None, replicate, length, ◌-◌}
 use Rattle.ev_types.specs.declared.contents.Kind.{Kind}
 use Rattle.ev_types.specs.declared.hosts.Host.{Host}
@@ -8,9 +9,11 @@ use Rattle.ev_types.specs.declared.rows.Arrival.{Arrival}
 use Rattle.ev_types.specs.declared.rows.KeptVersion.{KeptVersion}
 use Rattle.ev_types.specs.declared.rows.Phase.{Phase}
 use Rattle.ev_types.specs.declared.rows.Phase.TheVariants.{Clusters}
+use Rattle.ev_types.specs.declared.origins.Origin.{Origin}
 use Rattle.ev_model.specs.declared.pictures.Shown.{Shown}
 
--- something came for a name of this kind, when so many numbers were drawn: for the generations up to the last of them
+-- something was received for a name of this kind, when so many numbers were allocated:
+-- for the generations up to the last of them
 pub record Arrived : Type 0 where
   pub kind : Kind
   pub name : List ℕ
@@ -23,12 +26,14 @@ pub record HealthResult : Type 0 where
   pub host : Host
   pub healthy : Bool
 
--- an open connection of a worker: on a listener's generation, and on a cluster's where it was forwarded
+-- an open connection of a worker: on a listener's generation, by the chain of this origin where one was found, and on a
+-- cluster's generation where it was forwarded
 pub record OpenMember : Type 0 where
   pub worker : ℕ
   pub connection : ℕ
   pub listener : ℕ
   pub cluster : Option ℕ
+  pub origin : Option Origin
 
 -- what the picture shows that is held before the first is published
 abbrev pub nothing_shown : Shown
@@ -38,9 +43,9 @@ nothing_shown = record { clusters = []; listeners = [] }
 pub record World : Type 0 where
   -- the generations
   pub rows : List GenRow
-  -- how many numbers were drawn for them
+  -- how many numbers were allocated for them
   pub made : ℕ
-  -- what came for watched names, in order of coming
+  -- what was received for watched names, in order of coming
   pub arrivals : List Arrived
   -- health results; the last of a number and host counts
   pub results : List HealthResult

@@ -9,5 +9,5 @@
 mod pictures;
 
 pub use pictures::{
-    Choice, Picture, Routing, ServedChain, ServedCluster, ServedListener, Shown, Taken,
+    Choice, Picture, Routing, Secrets, ServedChain, ServedCluster, ServedListener, Shown, Taken,
 };

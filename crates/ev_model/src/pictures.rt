@@ -1,7 +1,44 @@
 use ev_types::{
-    Assignment, FilterChainMatch, Gen, Host, Name, RouteTable, Seq, Shared, Target, TryCopy,
+    Assignment, ChainPlace, FilterChainMatch, Gen, Host, Name, Origin, RouteTable, Seq, Shared,
+    Target, TryCopy, Way,
 };
 use std::alloc::{AllocError, Global};
+
+/// What is known of the secrets that a cluster's connections need.
+#[derive(Clone, Copy, Debug)]
+pub enum Secrets {
+    /// Each of them has a value.
+    There,
+    /// One of them has none: no handshake succeeds.
+    Missing,
+    /// One of them may be needed and has none: a match chooses among transport sockets, which no script tells.
+    Unknown,
+}
+
+impl PartialEq for Secrets {
+    ghost use Rattle.std.specs.Cmp.{decided, partial_equiv_from_equiv};
+    ghost use Rattle.ev_model.specs.Picture.{secrets_same, secrets_decide};
+
+    ghost eq = { secrets_same };
+
+    ghost laws = { partial_equiv_from_equiv (decided secrets_same secrets_decide) };
+
+    fn eq(&self, other: &Secrets) -> bool {
+        matches!(
+            (*self, *other),
+            (Secrets::There, Secrets::There)
+                | (Secrets::Missing, Secrets::Missing)
+                | (Secrets::Unknown, Secrets::Unknown)
+        )
+    }
+}
+
+impl Eq for Secrets {
+    ghost use Rattle.std.specs.Cmp.{decided};
+    ghost use Rattle.ev_model.specs.Picture.{secrets_same, secrets_decide};
+
+    ghost laws = { decided secrets_same secrets_decide };
+}
 
 /// An active cluster as workers see it, with the hosts that may be chosen, in the order of its assignment.
 #[derive(Drop)]
@@ -11,6 +48,8 @@ pub struct ServedCluster {
     pub hosts: Assignment,
     /// Whether Envoy, or an extension of it, finds the host of each connection by itself.
     pub elsewhere: bool,
+    /// What is known of its secrets.
+    pub secrets: Secrets,
 }
 
 /// Where the connections of a filter chain go.
@@ -62,9 +101,15 @@ impl Eq for Routing {
 /// A filter chain of an active listener as workers see it: which connections it takes, and where they go.
 #[derive(Drop)]
 pub struct ServedChain {
+    /// Its place in the listener; nothing where only the fields that are read count.
+    pub place: Option<ChainPlace>,
+    /// Where it began: the same for a chain that stays when its listener is changed in place.
+    pub origin: Option<Origin>,
     /// Which connections it takes. It is shared with the resource that brought it.
     pub criteria: Shared<FilterChainMatch>,
     pub routing: Routing,
+    /// Whether a secret of its transport socket has no value: then no handshake succeeds.
+    pub lacks_secret: bool,
 }
 
 /// An active listener as workers see it.
@@ -83,12 +128,12 @@ pub struct ServedListener {
     pub hands_over: bool,
     /// Its chains in order.
     pub filter_chains: Seq<ServedChain>,
-    /// Where connections go that no chain takes, if they go anywhere.
-    pub default_filter_chain: Option<Routing>,
+    /// The chain that takes what no other chain does, if there is one.
+    pub default_filter_chain: Option<ServedChain>,
 }
 
-/// What a picture shows, which is what workers may serve: clusters and listeners, both sorted by name. It has no listeners
-/// before the phase is Serving.
+/// What a picture shows, which is what workers may serve:
+/// clusters and listeners, both sorted by name. It has no listeners before the phase is Serving.
 #[derive(Drop)]
 pub struct Shown {
     pub clusters: Seq<ServedCluster>,
@@ -118,40 +163,14 @@ pub enum Choice {
     NoListener,
     /// No filter chain of the listener takes it.
     NoChain,
-    /// Its way depends on what no script tells.
-    Undecided {
+    /// A listener takes it.
+    On {
         listener: Gen,
-    },
-    /// It goes where no script tells: to a host of the cluster where there is one, else by a filter or an extension.
-    Elsewhere {
-        listener: Gen,
-        cluster: Option<Gen>,
-    },
-    /// The listener has no route for it.
-    NoRoute {
-        listener: Gen,
-    },
-    /// It is answered at once with this status.
-    Local {
-        listener: Gen,
-        status: u16,
-    },
-    /// It is answered by a redirect.
-    Redirect {
-        listener: Gen,
-    },
-    /// There is no cluster of the name that it is to go to.
-    NoCluster {
-        listener: Gen,
-    },
-    /// The cluster has no host that may be chosen.
-    NoEndpoint {
-        listener: Gen,
-    },
-    /// It goes to the host at this place of the cluster's list.
-    Served {
-        listener: Gen,
-        cluster: Gen,
-        host: u32,
+        /// The place of the chain that takes it, if a chain is known to.
+        chain: Option<ChainPlace>,
+        /// Where that chain began.
+        origin: Option<Origin>,
+        /// What becomes of it; a host is named by its place in the cluster's list.
+        way: Way<u32>,
     },
 }

@@ -1,4 +1,4 @@
--- Every run has all seven laws.
+-- Every run has all nine laws.
 use Rattle.ev_model.specs.Laws.{Told, Laws}
 use Rattle.ev_model_laws.proofs.PlaceLemmas.{Runs}
 use Rattle.ev_model_laws.proofs.WarmedLemmas.{runs_warmed}
@@ -7,6 +7,7 @@ use Rattle.ev_model_laws.proofs.OnceLemmas.{runs_once}
 use Rattle.ev_model_laws.proofs.RefusedLemmas.{runs_stay}
 use Rattle.ev_model_laws.proofs.ReplyLemmas.{runs_acknowledge}
 use Rattle.ev_model_laws.proofs.WaitedLemmas.{runs_waited}
+use Rattle.ev_model_laws.proofs.ConnectionLemmas.{runs_keep_connections, runs_keep_bodies}
 
 pub all_laws : (told : Told) → Runs told → Laws told
 all_laws told run = record {
@@ -17,4 +18,6 @@ all_laws told run = record {
   stays = runs_stay told run;
   acknowledged = runs_acknowledge told run;
   waited = runs_waited told run;
+  connections = runs_keep_connections told run;
+  bodies = runs_keep_bodies told run;
 }

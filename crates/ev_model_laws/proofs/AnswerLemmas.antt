@@ -4,28 +4,30 @@ use Rattle.std.proofs.lemmas.Bool.{false≢true, cond_both}
 use Rattle.ev_types.specs.Items.{ResponseParts}
 use Rattle.ev_types.specs.declared.hosts.Host.{Host}
 use Rattle.ev_types.specs.declared.contents.Kind.{Kind}
-use Rattle.ev_types.specs.declared.contents.Kind.TheVariants.{Cds, Eds, Lds, Rds}
+use Rattle.ev_types.specs.declared.contents.Kind.TheVariants.{Cds, Eds, Lds, Rds, Sds, Ecds}
 use Rattle.ev_types.specs.declared.contents.Request.{Request}
 use Rattle.ev_types.specs.declared.events.Actor.{Actor}
 use Rattle.ev_types.specs.declared.events.Event.{Event}
 use Rattle.ev_types.specs.declared.events.Event.TheVariants.{Connect, Disconnect, Response, Health, FetchTimeout, DrainTimeout, TtlExpired, Publish, Reap, Accept, Close, Settle}
 use Rattle.ev_types.specs.declared.events.Answer.{Answer}
 use Rattle.ev_types.specs.declared.events.Ask.{Ask}
-use Rattle.ev_types.specs.declared.events.Answer.TheVariants.{Ignored, Done, Moved, Replied, InUse, NotOpen, NoListener as no_listener, NoChain as no_chain, Undecided as undecided, Elsewhere as elsewhere, NoRoute as no_route, Redirect as redirect, NoCluster as no_cluster, NoEndpoint as no_endpoint, Local as local, Served as served}
+use Rattle.ev_types.specs.declared.events.Answer.TheVariants.{Ignored, Done, Moved, Replied, InUse, NotOpen, NoListener as no_listener, NoChain as no_chain, On as on}
 use Rattle.ev_types.specs.declared.events.Verdict.{Verdict}
 use Rattle.ev_types.specs.declared.journals.Format.{Format}
 use Rattle.ev_types.specs.declared.rows.GenRow.{GenRow}
 use Rattle.ev_model.specs.declared.pictures.Picture.{Picture}
 use Rattle.ev_model.specs.declared.pictures.Choice.{Choice}
-use Rattle.ev_model.specs.declared.pictures.Choice.TheVariants.{NoListener, NoChain, Undecided, Elsewhere, NoRoute, Local, Redirect, NoCluster, NoEndpoint, Served}
+use Rattle.ev_model.specs.declared.pictures.Choice.TheVariants.{NoListener, NoChain, On}
 use Rattle.ev_model.specs.World.{World, OpenMember}
 use Rattle.ev_model.specs.Choice.{choice_of}
-use Rattle.ev_model.specs.Connections.{Worked, is_member, is_open, host_at, served_by, answer_of, opened_by, accepted, closed}
+use Rattle.ev_model.specs.Connections.{Worked, is_member, is_open, way_of, answer_of, opened_by, accepted, closed}
 use Rattle.ev_model.specs.Versions.{is_bounded}
 use Rattle.ev_model.specs.Phase.{is_clusters}
 use Rattle.ev_model.specs.Signals.{rows_meant, health_of, is_awaited, name_timeout_of, fetch_timeout, unexpired, expire}
 use Rattle.ev_model.specs.Step.{step, respond_by}
 use Rattle.ev_model_laws.proofs.KeepLemmas.{is_for_managers}
+use Rattle.ev_types.specs.declared.origins.ChainPlace.{ChainPlace}
+use Rattle.ev_types.specs.declared.ways.Way.{Way}
 
 -- each answer of the managers has the fact
 pub record HoldsOfManaged (Q : Answer → Type 0) : Type 0 where
@@ -41,14 +43,7 @@ pub record HoldsOfAnswers (Q : Answer → Type 0) : Type 0 where
   pub not_open : Q NotOpen
   pub no_listener : Q no_listener
   pub no_chain : Q no_chain
-  pub undecided : (listener : ℕ) → Q (undecided listener)
-  pub elsewhere : (listener : ℕ) (cluster : Option ℕ) → Q (elsewhere listener cluster)
-  pub no_route : (listener : ℕ) → Q (no_route listener)
-  pub redirect : (listener : ℕ) → Q (redirect listener)
-  pub no_cluster : (listener : ℕ) → Q (no_cluster listener)
-  pub no_endpoint : (listener : ℕ) → Q (no_endpoint listener)
-  pub local : (listener status : ℕ) → Q (local listener status)
-  pub served : (listener cluster : ℕ) (host : Host) → Q (served listener cluster host)
+  pub on : (listener : ℕ) (chain : Option ChainPlace) (way : Way Host) → Q (on listener chain way)
 
 module _ (Q : Answer → Type 0) (each : HoldsOfManaged Q) where
   either_answer : (test : Bool) (this that : World × Answer) → Q this.1 → Q that.1 → Q (cond test this that).1
@@ -73,6 +68,8 @@ module _ (Q : Answer → Type 0) (each : HoldsOfManaged Q) where
   timeout_answer Lds name world =
       either_answer (is_clusters world.phase || (is_some world.first_listeners || world.late_listeners)) _ _ each.ignored (each.moved _)
   timeout_answer Rds name world = name_answer Rds name world
+  timeout_answer Sds name world = name_answer Sds name world
+  timeout_answer Ecds name world = name_answer Ecds name world
 
   expire_answer : (numbers : List ℕ) (world : World) → Q (expire numbers world).1
   expire_answer [] world = each.ignored
@@ -96,21 +93,10 @@ module _ (Q : Answer → Type 0) (each : HoldsOfManaged Q) where
   managed_answer format world actor Settle is = absurd (false≢true is)
 
 module _ (Q : Answer → Type 0) (each : HoldsOfAnswers Q) where
-  served_answer : (listener cluster : ℕ) (host : Option Host) → Q (served_by listener cluster host)
-  served_answer listener cluster None = each.no_endpoint listener
-  served_answer listener cluster (Some host) = each.served listener cluster host
-
   choice_answer : (picture : Picture) (choice : Choice) → Q (answer_of picture choice)
   choice_answer picture NoListener = each.no_listener
   choice_answer picture NoChain = each.no_chain
-  choice_answer picture (Undecided listener) = each.undecided listener
-  choice_answer picture (Elsewhere listener cluster) = each.elsewhere listener cluster
-  choice_answer picture (NoRoute listener) = each.no_route listener
-  choice_answer picture (Local listener status) = each.local listener status
-  choice_answer picture (Redirect listener) = each.redirect listener
-  choice_answer picture (NoCluster listener) = each.no_cluster listener
-  choice_answer picture (NoEndpoint listener) = each.no_endpoint listener
-  choice_answer picture (Served listener cluster place) = served_answer listener cluster (host_at picture cluster place)
+  choice_answer picture (On listener chain origin course) = each.on listener chain (way_of picture course)
 
   -- the answer to an accept has it
   pub accepted_answer : (picture : Picture) (ask : Ask) (worker : ℕ) (opened : List OpenMember) → Q (accepted picture ask worker opened).answer

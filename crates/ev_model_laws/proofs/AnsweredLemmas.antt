@@ -1,5 +1,5 @@
--- Each thing that a generation waits for was answered by an entry, where the generation is answered; what has to come anew, by one
--- since it was made.
+-- Each thing that a generation waits for was answered by an entry, where the generation is answered;
+-- what has to come anew, by one since it was made.
 use Rattle.std.proofs.Common.{◌≡◌, ℕ, ◌<◌, ◌⊎◌, inl, inr, Bool, true, false, not, ◌&&◌, ◌||◌, cond, List, [], ◌∷◌, map, filter, Option, Some, None, refl, sym, ◌∙◌, ap, ap₂}
 use Rattle.std.specs.Prelude.{nat_le}
 use Rattle.std.specs.Cmp.{first_so, second_so}

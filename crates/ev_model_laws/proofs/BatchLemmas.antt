@@ -1,5 +1,5 @@
--- The order of a replay takes each actor's operations in their order: each operation that is no accept or close, with its batch
--- before it, are all.
+-- The order of a replay takes each actor's operations in their order:
+-- each operation that is no accept or close, with its batch before it, are all.
 use Rattle.std.proofs.Common.{◌≡◌, ◌⊎◌, inl, inr, ℕ, ◌<◌, Bool, true, false, not, ◌&&◌, if◌then◌else◌, List, [], ◌∷◌, ◌++◌, filter, refl, ap, sym, ◌∙◌, subst, append-nil, append_assoc}
 use Rattle.std.specs.List.{flat_map, list_any}
 use Rattle.std.specs.Cmp.{first_so, second_so}

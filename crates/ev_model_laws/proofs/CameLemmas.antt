@@ -1,18 +1,18 @@
--- What came for names was said by the control plane, timed out, or is the end of what it has said, and a version of endpoints or
--- routes is kept only of a name that was told of.
+-- What was received for names was said by the control plane, timed out, or is the end of what it has said,
+-- and a version of endpoints or routes is kept only of a name that was told of.
 use Rattle.std.proofs.Common.{◌≡◌, ℕ, ◌+◌, Bool, true, false, ◌&&◌, ◌||◌, cond, List, [], ◌∷◌, ◌++◌, take, map, filter, length, Option, Some, refl, arith, sym, ap, ap₂, ◌∙◌, subst, subst₂}
 use Rattle.std.specs.Prelude.{unwrap_or, option_map}
 use Rattle.std.specs.List.{All, Contains, AllByRecursion as ByRecursion, fold, zip}
 use Rattle.std.specs.Str.{bytes_eq}
 use Rattle.std.specs.Cmp.{first_so, second_so}
-use Rattle.std.proofs.lemmas.Bool.{false≢true, both_ways, cond_both, and_from, or_left, or_right}
+use Rattle.std.proofs.lemmas.Bool.{both_ways, cond_both, and_from, or_left, or_right, not-true}
 use Rattle.std.proofs.lemmas.List.Elements.{All-nil, All-append, All-map, All-weaker, All-filter, All-push, All-contains, All-from_recursion, recursion_from_All}
 use Rattle.ev_types.specs.Items.{ItemParts, ResponseParts}
-use Rattle.ev_types.specs.Kinds.{kind_same, kind_decides}
+use Rattle.ev_types.specs.Kinds.{kind_same, kind_decides, is_by_name}
 use Rattle.ev_types.specs.Same.{bytes_decide}
 use Rattle.ev_types.specs.Timeouts.{TimeoutParts}
 use Rattle.ev_types.specs.declared.contents.Kind.{Kind}
-use Rattle.ev_types.specs.declared.contents.Kind.TheVariants.{Cds, Eds, Lds, Rds}
+use Rattle.ev_types.specs.declared.contents.Kind.TheVariants.{Cds, Eds, Lds, Rds, Sds, Ecds}
 use Rattle.ev_types.specs.declared.contents.Body.{Body}
 use Rattle.ev_types.specs.declared.contents.Body.TheVariants.{Good, Bad, Beat}
 use Rattle.ev_types.specs.declared.contents.Request.{Request}
@@ -22,7 +22,7 @@ use Rattle.ev_types.specs.declared.events.Entry.{Entry}
 use Rattle.ev_types.specs.declared.events.Event.{Event}
 use Rattle.ev_types.specs.declared.events.Event.TheVariants.{Response, FetchTimeout}
 use Rattle.ev_types.specs.declared.events.Verdict.{Verdict}
-use Rattle.ev_types.specs.declared.events.Verdict.TheVariants.{New, Same, Kept, Unasked, Renewed, Refused}
+use Rattle.ev_types.specs.declared.events.Verdict.TheVariants.{New, InPlace, Back, Same, Kept, Unasked, Renewed, Refused}
 use Rattle.ev_types.specs.declared.journals.Format.{Format}
 use Rattle.ev_types.specs.declared.rows.Arrival.TheVariants.{Value, Absent, Bad as bad, TimedOut, Ended}
 use Rattle.ev_types.specs.declared.rows.KeptVersion.{KeptVersion}
@@ -30,13 +30,13 @@ use Rattle.ev_model.specs.World.{World, Arrived, opening}
 use Rattle.ev_model.specs.Live.{lives_of}
 use Rattle.ev_model.specs.Versions.{is_version_of, is_bounded, bounded_as, with_version}
 use Rattle.ev_model.specs.Verdicts.{is_removed, lives_left, verdicts_for}
-use Rattle.ev_model.specs.Watching.{is_by_name, is_watched}
+use Rattle.ev_model.specs.Watching.{is_watched}
 use Rattle.ev_model.specs.Warming.{is_word, is_timeout}
-use Rattle.ev_model.specs.Rows.{is_version_left, arrived, absent_names, with_absences, with_removals, version_in, keep_version, add_row, keep_value, with_content, told_of_refusal, refuse, renew, add_item, add_items, made_names, with_first}
+use Rattle.ev_model.specs.Rows.{is_version_left, arrived, absent_names, with_absences, with_removals, version_in, keep_version, add_row, keep_value, with_content, told_of_refusal, refuse, renew, add_item, add_items, made_names, with_first, add_in_place, go_back, serving_row}
 use Rattle.ev_model.specs.Tidy.{promoted, is_version_due, tidy}
 use Rattle.ev_model.specs.Signals.{no_hosts, no_routes, with_end, forget_version}
 use Rattle.ev_model.specs.Step.{step, answered}
-use Rattle.ev_model.specs.Entries.{made_rows, is_word_on, has_word_on, is_response_of, tells_of_name, times_out}
+use Rattle.ev_model.specs.Entries.{made_rows, is_word_on, has_word_on, is_response_of, tells_of_name, times_out, tells_of_removal}
 use Rattle.ev_model.specs.Laws.{Told, world_told, IsEntryAt}
 use Rattle.ev_model_laws.specs.Kept.{entries_after, was_told, was_timed, has_come_by, AreMade, ComesByEntries}
 use Rattle.ev_model_laws.proofs.TidyLists.{all_of, any_at}
@@ -44,9 +44,13 @@ use Rattle.ev_model_laws.proofs.AnyLemmas.{any_first, any_found}
 use Rattle.ev_model_laws.proofs.SinceLemmas.{after_any, after_more, after_new}
 use Rattle.ev_model_laws.proofs.VersionLemmas.{all_with}
 use Rattle.ev_model_laws.proofs.ExpiredLemmas.{passed}
-use Rattle.ev_model_laws.proofs.VerdictLemmas.{fits, judged_by, verdict_fits}
+use Rattle.ev_model_laws.proofs.VerdictLemmas.{fits, judged_by, verdict_fits, listener_not}
 use Rattle.ev_model_laws.proofs.EventLemmas.{step-leads}
 use Rattle.ev_model_laws.proofs.PlaceLemmas.{take_one, IsAnswered, world_next}
+use Rattle.ev_types.specs.declared.origins.KeptChain.{KeptChain}
+use Rattle.ev_model.specs.Origins.{kept_from}
+use Rattle.ev_model_laws.proofs.KeepLemmas.{with_content-holds}
+use Rattle.ev_types.specs.declared.contents.Content.{Content}
 
 -- it is one of endpoints or routes of a name that was reported, or one of clusters or listeners
 abbrev IsVersionTold : List Entry → KeptVersion → Type 0
@@ -90,7 +94,7 @@ module _ (entries : List Entry) where
     versions = All-filter (is_version_due (lives_of (promoted world))) (IsVersionTold entries) world.versions come.versions;
   }
 
-  -- what a response does, whose words and removals the entries have told when so many numbers were drawn
+  -- what a response does, whose words and removals the entries have told when so many numbers were allocated
   module _ (made : ℕ) (kind : Kind) (told : List ℕ → Bool)
       (so : (name : List ℕ) → told name ≡ true → was_told (entries_after made entries) kind name ≡ true) where
     told_of : (name : List ℕ) → told name ≡ true → was_told entries kind name ≡ true
@@ -121,19 +125,20 @@ module _ (entries : List Entry) where
           versions = All-filter (is_version_left kind response) (IsVersionTold entries) world.versions come.versions;
         }
 
-    new_come : (item : ItemParts) (body : Body) (world : World) → is_by_name kind ≡ false → ComesByEntries world entries
-        → ComesByEntries (with_content (add_row kind item) body world) entries
-    new_come item (Good content) world isnt come =
+    row_come : (item : ItemParts) (content : Content) (chains : List KeptChain) (world : World) → is_by_name kind ≡ false → ComesByEntries world entries
+        → ComesByEntries (add_row kind item content chains world) entries
+    row_come item content chains world isnt come =
         version_told (version_in kind item) _ (λ is. absurd (both_ways (is_by_name kind) isnt is)) (record { arrivals = come.arrivals; versions = come.versions })
-    new_come item (Bad rule) world isnt come = come
-    new_come item Beat world isnt come = come
 
-    same_come : (item : ItemParts) (body : Body) (world : World) → is_by_name kind ≡ false → ComesByEntries world entries
-        → ComesByEntries (with_content (λ content. keep_version kind item) body world) entries
-    same_come item (Good content) world isnt come =
+    back_come : (item : ItemParts) (world : World) → is_by_name kind ≡ false → ComesByEntries world entries
+        → ComesByEntries (go_back kind item world) entries
+    back_come item world isnt come =
+        version_told (version_in kind item) _ (λ is. absurd (both_ways (is_by_name kind) isnt is)) (record { arrivals = come.arrivals; versions = come.versions })
+
+    same_come : (item : ItemParts) (world : World) → is_by_name kind ≡ false → ComesByEntries world entries
+        → ComesByEntries (keep_version kind item world) entries
+    same_come item world isnt come =
         version_told (version_in kind item) world (λ is. absurd (both_ways (is_by_name kind) isnt is)) come
-    same_come item (Bad rule) world isnt come = come
-    same_come item Beat world isnt come = come
 
     value_come : (item : ItemParts) (body : Body) (world : World) → world.made ≡ made → told item.name ≡ true → ComesByEntries world entries
         → ComesByEntries (with_content (keep_value kind item) body world) entries
@@ -153,40 +158,14 @@ module _ (entries : List Entry) where
         (λ (w : World). ComesByEntries w entries)
         (λ watched. one_came (arrived world.made kind bad name) world (told_at world.made same name is) come) (λ unwatched. come)
 
+-- a kind that makes generations isn't asked for by name
 pub by_name_not : (kind : Kind) → fits kind New ≡ true → is_by_name kind ≡ false
-by_name_not Cds fit = refl
-by_name_not Eds fit = absurd (false≢true fit)
-by_name_not Lds fit = refl
-by_name_not Rds fit = absurd (false≢true fit)
-
-pub by_name_not_same : (kind : Kind) → fits kind Same ≡ true → is_by_name kind ≡ false
-by_name_not_same Cds fit = refl
-by_name_not_same Eds fit = absurd (false≢true fit)
-by_name_not_same Lds fit = refl
-by_name_not_same Rds fit = absurd (false≢true fit)
-
-pub by_name_kept : (kind : Kind) → fits kind Kept ≡ true → is_by_name kind ≡ true
-by_name_kept Cds fit = absurd (false≢true fit)
-by_name_kept Eds fit = refl
-by_name_kept Lds fit = absurd (false≢true fit)
-by_name_kept Rds fit = refl
+by_name_not kind fit = not-true (is_by_name kind) fit
 
 own_name : (name : List ℕ) → bytes_eq name name ≡ true
 own_name name = (bytes_decide name name).1 refl
 
 -- a response of endpoints or routes draws no number
-same_drawn : (kind : Kind) (item : ItemParts) (body : Body) (world : World)
-    → (with_content (λ content. keep_version kind item) body world).made ≡ world.made
-same_drawn kind item (Good content) world = refl
-same_drawn kind item (Bad rule) world = refl
-same_drawn kind item Beat world = refl
-
-value_drawn : (kind : Kind) (item : ItemParts) (body : Body) (world : World)
-    → (with_content (keep_value kind item) body world).made ≡ world.made
-value_drawn kind item (Good content) world = refl
-value_drawn kind item (Bad rule) world = refl
-value_drawn kind item Beat world = refl
-
 told_drawn : (kind : Kind) (name : List ℕ) (world : World) → (told_of_refusal kind name world).made ≡ world.made
 told_drawn kind name world =
     cond_both (is_watched (lives_of world) kind name)
@@ -198,12 +177,17 @@ refuse_drawn Cds name world = refl
 refuse_drawn Eds name world = told_drawn Eds name world
 refuse_drawn Lds name world = refl
 refuse_drawn Rds name world = told_drawn Rds name world
+refuse_drawn Sds name world = told_drawn Sds name world
+refuse_drawn Ecds name world = told_drawn Ecds name world
 
 pub item_drawn : (kind : Kind) (verdict : Verdict) (item : ItemParts) (world : World) → fits kind verdict ≡ true → is_by_name kind ≡ true
     → (add_item kind verdict item world).made ≡ world.made
 item_drawn kind New item world fit by_name = absurd (both_ways (is_by_name kind) (by_name_not kind fit) by_name)
-item_drawn kind Same item world fit by_name = same_drawn kind item item.body world
-item_drawn kind Kept item world fit by_name = value_drawn kind item item.body world
+item_drawn kind InPlace item world fit by_name = absurd (both_ways (is_by_name kind) (listener_not kind fit) by_name)
+item_drawn kind Back item world fit by_name = absurd (both_ways (is_by_name kind) (listener_not kind fit) by_name)
+item_drawn kind Same item world fit by_name = absurd (both_ways (is_by_name kind) (by_name_not kind fit) by_name)
+item_drawn kind Kept item world fit by_name =
+    with_content-holds (λ (w : World). w.made ≡ world.made) (keep_value kind item) item.body world (λ content. refl) refl
 item_drawn kind Unasked item world fit by_name = refl
 item_drawn kind Renewed item world fit by_name = refl
 item_drawn kind (Refused rule) item world fit by_name = refuse_drawn kind item.name world
@@ -213,6 +197,8 @@ removals_drawn Cds response world = refl
 removals_drawn Eds response world = refl
 removals_drawn Lds response world = refl
 removals_drawn Rds response world = refl
+removals_drawn Sds response world = refl
+removals_drawn Ecds response world = refl
 
 module _ (entries : List Entry) (made : ℕ) (kind : Kind) (told : List ℕ → Bool)
     (so : (name : List ℕ) → told name ≡ true → was_told (entries_after made entries) kind name ≡ true) where
@@ -228,15 +214,35 @@ module _ (entries : List Entry) (made : ℕ) (kind : Kind) (told : List ℕ → 
       refusal_come entries made Rds told
       (λ n t. subst (λ (k : Kind). was_told (entries_after made entries) k n ≡ true) is (so n t)) name world
       (same (ap is_by_name is)) h come
+  refuse_come Sds is name world same h come =
+      refusal_come entries made Sds told
+      (λ n t. subst (λ (k : Kind). was_told (entries_after made entries) k n ≡ true) is (so n t)) name world
+      (same (ap is_by_name is)) h come
+  refuse_come Ecds is name world same h come =
+      refusal_come entries made Ecds told
+      (λ n t. subst (λ (k : Kind). was_told (entries_after made entries) k n ≡ true) is (so n t)) name world
+      (same (ap is_by_name is)) h come
 
   item_come : (verdict : Verdict) (item : ItemParts) (world : World) → (is_by_name kind ≡ true → world.made ≡ made)
       → fits kind verdict ≡ true
       → ((name : List ℕ) → is_word_on name verdict item ≡ true → told name ≡ true)
       → ComesByEntries world entries → ComesByEntries (add_item kind verdict item world) entries
-  item_come New item world same fit word come = new_come entries made kind told so item item.body world (by_name_not kind fit) come
-  item_come Same item world same fit word come = same_come entries made kind told so item item.body world (by_name_not_same kind fit) come
+  item_come New item world same fit word come =
+      with_content-holds (λ (w : World). ComesByEntries w entries) (λ content. add_row kind item content []) item.body world
+      (λ content. row_come entries made kind told so item content [] world (by_name_not kind fit) come) come
+  item_come InPlace item world same fit word come =
+      with_content-holds (λ (w : World). ComesByEntries w entries) (add_in_place kind item) item.body world
+      (λ content.
+      row_come entries made kind told so item content (kept_from (serving_row kind item.name world.rows) content) world (listener_not kind fit) come)
+      come
+  item_come Back item world same fit word come =
+      with_content-holds (λ (w : World). ComesByEntries w entries) (λ content. go_back kind item) item.body world
+      (λ content. back_come entries made kind told so item world (listener_not kind fit) come) come
+  item_come Same item world same fit word come =
+      with_content-holds (λ (w : World). ComesByEntries w entries) (λ content. keep_version kind item) item.body world
+      (λ content. same_come entries made kind told so item world (by_name_not kind fit) come) come
   item_come Kept item world same fit word come =
-      value_come entries made kind told so item item.body world (same (by_name_kept kind fit)) (word item.name (own_name item.name)) come
+      value_come entries made kind told so item item.body world (same fit) (word item.name (own_name item.name)) come
   item_come Unasked item world same fit word come = come
   item_come Renewed item world same fit word come = versions_renewed entries kind item.name world come
   item_come (Refused rule) item world same fit word come =
@@ -255,7 +261,7 @@ module _ (entries : List Entry) (made : ℕ) (kind : Kind) (told : List ℕ → 
 
 removals_come : (entries : List Entry) (kind : Kind) (told : List ℕ → Bool) (response : ResponseParts) (world : World)
     → ((name : List ℕ) → told name ≡ true → was_told (entries_after world.made entries) kind name ≡ true)
-    → ((name : List ℕ) → is_removed response name ≡ true → told name ≡ true)
+    → ((name : List ℕ) → tells_of_removal kind name response ≡ true → told name ≡ true)
     → ComesByEntries world entries → ComesByEntries (with_removals kind response world) entries
 removals_come entries Cds told response world so removed come =
     record { arrivals = come.arrivals; versions = All-filter (is_version_left Cds response) (IsVersionTold entries) world.versions come.versions }
@@ -263,6 +269,9 @@ removals_come entries Eds told response world so removed come = absent_come entr
 removals_come entries Lds told response world so removed come =
     record { arrivals = come.arrivals; versions = All-filter (is_version_left Lds response) (IsVersionTold entries) world.versions come.versions }
 removals_come entries Rds told response world so removed come = absent_come entries world.made Rds told so response world refl removed come
+removals_come entries Sds told response world so removed come =
+    record { arrivals = come.arrivals; versions = All-filter (is_version_left Sds response) (IsVersionTold entries) world.versions come.versions }
+removals_come entries Ecds told response world so removed come = absent_come entries world.made Ecds told so response world refl removed come
 
 first_come : (entries : List Entry) (kind : Kind) (names : List (List ℕ)) (world : World) → ComesByEntries world entries
     → ComesByEntries (with_first kind names world) entries
@@ -270,25 +279,27 @@ first_come entries Cds names world come = record { arrivals = come.arrivals; ver
 first_come entries Eds names world come = come
 first_come entries Lds names world come = record { arrivals = come.arrivals; versions = come.versions }
 first_come entries Rds names world come = come
+first_come entries Sds names world come = come
+first_come entries Ecds names world come = come
 
--- a name that a response has a word on, or removes
-abbrev tells : ResponseParts → List Verdict → List ℕ → Bool
-tells response verdicts name = has_word_on name verdicts response.items || is_removed response name
+-- a name that a response of this kind has a word on, or says to be removed
+abbrev tells : Kind → ResponseParts → List Verdict → List ℕ → Bool
+tells kind response verdicts name = has_word_on name verdicts response.items || tells_of_removal kind name response
 
 answered_come : (entries : List Entry) (kind : Kind) (response : ResponseParts) (world : World)
-    → ((name : List ℕ) → tells response (verdicts_for kind (lives_of world) world.versions response) name ≡ true
+    → ((name : List ℕ) → tells kind response (verdicts_for kind (lives_of world) world.versions response) name ≡ true
     → was_told (entries_after world.made entries) kind name ≡ true)
     → ComesByEntries world entries
     → ComesByEntries (answered kind response (verdicts_for kind (lives_of world) world.versions response) world).0 entries
 answered_come entries kind response world so come =
     let verdicts : List Verdict = verdicts_for kind (lives_of world) world.versions response in
     let judged : List (Verdict × ItemParts) = zip verdicts response.items in
-    let told : List ℕ → Bool = tells response verdicts in
+    let told : List ℕ → Bool = tells kind response verdicts in
     let left : World = with_removals kind response world in
     let words : All (λ (one : Verdict × ItemParts). (name : List ℕ) → is_word_on name one.0 one.1 ≡ true → told name ≡ true) judged =
     all_of (λ (one : Verdict × ItemParts). (name : List ℕ) → is_word_on name one.0 one.1 ≡ true → told name ≡ true) judged
     (λ (one : Verdict × ItemParts) there name is.
-    or_left (has_word_on name verdicts response.items) (is_removed response name)
+    or_left (has_word_on name verdicts response.items) (tells_of_removal kind name response)
     (any_at (λ (other : Verdict × ItemParts). is_word_on name other.0 other.1) judged one there is)) in
     tidied_come entries (with_first kind (made_names verdicts response.items) (add_items kind verdicts response.items left))
     (first_come entries kind (made_names verdicts response.items) (add_items kind verdicts response.items left)
@@ -296,7 +307,7 @@ answered_come entries kind response world so come =
     (judged_by (λ (one : Verdict × ItemParts). fits kind one.0 ≡ true) kind response world.versions
     (λ lives (item : ItemParts). verdict_fits kind response lives world.versions item) (lives_left kind response (lives_of world)) response.items)
     (recursion_from_All (λ (one : Verdict × ItemParts). (name : List ℕ) → is_word_on name one.0 one.1 ≡ true → told name ≡ true) judged words)
-    (removals_come entries kind told response world so (λ name is. or_right (has_word_on name verdicts response.items) (is_removed response name) is) come)))
+    (removals_come entries kind told response world so (λ name is. or_right (has_word_on name verdicts response.items) (tells_of_removal kind name response) is) come)))
 
 -- a bounded life is that of a version that is kept, so its name was reported
 bounded_told : (entries : List Entry) (kind : Kind) (name : List ℕ) (world : World) → is_by_name kind ≡ true → is_bounded world.versions kind name ≡ true
@@ -317,6 +328,8 @@ end_come entries Cds name world told come = record { arrivals = come.arrivals; v
 end_come entries Eds name world told come = one_came entries (arrived world.made Eds (Ended no_hosts) name) world (told refl) come
 end_come entries Lds name world told come = record { arrivals = come.arrivals; versions = come.versions }
 end_come entries Rds name world told come = one_came entries (arrived world.made Rds (Ended no_routes) name) world (told refl) come
+end_come entries Sds name world told come = come
+end_come entries Ecds name world told come = come
 
 own_kind : (kind : Kind) (response : ResponseParts) → response.kind ≡ Some kind → is_response_of kind response ≡ true
 own_kind kind response typed =
@@ -360,14 +373,14 @@ module _ (before : List Entry) (entry : Entry) (format : Format) (world : World)
   ComesBy did = ComesByEntries did.0 (with_answer did.1)
 
   told_now : (kind : Kind) (response : ResponseParts) (requests : List Request) (verdicts : List Verdict) (name : List ℕ) → entry.event ≡ Response response
-      → response.kind ≡ Some kind → tells response verdicts name ≡ true
+      → response.kind ≡ Some kind → tells kind response verdicts name ≡ true
       → was_told (entries_after world.made (with_answer (Replied requests verdicts))) kind name ≡ true
   told_now kind response requests verdicts name is typed told =
       after_new (λ (e : Entry). tells_of_name kind name e.event e.answer) world.made before
       (record entry { answer = Replied requests verdicts })
       (omega (arith, drawn))
       (ap (λ (e : Event). tells_of_name kind name e (Replied requests verdicts)) is
-      ∙ and_from (is_response_of kind response) (tells response verdicts name) (own_kind kind response typed) told)
+      ∙ and_from (is_response_of kind response) (tells kind response verdicts name) (own_kind kind response typed) told)
 
   timed_now : (timeout : TimeoutParts) (name : List ℕ) (requests : List Request) → entry.event ≡ FetchTimeout timeout → timeout.name ≡ Some name
       → was_timed (entries_after world.made (with_answer (Moved requests))) timeout.kind name ≡ true

@@ -1,4 +1,5 @@
--- Numbers that were drawn: those of rows rise, those that pictures show were drawn, and one that was reaped is no row's again.
+-- Numbers that were allocated: those of rows rise, those that pictures show were allocated,
+-- and one that was reaped is no row's again.
 use Rattle.std.proofs.Common.{◌≡◌, ℕ, ◌<◌, ◌≤◌, ◌+◌, Bool, true, false, not, ◌==◌, cond, List, [], ◌∷◌, ◌++◌, length, map, filter, refl, sym, ◌∙◌, arith}
 use Rattle.std.specs.Cmp.{first_so}
 use Rattle.std.specs.List.{list_any, flat_map}
@@ -97,7 +98,7 @@ away goes number low (row ∷ rows) high rise h =
     (λ here. let same : row.number ≡ number = (numbers_decide row.number number).0 here in omega (arith, more.0, same)))
     h
 
--- the number was drawn, and is no row's
+-- the number was allocated, and is no row's
 abbrev pub IsAway : ℕ → World → Type 0
 IsAway number world = (number ≤ world.made) × (list_any (is_numbered number) world.rows ≡ false)
 
@@ -106,7 +107,7 @@ pub statuses_numbered : (number : ℕ) (status_of : GenRow → RowStatus) (rows 
     → list_any (is_numbered number) (with_statuses status_of rows) ≡ list_any (is_numbered number) rows
 statuses_numbered number status_of rows = any_mapped (is_numbered number) (λ (row : GenRow). record row { status = status_of row }) rows
 
--- the next number is none of those that were drawn
+-- the next number is none of those that were allocated
 pub next_apart : (number made : ℕ) → number ≤ made → (made + 1 == number) ≡ false
 next_apart number made le =
     false_from_ne_true (made + 1 == number)
@@ -115,9 +116,9 @@ next_apart number made le =
 keeps_away : (number : ℕ) → Keeps (λ rows made (phase : Phase). (number ≤ made) × (list_any (is_numbered number) rows ≡ false))
 keeps_away number = record {
   removed = λ goes rows made phase fact. (fact.0, statuses_numbered number (removed_where goes) rows ∙ fact.1);
-  added = λ kind name content rows made phase fact. (
+  added = λ kind name content kept rows made phase fact. (
     omega (arith, fact.0),
-    list_any-append (is_numbered number) (with_statuses (replaced_status kind name) rows) (new_row kind made name content ∷ [])
+    list_any-append (is_numbered number) (with_statuses (replaced_status kind name) rows) (new_row kind made name content kept ∷ [])
         ∙ or_from _ _ (statuses_numbered number (replaced_status kind name) rows ∙ fact.1)
         (or_from (made + 1 == number) false (next_apart number made fact.0) refl),
   );
@@ -126,19 +127,19 @@ keeps_away number = record {
       (fact.0, statuses_numbered number (promoted_status world.arrivals world.results world.rows) world.rows ∙ fact.1);
 }
 
--- a number that was drawn, and is no row's, stays no row's
+-- a number that was allocated, and is no row's, stays no row's
 pub stays_away : (format : Format) (world : World) (actor : Actor) (event : Event) (number : ℕ)
     → IsAway number world → IsAway number (step format world actor event).0
 stays_away format world actor event number fact = step-keeps _ (keeps_away number) format world actor event fact
 
--- the numbers that pictures show were drawn
+-- the numbers that pictures show were allocated
 abbrev pub ShowsDrawn : World → Type 0
 ShowsDrawn world = (number : ℕ) → has_number number (numbers_published world) ≡ true → number ≤ world.made
 
 keeps_shown : KeepsTidied (λ rows made phase versions seen. (number : ℕ) → has_number number (flat_map numbers_shown seen.pictures) ≡ true → number ≤ made) ShowsDrawn
 keeps_shown = record {
   removed = λ goes rows made phase versions seen drawn. drawn;
-  added = λ kind name content rows made phase versions seen drawn number h. omega (arith, drawn number h);
+  added = λ kind name content kept rows made phase versions seen drawn number h. omega (arith, drawn number h);
   version_added = λ new rows made phase versions seen drawn. drawn;
   version_renewed = λ kind name rows made phase versions seen drawn. drawn;
   versions_left = λ test rows made phase versions seen drawn. drawn;
@@ -190,14 +191,7 @@ answers_reap = record {
   not_open = λ number. refl;
   no_listener = λ number. refl;
   no_chain = λ number. refl;
-  undecided = λ listener number. refl;
-  elsewhere = λ listener cluster number. refl;
-  no_route = λ listener number. refl;
-  redirect = λ listener number. refl;
-  no_cluster = λ listener number. refl;
-  no_endpoint = λ listener number. refl;
-  local = λ listener status number. refl;
-  served = λ listener cluster host number. refl;
+  on = λ listener chain way number. refl;
 }
 
 -- what is named by a reaping is gone after it
@@ -216,7 +210,7 @@ reaped_away format world rise number h =
       away (is_dead format world) number 0 world.rows world.made rise among,
     )
 
--- what an event reaps was drawn, and is no row's after it
+-- what an event reaps was allocated, and is no row's after it
 pub step-reaped : (format : Format) (world : World) (actor : Actor) (event : Event) → IsNumbered world → AreAway (step format world actor event)
 step-reaped format world actor event rise = step-holds AreAway format world actor event (record {
   ignored = away_of_none (world, Ignored) (λ number. refl);
@@ -240,7 +234,7 @@ opens_drawn workers node = record {
   away = λ number h. absurd (false≢true h);
 }
 
--- an event keeps that numbers are drawn once, with those that it reaps
+-- an event keeps that numbers are allocated once, with those that it reaps
 pub step-drawn : (format : Format) (world : World) (actor : Actor) (event : Event) (gone : List ℕ)
     → DrawnOnce world gone → DrawnOnce (step format world actor event).0 (gone ++ numbers_reaped (step format world actor event).1)
 step-drawn format world actor event gone drawn =

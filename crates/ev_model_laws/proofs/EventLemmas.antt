@@ -1,11 +1,12 @@
--- What each event leads to: the world as it was, or one that is tidied, or what publications, reapings and workers make of it.
+-- What each event leads to: the world as it was, or one that is tidied, or what publications,
+-- reapings and workers make of it.
 use Rattle.std.proofs.Common.{◌≡◌, ℕ, ◌||◌, Bool, true, false, List, [], ◌∷◌, ◌++◌, length, Option, Some, None, refl, sym, ap, subst}
 use Rattle.std.specs.Prelude.{is_some}
 use Rattle.std.proofs.lemmas.Bool.{cond_both}
 use Rattle.ev_types.specs.Items.{ResponseParts}
 use Rattle.ev_types.specs.Timeouts.{TimeoutParts}
 use Rattle.ev_types.specs.declared.contents.Kind.{Kind}
-use Rattle.ev_types.specs.declared.contents.Kind.TheVariants.{Cds, Eds, Lds, Rds}
+use Rattle.ev_types.specs.declared.contents.Kind.TheVariants.{Cds, Eds, Lds, Rds, Sds, Ecds}
 use Rattle.ev_types.specs.declared.hosts.Host.{Host}
 use Rattle.ev_types.specs.declared.rows.Arrival.TheVariants.{TimedOut}
 use Rattle.ev_types.specs.declared.rows.GenRow.{GenRow}
@@ -93,6 +94,8 @@ module _ (Q : World × Answer → Type 0) (format : Format) (world : World) (act
       (moved world (record world { late_listeners = true })) Q
       (λ came. each.ignored) (λ awaited. each.listeners_late timeout refl)
   timeout_leads timeout Rds of each = name_leads timeout Rds timeout.name of refl each
+  timeout_leads timeout Sds of each = name_leads timeout Sds timeout.name of refl each
+  timeout_leads timeout Ecds of each = name_leads timeout Ecds timeout.name of refl each
 
   expire_leads : (name : List ℕ) (numbers : List ℕ) → LeadsEach Q format world actor (DrainTimeout name) → Q (expire numbers world)
   expire_leads name [] each = each.ignored

@@ -81,8 +81,8 @@ keeps_drained : (number : ℕ) (name : List ℕ) → KeepsTidied (λ rows made p
 keeps_drained number name = record {
   removed = λ goes rows made phase versions seen drains.
       drained_with number name (removed_where goes) rows (λ row. removed_drains (goes row) row.status) drains;
-  added = λ kind other content rows made phase versions seen drains.
-      any_first (drains_as number name) (with_statuses (replaced_status kind other) rows) (new_row kind made other content ∷ [])
+  added = λ kind other content kept rows made phase versions seen drains.
+      any_first (drains_as number name) (with_statuses (replaced_status kind other) rows) (new_row kind made other content kept ∷ [])
       (drained_with number name (replaced_status kind other) rows (λ row. replaced_drains (is_row_of kind other row) row.status) drains);
   version_added = λ new rows made phase versions seen drains. drains;
   version_renewed = λ kind other rows made phase versions seen drains. drains;

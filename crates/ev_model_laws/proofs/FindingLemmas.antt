@@ -1,4 +1,5 @@
--- Why rows are found legal exactly where they are those of a run that holds each actor's operations in order. Place by place:
+-- Why rows are found legal exactly where they are those of a run that holds each actor's operations
+-- in order. Place by place:
 -- a row of which nothing is found makes the journal so far one entry longer, and of the rows of a run nothing is found.
 use Rattle.std.proofs.Common.{◌≡◌, ◌⊎◌, inl, inr, ℕ, ◌+◌, Bool, true, false, ◌||◌, if◌then◌else◌, List, [], ◌∷◌, ◌++◌, map, length, take, Option, Some, None, refl, ap, sym, ◌∙◌, subst, append-nil, append_assoc, length-append}
 use Rattle.std.specs.Prelude.{filter_map, option_and_then, slice_get, unwrap_or}

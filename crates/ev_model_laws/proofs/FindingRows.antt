@@ -240,7 +240,8 @@ breaks_none None entry entries follows = refl
 breaks_none (Some before) entry entries follows =
     breaks_by (is_batched before.event) (actor_same entry.actor before.actor) (λ h. (actor_decides entry.actor before.actor).1 (follows h))
 
--- what is left of a run after these entries: it goes on as the machine does, and each actor's deeds are done of what is left
+-- what is left of a run after these entries: it goes on as the machine does,
+-- and each actor's deeds are done of what is left
 pub record IsAhead (format : Format) (script : ScriptParts) (before after : List Entry) : Type 0 where
   pub run : RunsFrom format script.workers (world_after format (start script) before) after
   pub follows : Follows (last_or None before) after

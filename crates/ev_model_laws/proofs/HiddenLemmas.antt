@@ -15,14 +15,14 @@ use Rattle.ev_types.specs.declared.journals.Format.{Format}
 use Rattle.ev_types.specs.declared.rows.GenRow.{GenRow}
 use Rattle.ev_types.specs.declared.rows.RowStatus.{RowStatus}
 use Rattle.ev_model.specs.declared.pictures.Shown.{Shown}
-use Rattle.ev_model.specs.World.{World, OpenMember, nothing_shown, opening}
+use Rattle.ev_model.specs.World.{World, OpenMember, nothing_shown, opening, last_version}
 use Rattle.ev_model.specs.Rows.{is_row_of, with_statuses, replaced_status, new_row}
 use Rattle.ev_model.specs.Tidy.{has_successor, promoted_status}
 use Rattle.ev_model.specs.Warming.{is_ready_by}
 use Rattle.ev_model.specs.Picture.{has_number, is_shown, numbers_shown, shown_of}
-use Rattle.ev_model.specs.Dead.{picture_held, version_held, is_open_on, is_in_use_by}
+use Rattle.ev_model.specs.Dead.{picture_held, version_held, is_open_on, is_in_use_by, last_picture}
 use Rattle.ev_model.specs.Choice.{choice_of}
-use Rattle.ev_model.specs.Connections.{Worked, is_member, is_open, members_of, opened_by, is_closing, accept, close, settle}
+use Rattle.ev_model.specs.Connections.{Worked, is_member, is_open, members_of, opened_by, accept, close, settle}
 use Rattle.ev_model.specs.Publishing.{without_dead}
 use Rattle.ev_model.specs.Step.{step}
 use Rattle.ev_model_laws.specs.Numbers.{RiseWithin, IsNumbered}
@@ -34,6 +34,7 @@ use Rattle.ev_model_laws.proofs.PictureLemmas.{serves_numbered, shown_serves}
 use Rattle.ev_model_laws.proofs.MemberLemmas.{removed_served, replaced_served, promoted_served, active_served}
 use Rattle.ev_model_laws.proofs.NumberLemmas.{numbers}
 use Rattle.ev_model_laws.proofs.DrawnLemmas.{is_numbered, numbered_within, none_numbered, none_left, none_so, next_apart, ShowsDrawn, published_with}
+use Rattle.ev_model_laws.proofs.MoveLemmas.{moved_on_shown}
 
 pub unserved_back : (before after : Bool) → (before ≡ true → after ≡ true) → not after ≡ true → not before ≡ true
 unserved_back true after keeps h = absurd (false≢true (sym (ap not (keeps refl)) ∙ h))
@@ -81,7 +82,7 @@ serves_alone number low (row ∷ rows) high rise h =
 abbrev sees : Seen → ℕ → Bool
 sees seen number = is_in_use_by (flat_map numbers_shown seen.pictures) seen.opened number
 
--- what is seen was drawn, and has served
+-- what is seen was allocated, and has served
 abbrev SeesServed : World → Type 0
 SeesServed world = (number : ℕ) → is_seen world number ≡ true → (number ≤ world.made) × (list_any (is_unserved_as number) world.rows ≡ false)
 
@@ -92,9 +93,9 @@ keeps_hidden = record {
     (served number h).0,
     unserved_with number (removed_where goes) rows (λ row. removed_served (goes row) row.status) (served number h).1,
   );
-  added = λ kind name content rows made phase versions seen served number h. (
+  added = λ kind name content kept rows made phase versions seen served number h. (
     omega (arith, (served number h).0),
-    list_any-append (is_unserved_as number) (with_statuses (replaced_status kind name) rows) (new_row kind made name content ∷ [])
+    list_any-append (is_unserved_as number) (with_statuses (replaced_status kind name) rows) (new_row kind made name content kept ∷ [])
         ∙ or_from _ _
         (unserved_with number (replaced_status kind name) rows (λ row. replaced_served (is_row_of kind name row) row.status) (served number h).1)
         (or_from ((made + 1 == number) && true) false (and_left (made + 1 == number) true (next_apart number made (served number h).0)) refl),
@@ -174,7 +175,11 @@ module _ (world : World) (served : SeesServed world) where
   settled_hides : (worker : ℕ) → SeesServed (settle worker world).0
   settled_hides worker number seen =
       or_so (has_number number (numbers_published world)) _ (shown_is_served number)
-      (λ is_still. open_is_served number (any_left (is_open_on number) (λ (m : OpenMember). not (is_closing world.expired worker m)) world.opened is_still))
+      (λ is_still.
+      or_so (list_any (is_open_on number) world.opened) (is_shown number (last_picture world).shown) (open_is_served number)
+      (λ last. shown_is_served number
+      (any_flat (λ n. n == number) numbers_shown world.pictures ∙ shown_among number world.pictures (last_version world) last))
+      (moved_on_shown (last_picture world).shown world.expired worker number world.opened is_still))
       seen
 
 step-sees : (format : Format) (world : World) (actor : Actor) (event : Event) → IsNumbered world
@@ -188,7 +193,7 @@ step-sees format world actor event rise served = step-each SeesServed format wor
   settled = λ worker is. settled_hides world served worker;
 })
 
--- what is seen was drawn: by what pictures show, and since what is in use is a row's
+-- what is seen was allocated: by what pictures show, and since what is in use is a row's
 seen_drawn : (world : World) → IsNumbered world → ShowsDrawn world → UsesServed world
     → (number : ℕ) → is_seen world number ≡ true → number ≤ world.made
 seen_drawn world rise drawn uses number seen =
@@ -203,7 +208,7 @@ seen_drawn world rise drawn uses number seen =
 pub opens_hidden : (workers : ℕ) (node : List ℕ) → HidesUnserved (opening workers node)
 opens_hidden workers node number seen = refl
 
--- an event keeps it, where what is in use has served and numbers are drawn once
+-- an event keeps it, where what is in use has served and numbers are allocated once
 pub step-hidden : (format : Format) (world : World) (actor : Actor) (event : Event) (gone : List ℕ) → DrawnOnce world gone → UsesServed world
     → HidesUnserved world → HidesUnserved (step format world actor event).0
 step-hidden format world actor event gone drawn uses hides number seen =

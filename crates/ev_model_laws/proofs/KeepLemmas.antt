@@ -1,11 +1,11 @@
 -- What no part of a step breaks holds after a step.
-use Rattle.std.proofs.Common.{◌≡◌, refl, ℕ, ◌+◌, Bool, true, false, ◌&&◌, cond, List, [], ◌∷◌, ◌++◌, filter, Option, Some, None}
+use Rattle.std.proofs.Common.{◌≡◌, refl, ℕ, ◌+◌, Bool, true, false, ◌&&◌, cond, List, [], ◌∷◌, ◌++◌, filter, Option, Some, None, subst, ap₂}
 use Rattle.std.specs.List.{fold, zip}
 use Rattle.std.proofs.lemmas.Bool.{false≢true}
 use Rattle.ev_types.specs.Items.{ItemParts, ResponseParts}
 use Rattle.ev_types.specs.Kinds.{kind_same}
 use Rattle.ev_types.specs.declared.contents.Kind.{Kind}
-use Rattle.ev_types.specs.declared.contents.Kind.TheVariants.{Cds, Eds, Lds, Rds}
+use Rattle.ev_types.specs.declared.contents.Kind.TheVariants.{Cds, Eds, Lds, Rds, Sds, Ecds}
 use Rattle.ev_types.specs.declared.contents.Content.{Content}
 use Rattle.ev_types.specs.declared.contents.Body.{Body}
 use Rattle.ev_types.specs.declared.contents.Body.TheVariants.{Good, Bad, Beat}
@@ -20,7 +20,7 @@ use Rattle.ev_types.specs.declared.events.Answer.{Answer}
 use Rattle.ev_types.specs.declared.events.Answer.TheVariants.{Ignored}
 use Rattle.ev_types.specs.declared.events.Ask.{Ask}
 use Rattle.ev_types.specs.declared.events.Verdict.{Verdict}
-use Rattle.ev_types.specs.declared.events.Verdict.TheVariants.{New, Same, Kept, Unasked, Renewed, Refused}
+use Rattle.ev_types.specs.declared.events.Verdict.TheVariants.{New, InPlace, Back, Same, Kept, Unasked, Renewed, Refused}
 use Rattle.ev_types.specs.declared.events.Actor.{Actor}
 use Rattle.ev_types.specs.declared.events.Actor.TheVariants.{Stream, Health as health_checker, Timer, Main, Worker}
 use Rattle.ev_types.specs.declared.events.Event.{Event}
@@ -31,16 +31,20 @@ use Rattle.ev_model.specs.World.{World, OpenMember}
 use Rattle.ev_model.specs.Live.{lives_of}
 use Rattle.ev_model.specs.Verdicts.{verdicts_of, is_removed}
 use Rattle.ev_model.specs.Versions.{with_version, renewed}
-use Rattle.ev_model.specs.Rows.{with_statuses, removed_status, is_row_of, arrived, status_left, is_version_left, without_rows, with_removals, rows_with_new, add_row, keep_version, keep_value, with_content, told_of_refusal, refuse, renew, add_item, add_items, made_names, with_first}
+use Rattle.ev_model.specs.Rows.{with_statuses, removed_status, is_row_of, arrived, status_left, is_version_left, without_rows, with_removals, rows_with_new, add_row, keep_version, keep_value, with_content, told_of_refusal, refuse, renew, add_item, add_items, made_names, with_first, rows_replaced, add_in_place, go_back, serving_row}
 use Rattle.ev_model.specs.Tidy.{tidy}
 use Rattle.ev_model.specs.Signals.{with_results, health_of, rows_meant, fetch_timeout, name_timeout_of, expire, unexpired, rows_ended, with_end, forget_version, ttl_expired}
 use Rattle.ev_model.specs.Publishing.{publish, reap}
 use Rattle.ev_model.specs.Connections.{accept, close, settle}
 use Rattle.ev_model.specs.Step.{step, connect, disconnect, responded, respond_by, respond, of_worker}
 use Rattle.ev_model.specs.Runs.{world_after}
+use Rattle.ev_types.specs.declared.origins.KeptChain.{KeptChain}
+use Rattle.ev_types.specs.Statuses.{is_warming}
+use Rattle.ev_types.specs.declared.rows.RowStatus.TheVariants.{Warming, Active, Draining, Dropped}
+use Rattle.ev_model.specs.Origins.{kept_from}
 
--- what workers see and do: the pictures, the versions that they hold, the connections that are open, and the listeners whose
--- drain timeout came
+-- what workers see and do: the pictures, the versions that they hold,
+-- the connections that are open, and the listeners whose drain timeout came
 pub record Seen : Type 0 where
   pub pictures : List Shown
   pub held : List ℕ
@@ -79,12 +83,32 @@ is_moving event = is_for_managers event
 abbrev pub removed_where : (GenRow → Bool) → GenRow → RowStatus
 removed_where goes row = cond (goes row) (removed_status row.status) row.status
 
+-- the row warms under this name
+abbrev pub warms_named : Kind → List ℕ → GenRow → Bool
+warms_named kind name row = is_row_of kind name row && is_warming row.status
+
+dropped_alike : (named : Bool) (status : RowStatus)
+    → cond (named && is_warming status) (removed_status status) status ≡ cond (named && is_warming status) Dropped status
+dropped_alike true Warming = refl
+dropped_alike true Active = refl
+dropped_alike true Draining = refl
+dropped_alike true Dropped = refl
+dropped_alike false status = refl
+
+-- the row that warms under a name is dropped as if its resource were removed
+pub rows_dropped : (kind : Kind) (name : List ℕ) (rows : List GenRow)
+    → with_statuses (removed_where (warms_named kind name)) rows ≡ rows_replaced kind name rows
+rows_dropped kind name [] = refl
+rows_dropped kind name (row ∷ rows) =
+    ap₂ (λ (status : RowStatus) (others : List GenRow). record row { status = status } ∷ others)
+    (dropped_alike (is_row_of kind name row) row.status) (rows_dropped kind name rows)
+
 -- the ways in which managers change a world keep the fact, and by tidying it gives what holds between events
 pub record KeepsTidied (Fact : List GenRow → ℕ → Phase → List KeptVersion → Seen → Type 0) (After : World → Type 0) : Type 0 where
   pub removed : (goes : GenRow → Bool) (rows : List GenRow) (made : ℕ) (phase : Phase) (versions : List KeptVersion) (seen : Seen)
       → Fact rows made phase versions seen → Fact (with_statuses (removed_where goes) rows) made phase versions seen
-  pub added : (kind : Kind) (name : List ℕ) (content : Content) (rows : List GenRow) (made : ℕ) (phase : Phase) (versions : List KeptVersion) (seen : Seen)
-      → Fact rows made phase versions seen → Fact (rows_with_new kind made name content rows) (made + 1) phase versions seen
+  pub added : (kind : Kind) (name : List ℕ) (content : Content) (kept : List KeptChain) (rows : List GenRow) (made : ℕ) (phase : Phase) (versions : List KeptVersion) (seen : Seen)
+      → Fact rows made phase versions seen → Fact (rows_with_new kind made name content kept rows) (made + 1) phase versions seen
   pub version_added : (new : KeptVersion) (rows : List GenRow) (made : ℕ) (phase : Phase) (versions : List KeptVersion) (seen : Seen)
       → Fact rows made phase versions seen → Fact rows made phase (with_version new versions) seen
   pub version_renewed : (kind : Kind) (name : List ℕ) (rows : List GenRow) (made : ℕ) (phase : Phase) (versions : List KeptVersion) (seen : Seen)
@@ -102,6 +126,13 @@ goes_with kind response row = kind_same row.kind kind && is_removed response row
 pub either : (P : World → Type 0) (test : Bool) (this that : World × Answer) → P this.0 → P that.0 → P (cond test this that).0
 either P true this that holds other = holds
 either P false this that holds other = other
+
+-- what holds of a world holds of it once a good resource has changed it, where the change keeps it
+pub with_content-holds : (P : World → Type 0) (change : Content → World → World) (body : Body) (world : World)
+    → ((content : Content) → P (change content world)) → P world → P (with_content change body world)
+with_content-holds P change (Good content) world changed holds = changed content
+with_content-holds P change (Bad rule) world changed holds = holds
+with_content-holds P change Beat world changed holds = holds
 
 module _ (Fact : List GenRow → ℕ → Phase → List KeptVersion → Seen → Type 0) (After : World → Type 0) (keeps : KeepsTidied Fact After) where
   either_world : (test : Bool) (this that : World) → HoldsWith Fact this → HoldsWith Fact that → HoldsWith Fact (cond test this that)
@@ -124,29 +155,24 @@ module _ (Fact : List GenRow → ℕ → Phase → List KeptVersion → Seen →
   with_removals-keeps Eds response world holds = versions_left-keeps (is_version_left Eds response) world holds
   with_removals-keeps Lds response world holds = without_rows-keeps Lds response world holds
   with_removals-keeps Rds response world holds = versions_left-keeps (is_version_left Rds response) world holds
+  with_removals-keeps Sds response world holds = versions_left-keeps (is_version_left Sds response) world holds
+  with_removals-keeps Ecds response world holds = versions_left-keeps (is_version_left Ecds response) world holds
 
   keep_version-keeps : (kind : Kind) (item : ItemParts) (world : World) → HoldsWith Fact world → HoldsWith Fact (keep_version kind item world)
   keep_version-keeps kind item world holds = keeps.version_added _ world.rows world.made world.phase world.versions (seen_of world) holds
 
-  add_row-keeps : (kind : Kind) (item : ItemParts) (body : Body) (world : World)
-      → HoldsWith Fact world → HoldsWith Fact (with_content (add_row kind item) body world)
-  add_row-keeps kind item (Good content) world holds =
-      keep_version-keeps kind item (record world { rows = rows_with_new kind world.made item.name content world.rows; made = world.made + 1 })
-      (keeps.added kind item.name content world.rows world.made world.phase world.versions (seen_of world) holds)
-  add_row-keeps kind item (Bad rule) world holds = holds
-  add_row-keeps kind item Beat world holds = holds
+  add_row-keeps : (kind : Kind) (item : ItemParts) (content : Content) (kept : List KeptChain) (world : World)
+      → HoldsWith Fact world → HoldsWith Fact (add_row kind item content kept world)
+  add_row-keeps kind item content kept world holds =
+      keep_version-keeps kind item
+      (record world { rows = rows_with_new kind world.made item.name content kept world.rows; made = world.made + 1 })
+      (keeps.added kind item.name content kept world.rows world.made world.phase world.versions (seen_of world) holds)
 
-  same_row-keeps : (kind : Kind) (item : ItemParts) (body : Body) (world : World)
-      → HoldsWith Fact world → HoldsWith Fact (with_content (λ content. keep_version kind item) body world)
-  same_row-keeps kind item (Good content) world holds = keep_version-keeps kind item world holds
-  same_row-keeps kind item (Bad rule) world holds = holds
-  same_row-keeps kind item Beat world holds = holds
-
-  keep_value-keeps : (kind : Kind) (item : ItemParts) (body : Body) (world : World)
-      → HoldsWith Fact world → HoldsWith Fact (with_content (keep_value kind item) body world)
-  keep_value-keeps kind item (Good content) world holds = keep_version-keeps kind item world holds
-  keep_value-keeps kind item (Bad rule) world holds = holds
-  keep_value-keeps kind item Beat world holds = holds
+  go_back-keeps : (kind : Kind) (item : ItemParts) (world : World) → HoldsWith Fact world → HoldsWith Fact (go_back kind item world)
+  go_back-keeps kind item world holds =
+      keep_version-keeps kind item (record world { rows = rows_replaced kind item.name world.rows })
+      (subst (λ (rows : List GenRow). Fact rows world.made world.phase world.versions (seen_of world)) (rows_dropped kind item.name world.rows)
+      (keeps.removed (warms_named kind item.name) world.rows world.made world.phase world.versions (seen_of world) holds))
 
   told-keeps : (kind : Kind) (name : List ℕ) (world : World) → HoldsWith Fact world → HoldsWith Fact (told_of_refusal kind name world)
   told-keeps kind name world holds = either_world _ _ _ holds holds
@@ -156,15 +182,25 @@ module _ (Fact : List GenRow → ℕ → Phase → List KeptVersion → Seen →
   refuse-keeps Eds name world holds = told-keeps Eds name world holds
   refuse-keeps Lds name world holds = holds
   refuse-keeps Rds name world holds = told-keeps Rds name world holds
+  refuse-keeps Sds name world holds = told-keeps Sds name world holds
+  refuse-keeps Ecds name world holds = told-keeps Ecds name world holds
 
   renew-keeps : (kind : Kind) (name : List ℕ) (world : World) → HoldsWith Fact world → HoldsWith Fact (renew kind name world)
   renew-keeps kind name world holds = keeps.version_renewed kind name world.rows world.made world.phase world.versions (seen_of world) holds
 
   add_item-keeps : (kind : Kind) (verdict : Verdict) (item : ItemParts) (world : World)
       → HoldsWith Fact world → HoldsWith Fact (add_item kind verdict item world)
-  add_item-keeps kind New item world holds = add_row-keeps kind item item.body world holds
-  add_item-keeps kind Same item world holds = same_row-keeps kind item item.body world holds
-  add_item-keeps kind Kept item world holds = keep_value-keeps kind item item.body world holds
+  add_item-keeps kind New item world holds =
+      with_content-holds (HoldsWith Fact) (λ content. add_row kind item content []) item.body world (λ content. add_row-keeps kind item content [] world holds) holds
+  add_item-keeps kind InPlace item world holds =
+      with_content-holds (HoldsWith Fact) (add_in_place kind item) item.body world
+      (λ content. add_row-keeps kind item content (kept_from (serving_row kind item.name world.rows) content) world holds) holds
+  add_item-keeps kind Back item world holds =
+      with_content-holds (HoldsWith Fact) (λ content. go_back kind item) item.body world (λ content. go_back-keeps kind item world holds) holds
+  add_item-keeps kind Same item world holds =
+      with_content-holds (HoldsWith Fact) (λ content. keep_version kind item) item.body world (λ content. keep_version-keeps kind item world holds) holds
+  add_item-keeps kind Kept item world holds =
+      with_content-holds (HoldsWith Fact) (keep_value kind item) item.body world (λ content. keep_version-keeps kind item world holds) holds
   add_item-keeps kind Unasked item world holds = holds
   add_item-keeps kind Renewed item world holds = renew-keeps kind item.name world holds
   add_item-keeps kind (Refused rule) item world holds = refuse-keeps kind item.name world holds
@@ -184,6 +220,8 @@ module _ (Fact : List GenRow → ℕ → Phase → List KeptVersion → Seen →
   with_first-keeps Eds names world holds = holds
   with_first-keeps Lds names world holds = holds
   with_first-keeps Rds names world holds = holds
+  with_first-keeps Sds names world holds = holds
+  with_first-keeps Ecds names world holds = holds
 
   responded-keeps : (kind : Kind) (response : ResponseParts) (verdicts : List Verdict) (world : World)
       → After world → After (responded kind response verdicts world)
@@ -231,6 +269,8 @@ module _ (Fact : List GenRow → ℕ → Phase → List KeptVersion → Seen →
   fetch_timeout-keeps Lds name world after =
       either After _ _ _ after (keeps.tidied (record world { late_listeners = true }) (keeps.untidied world after))
   fetch_timeout-keeps Rds name world after = name_timeout-keeps Rds name world after
+  fetch_timeout-keeps Sds name world after = name_timeout-keeps Sds name world after
+  fetch_timeout-keeps Ecds name world after = name_timeout-keeps Ecds name world after
 
   forget_version-keeps : (kind : Kind) (name : List ℕ) (world : World) → HoldsWith Fact world → HoldsWith Fact (forget_version kind name world)
   forget_version-keeps kind name world holds = versions_left-keeps _ world holds
@@ -245,6 +285,8 @@ module _ (Fact : List GenRow → ℕ → Phase → List KeptVersion → Seen →
   with_end-keeps Eds name world holds = holds
   with_end-keeps Lds name world holds = rows_ended-keeps Lds name world holds
   with_end-keeps Rds name world holds = holds
+  with_end-keeps Sds name world holds = holds
+  with_end-keeps Ecds name world holds = holds
 
   ttl_expired-keeps : (kind : Kind) (name : List ℕ) (world : World) → After world → After (ttl_expired kind name world).0
   ttl_expired-keeps kind name world after =
@@ -358,8 +400,8 @@ Holds Fact world = Fact world.rows world.made world.phase world.versions
 pub record KeepsAll (Fact : List GenRow → ℕ → Phase → List KeptVersion → Type 0) : Type 0 where
   pub removed : (goes : GenRow → Bool) (rows : List GenRow) (made : ℕ) (phase : Phase) (versions : List KeptVersion)
       → Fact rows made phase versions → Fact (with_statuses (removed_where goes) rows) made phase versions
-  pub added : (kind : Kind) (name : List ℕ) (content : Content) (rows : List GenRow) (made : ℕ) (phase : Phase) (versions : List KeptVersion)
-      → Fact rows made phase versions → Fact (rows_with_new kind made name content rows) (made + 1) phase versions
+  pub added : (kind : Kind) (name : List ℕ) (content : Content) (kept : List KeptChain) (rows : List GenRow) (made : ℕ) (phase : Phase) (versions : List KeptVersion)
+      → Fact rows made phase versions → Fact (rows_with_new kind made name content kept rows) (made + 1) phase versions
   pub left : (test : GenRow → Bool) (rows : List GenRow) (made : ℕ) (phase : Phase) (versions : List KeptVersion)
       → Fact rows made phase versions → Fact (filter test rows) made phase versions
   pub version_added : (new : KeptVersion) (rows : List GenRow) (made : ℕ) (phase : Phase) (versions : List KeptVersion)
@@ -374,7 +416,7 @@ module _ (Fact : List GenRow → ℕ → Phase → List KeptVersion → Type 0) 
   keeps_tidied : KeepsTidied (λ rows made phase versions seen. Fact rows made phase versions) (Holds Fact)
   keeps_tidied = record {
     removed = λ goes rows made phase versions seen holds. keeps.removed goes rows made phase versions holds;
-    added = λ kind name content rows made phase versions seen holds. keeps.added kind name content rows made phase versions holds;
+    added = λ kind name content kept rows made phase versions seen holds. keeps.added kind name content kept rows made phase versions holds;
     version_added = λ new rows made phase versions seen holds. keeps.version_added new rows made phase versions holds;
     version_renewed = λ kind name rows made phase versions seen holds. keeps.version_renewed kind name rows made phase versions holds;
     versions_left = λ test rows made phase versions seen holds. keeps.versions_left test rows made phase versions holds;
@@ -410,8 +452,8 @@ OnRows Fact rows made phase versions = Fact rows made phase
 pub record Keeps (Fact : List GenRow → ℕ → Phase → Type 0) : Type 0 where
   pub removed : (goes : GenRow → Bool) (rows : List GenRow) (made : ℕ) (phase : Phase)
       → Fact rows made phase → Fact (with_statuses (removed_where goes) rows) made phase
-  pub added : (kind : Kind) (name : List ℕ) (content : Content) (rows : List GenRow) (made : ℕ) (phase : Phase)
-      → Fact rows made phase → Fact (rows_with_new kind made name content rows) (made + 1) phase
+  pub added : (kind : Kind) (name : List ℕ) (content : Content) (kept : List KeptChain) (rows : List GenRow) (made : ℕ) (phase : Phase)
+      → Fact rows made phase → Fact (rows_with_new kind made name content kept rows) (made + 1) phase
   pub left : (test : GenRow → Bool) (rows : List GenRow) (made : ℕ) (phase : Phase)
       → Fact rows made phase → Fact (filter test rows) made phase
   pub tidied : (world : World) → Holds (OnRows Fact) world → Holds (OnRows Fact) (tidy world)
@@ -420,7 +462,7 @@ module _ (Fact : List GenRow → ℕ → Phase → Type 0) (keeps : Keeps Fact) 
   keeps_on_rows : KeepsAll (OnRows Fact)
   keeps_on_rows = record {
     removed = λ goes rows made phase versions holds. keeps.removed goes rows made phase holds;
-    added = λ kind name content rows made phase versions holds. keeps.added kind name content rows made phase holds;
+    added = λ kind name content kept rows made phase versions holds. keeps.added kind name content kept rows made phase holds;
     left = λ test rows made phase versions holds. keeps.left test rows made phase holds;
     version_added = λ new rows made phase versions holds. holds;
     version_renewed = λ kind name rows made phase versions holds. holds;

@@ -26,7 +26,7 @@ use Rattle.ev_model.specs.Connections.{accept, close}
 use Rattle.ev_model.specs.Publishing.{reap, dead_numbers}
 use Rattle.ev_model.specs.Entries.{numbers_reaped, version_settled}
 use Rattle.ev_model.specs.Step.{step}
-use Rattle.ev_model.specs.Laws.{Told, world_told, SettlesOn, Forward, IsClosedBetween, IsHidden, Reaps, Unused}
+use Rattle.ev_model.specs.Laws.{Told, world_told, SettlesOn, Forward, IsReleasedBetween, IsHidden, Reaps, Unused}
 use Rattle.ev_model_laws.specs.Numbers.{RiseWithin, IsNumbered}
 use Rattle.ev_model_laws.specs.Kept.{has_served, UsesServed, is_open_for, HasParts}
 use Rattle.ev_model_laws.proofs.KeepLemmas.{either, step-each, step-holds}
@@ -229,8 +229,9 @@ runs_unused told run k number reaps =
     let unseen : list_any sees (world.held ++ last_version world ∷ []) ≡ false = sym (in_use_is number world) ∙ apart.0 in
     let some : 0 < length world.pictures = omega (arith, parts.holds 0) in
     record {
-      closed = λ j actor connection before opened.
-          closed_or world.opened actor connection number (IsClosedBetween told j k actor connection) apart.1 (parts.stays j actor number connection before opened);
+      released = λ j actor connection before opened.
+          closed_or world.opened actor connection number (IsReleasedBetween told j k actor connection) apart.1 (parts.stays j actor number connection before opened);
+      free = apart.1;
       unseen = record {
         held = λ worker lt.
             let among : worker < length world.held = subst (λ n. worker < n) (sym parts.workers) lt in

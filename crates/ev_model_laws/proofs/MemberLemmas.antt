@@ -24,9 +24,9 @@ use Rattle.ev_model.specs.Rows.{is_row_of, removed_status, with_statuses, replac
 use Rattle.ev_model.specs.Tidy.{has_successor, status_by, promoted_status}
 use Rattle.ev_model.specs.Warming.{is_ready_by}
 use Rattle.ev_model.specs.Picture.{has_number, is_shown, shown_of}
-use Rattle.ev_model.specs.Dead.{shown_at, picture_held, version_held, numbers_in_use, is_open_on, is_in_use, is_dead_at, is_dead}
+use Rattle.ev_model.specs.Dead.{shown_at, picture_held, version_held, numbers_in_use, is_open_on, is_in_use, is_dead_at, is_dead, last_picture}
 use Rattle.ev_model.specs.Choice.{choice_of}
-use Rattle.ev_model.specs.Connections.{Worked, is_member, is_open, members_of, opened_by, is_closing, accept, close, settle}
+use Rattle.ev_model.specs.Connections.{Worked, is_member, is_open, members_of, opened_by, accept, close, settle}
 use Rattle.ev_model.specs.Publishing.{without_dead}
 use Rattle.ev_model.specs.Step.{step}
 use Rattle.ev_model_laws.specs.Kept.{has_served, has_served_as, UsesServed}
@@ -35,6 +35,7 @@ use Rattle.ev_model_laws.proofs.KeepLemmas.{Seen, KeepsTidied, managed-keeps, re
 use Rattle.ev_model_laws.proofs.AnyLemmas.{or_so, any_so, any_unless, any_behind, any_first, any_second, any_only, any_left, any_mapped, any_set}
 use Rattle.ev_model_laws.proofs.ChoiceLemmas.{choice_shown, opens_shown}
 use Rattle.ev_model_laws.proofs.PictureLemmas.{serves_numbered, shown_serves, shown_with, last_shown, in_use_is}
+use Rattle.ev_model_laws.proofs.MoveLemmas.{moved_on_shown}
 
 -- statuses that keep what has served
 pub served_with : (number : ℕ) (status_of : GenRow → RowStatus) (rows : List GenRow)
@@ -85,8 +86,8 @@ keeps_uses : KeepsTidied (λ rows made phase versions seen. (number : ℕ) → u
 keeps_uses = record {
   removed = λ goes rows made phase versions seen served number used.
       served_with number (removed_where goes) rows (λ row. removed_served (goes row) row.status) (served number used);
-  added = λ kind name content rows made phase versions seen served number used.
-      any_first (has_served_as number) (with_statuses (replaced_status kind name) rows) (new_row kind made name content ∷ [])
+  added = λ kind name content kept rows made phase versions seen served number used.
+      any_first (has_served_as number) (with_statuses (replaced_status kind name) rows) (new_row kind made name content kept ∷ [])
       (served_with number (replaced_status kind name) rows (λ row. replaced_served (is_row_of kind name row) row.status) (served number used));
   version_added = λ new rows made phase versions seen served. served;
   version_renewed = λ kind name rows made phase versions seen served. served;
@@ -198,7 +199,10 @@ module _ (world : World) (served : UsesServed world) where
       (λ last. seen_served number (any_second sees world.held (last_version world ∷ []) (or_left (sees (last_version world)) false last))))
       (λ last. seen_served number (any_second sees world.held (last_version world ∷ []) last))
       (sym (in_use_is number (settle worker world).0) ∙ shown))
-      (λ is_still. open_served number (any_left (is_open_on number) (λ (m : OpenMember). not (is_closing world.expired worker m)) world.opened is_still))
+      (λ is_still.
+      or_so (list_any (is_open_on number) world.opened) (is_shown number (last_picture world).shown) (open_served number)
+      (λ seen. seen_served number (any_second sees world.held (last_version world ∷ []) (or_left (sees (last_version world)) false seen)))
+      (moved_on_shown (last_picture world).shown world.expired worker number world.opened is_still))
       used
 
 -- a worker is one of this many

@@ -1,4 +1,5 @@
--- Chains of which no two collide are narrowed to one at most: any two that one criterion leaves overlap in it, and go on doing so.
+-- Chains of which no two collide are narrowed to one at most:
+-- any two that one criterion leaves overlap in it, and go on doing so.
 use Rattle.std.proofs.Common.{◌≡◌, ◌≤◌, ℕ, Bool, true, false, not, ◌&&◌, ◌||◌, ◌==◌, cond, List, [], ◌∷◌, length, map, filter, find, refl, sym, ap, ◌∙◌, subst, inl, inr, ◌⊎◌, Option, Some, None, is_some, ne_eqb, arith}
 use Rattle.std.specs.List.{list_any, AllByRecursion as ByRecursion}
 use Rattle.std.specs.Str.{bytes_eq, str_to_ascii_lowercase}

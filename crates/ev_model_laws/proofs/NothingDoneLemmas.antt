@@ -3,7 +3,7 @@ use Rattle.std.proofs.Common.{◌≡◌, ℕ, Bool, true, false, ◌||◌, if◌
 use Rattle.ev_types.specs.Items.{ResponseParts}
 use Rattle.ev_types.specs.declared.hosts.Host.{Host}
 use Rattle.ev_types.specs.declared.contents.Kind.{Kind}
-use Rattle.ev_types.specs.declared.contents.Kind.TheVariants.{Cds, Eds, Lds, Rds}
+use Rattle.ev_types.specs.declared.contents.Kind.TheVariants.{Cds, Eds, Lds, Rds, Sds, Ecds}
 use Rattle.ev_types.specs.declared.events.Actor.{Actor}
 use Rattle.ev_types.specs.declared.events.Actor.TheVariants.{Stream, Health as health_checker, Timer, Main, Worker}
 use Rattle.ev_types.specs.declared.events.Event.TheVariants.{Connect, Disconnect, Response, Health, FetchTimeout, DrainTimeout, TtlExpired, Publish, Reap, Accept, Close, Settle}
@@ -12,7 +12,7 @@ use Rattle.ev_types.specs.declared.events.Ask.{Ask}
 use Rattle.ev_types.specs.declared.rows.GenRow.{GenRow}
 use Rattle.ev_model.specs.declared.pictures.Picture.{Picture}
 use Rattle.ev_model.specs.declared.pictures.Choice.{Choice}
-use Rattle.ev_model.specs.declared.pictures.Choice.TheVariants.{NoListener, NoChain, Undecided, Elsewhere, NoRoute, Local, Redirect, NoCluster, NoEndpoint, Served}
+use Rattle.ev_model.specs.declared.pictures.Choice.TheVariants.{NoListener, NoChain, On}
 use Rattle.ev_model.specs.World.{World, OpenMember, last_version}
 use Rattle.ev_model.specs.Choice.{choice_of}
 use Rattle.ev_model.specs.Picture.{shown_of, shown_same}
@@ -20,7 +20,7 @@ use Rattle.ev_model.specs.Dead.{shown_at, picture_held}
 use Rattle.ev_model.specs.Versions.{is_bounded}
 use Rattle.ev_model.specs.Phase.{is_clusters}
 use Rattle.ev_model.specs.Signals.{rows_meant, health_of, is_awaited, name_timeout_of, fetch_timeout, unexpired, expire}
-use Rattle.ev_model.specs.Connections.{Worked, is_open, host_at, served_by, answer_of, opened_by, accepted, closed, with_worked, accept, close, settle}
+use Rattle.ev_model.specs.Connections.{Worked, is_open, answer_of, opened_by, accepted, closed, with_worked, accept, close, settle}
 use Rattle.ev_model.specs.Step.{connect, disconnect, respond_by, of_worker}
 use Rattle.ev_model_laws.specs.NothingDone.{is_nothing_done, LeavesAsItWas}
 
@@ -58,27 +58,18 @@ timeout_leaves Eds name world = name_leaves Eds name world
 timeout_leaves Lds name world =
     leaves_if (is_clusters world.phase || (is_some world.first_listeners || world.late_listeners)) world _ _ (λ h. refl) (λ h. cc)
 timeout_leaves Rds name world = name_leaves Rds name world
+timeout_leaves Sds name world = name_leaves Sds name world
+timeout_leaves Ecds name world = name_leaves Ecds name world
 
 expire_leaves : (numbers : List ℕ) (world : World) → Leaves world (expire numbers world)
 expire_leaves [] world h = refl
 expire_leaves (number ∷ numbers) world h = cc
 
-served_done : (listener cluster : ℕ) (host : Option Host) → is_nothing_done (served_by listener cluster host) ≡ false
-served_done listener cluster None = refl
-served_done listener cluster (Some host) = refl
-
 -- an accepted connection is answered by its choice, and never as nothing done
 choice_done : (picture : Picture) (choice : Choice) → is_nothing_done (answer_of picture choice) ≡ false
 choice_done picture NoListener = refl
 choice_done picture NoChain = refl
-choice_done picture (Undecided listener) = refl
-choice_done picture (Elsewhere listener cluster) = refl
-choice_done picture (NoRoute listener) = refl
-choice_done picture (Local listener status) = refl
-choice_done picture (Redirect listener) = refl
-choice_done picture (NoCluster listener) = refl
-choice_done picture (NoEndpoint listener) = refl
-choice_done picture (Served listener cluster place) = served_done listener cluster (host_at picture cluster place)
+choice_done picture (On listener chain origin course) = refl
 
 -- where nothing is done by a worker's answer, the connections are as they were
 abbrev IsLeft : List OpenMember → Worked → Type 0

@@ -1,4 +1,4 @@
--- Numbers are drawn once, and in order.
+-- Numbers are allocated once, and in order.
 use Rattle.std.proofs.Common.{◌≡◌, ℕ, ◌+◌, ◌<◌, ◌≤◌, ◌⊎◌, Bool, true, false, cond, List, [], ◌∷◌, ◌++◌, map, filter, refl, inl, inr, le_trans, arith}
 use Rattle.ev_types.specs.declared.rows.GenRow.{GenRow}
 use Rattle.ev_types.specs.declared.rows.RowStatus.{RowStatus}
@@ -45,8 +45,8 @@ added-rise low (row ∷ rows) new high is rise = (rise.0, added-rise row.number 
 pub keeps_numbered : Keeps (λ rows made phase. RiseWithin 0 (numbers rows) made)
 keeps_numbered = record {
   removed = λ goes rows made phase rise. statuses-rise (removed_where goes) 0 rows made rise;
-  added = λ kind name content rows made phase rise.
-      added-rise 0 (with_statuses (replaced_status kind name) rows) (new_row kind made name content) made refl
+  added = λ kind name content kept rows made phase rise.
+      added-rise 0 (with_statuses (replaced_status kind name) rows) (new_row kind made name content kept) made refl
       (statuses-rise (replaced_status kind name) 0 rows made rise);
   left = λ test rows made phase rise. filter-rise test 0 rows made rise;
   tidied = λ world rise. statuses-rise (promoted_status world.arrivals world.results world.rows) 0 world.rows world.made rise;
@@ -55,7 +55,7 @@ keeps_numbered = record {
 pub keeps_count : (least : ℕ) → Keeps (λ (rows : List GenRow) made (phase : Phase). least ≤ made)
 keeps_count least = record {
   removed = λ goes rows made phase le. le;
-  added = λ kind name content rows made phase le. omega arith;
+  added = λ kind name content kept rows made phase le. omega arith;
   left = λ test rows made phase le. le;
   tidied = λ world le. le;
 }
@@ -64,7 +64,7 @@ keeps_count least = record {
 status-among : (others : List GenRow) (row : GenRow) (status : RowStatus) → IsAmong others row → IsAmong others (record row { status = status })
 status-among [] row status among = among
 status-among (other ∷ others) row status (inl same) =
-    inl (record { number = same.number; kind = same.kind; name = same.name; content = same.content })
+    inl (record { number = same.number; kind = same.kind; name = same.name; content = same.content; kept = same.kept })
 status-among (other ∷ others) row status (inr among) = inr (status-among others row status among)
 
 status-drawn : (world : World) (row : GenRow) (status : RowStatus)
@@ -99,15 +99,15 @@ all-drawn : (world : World) (rows : List GenRow)
     → ((row : GenRow) → IsAmong rows row → IsAmong world.rows row) → AreOldOrNew world rows
 all-drawn world [] within = tt
 all-drawn world (row ∷ rows) within = (
-  inl (within row (inl (record { number = refl; kind = refl; name = refl; content = refl }))),
+  inl (within row (inl (record { number = refl; kind = refl; name = refl; content = refl; kept = refl }))),
   all-drawn world rows (λ other among. within other (inr among)),
 )
 
 keeps_drawn : (world : World) → Keeps (λ rows made phase. AreOldOrNew world rows × (world.made ≤ made))
 keeps_drawn world = record {
   removed = λ goes rows made phase fact. (statuses-drawn world (removed_where goes) rows fact.0, fact.1);
-  added = λ kind name content rows made phase fact. (
-    added-drawn world (with_statuses (replaced_status kind name) rows) (new_row kind made name content) (omega (arith, fact.1))
+  added = λ kind name content kept rows made phase fact. (
+    added-drawn world (with_statuses (replaced_status kind name) rows) (new_row kind made name content kept) (omega (arith, fact.1))
         (statuses-drawn world (replaced_status kind name) rows fact.0),
     omega (arith, fact.1),
   );
@@ -115,7 +115,7 @@ keeps_drawn world = record {
   tidied = λ other fact. (statuses-drawn world (promoted_status other.arrivals other.results other.rows) other.rows fact.0, fact.1);
 }
 
--- at the start all rows are old, and no number is above those drawn
+-- at the start all rows are old, and no number is above those allocated
 start-drawn : (world : World) → AreOldOrNew world world.rows × (world.made ≤ world.made)
 start-drawn world = (all-drawn world world.rows (λ row among. among), omega arith)
 

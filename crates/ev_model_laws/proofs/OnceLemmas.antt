@@ -76,14 +76,7 @@ answers_rise = record {
   not_open = none_rise;
   no_listener = none_rise;
   no_chain = none_rise;
-  undecided = λ listener. none_rise;
-  elsewhere = λ listener cluster. none_rise;
-  no_route = λ listener. none_rise;
-  redirect = λ listener. none_rise;
-  no_cluster = λ listener. none_rise;
-  no_endpoint = λ listener. none_rise;
-  local = λ listener status. none_rise;
-  served = λ listener cluster host. none_rise;
+  on = λ listener chain way. none_rise;
 }
 
 dead_rise : (format : Format) (world : World) → IsNumbered world → IsStrictlyIncreasing (dead_numbers format world)
@@ -188,14 +181,7 @@ answers_publish = record {
   not_open = refl;
   no_listener = refl;
   no_chain = refl;
-  undecided = λ listener. refl;
-  elsewhere = λ listener cluster. refl;
-  no_route = λ listener. refl;
-  redirect = λ listener. refl;
-  no_cluster = λ listener. refl;
-  no_endpoint = λ listener. refl;
-  local = λ listener status. refl;
-  served = λ listener cluster host. refl;
+  on = λ listener chain way. refl;
 }
 
 of_no_version : (world : World) (number : ℕ) (did : World × Answer) → PublishesNothing did.1 → HidesAway world number did

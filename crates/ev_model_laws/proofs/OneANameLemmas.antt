@@ -21,9 +21,10 @@ use Rattle.ev_model.specs.Tidy.{is_due, has_successor, status_by, promoted_statu
 use Rattle.ev_model_laws.specs.OneAName.{warms_as, serves_as, AreSingle, StaysSingle}
 use Rattle.ev_model_laws.proofs.CountLemmas.{count, fewer_by_one, fewer_left}
 use Rattle.ev_model_laws.proofs.KeepLemmas.{removed_where, Keeps, step-keeps, run-keeps}
+use Rattle.ev_types.specs.declared.origins.KeptChain.{KeptChain}
 
--- where no row is barred, and a row passes the one test with its new status only if it passes the other or is barred, no
--- more pass the one test with their new statuses than pass the other
+-- where no row is barred, and a row passes the one test with its new status only
+-- if it passes the other or is barred, no more pass the one test with their new statuses than pass the other
 fewer : (this that barred : GenRow → Bool) (status_of : GenRow → RowStatus) (rows : List GenRow)
     → list_any barred rows ≡ false
     → ((row : GenRow) → this (record row { status = status_of row }) ≡ true → barred row ≡ false → that row ≡ true)
@@ -128,15 +129,15 @@ one_behind : (test : GenRow → Bool) (rows : List GenRow) (new : GenRow)
 one_behind test rows new none one =
     omega (arith, counted_behind test rows new, last_counted (test new) new (count test rows) none one)
 
-added_single : (kind : Kind) (name : List ℕ) (content : Content) (rows : List GenRow) (made : ℕ)
-    → AreSingle rows → AreSingle (rows_with_new kind made name content rows)
-added_single kind name content rows made single =
+added_single : (kind : Kind) (name : List ℕ) (content : Content) (kept : List KeptChain) (rows : List GenRow) (made : ℕ)
+    → AreSingle rows → AreSingle (rows_with_new kind made name content kept rows)
+added_single kind name content kept rows made single =
     let left : AreSingle (with_statuses (replaced_status kind name) rows) =
     removed_single (replaced_status kind name) rows
     (λ row. replaced_warming (is_row_of kind name row && is_warming row.status) row.status)
     (λ row. replaced_active (is_row_of kind name row && is_warming row.status) row.status) single in
     let olds : List GenRow = with_statuses (replaced_status kind name) rows in
-    let new : GenRow = new_row kind made name content in
+    let new : GenRow = new_row kind made name content kept in
     record {
       one_warms = λ asked wanted. one_behind (warms_as asked wanted) olds new
           (λ same. none_warms_as kind asked name wanted rows (first_so _ _ same)) (left.one_warms asked wanted);
@@ -209,7 +210,7 @@ keeps_single : Keeps (λ rows (made : ℕ) (phase : Phase). AreSingle rows)
 keeps_single = record {
   removed = λ goes rows made phase single. removed_single (removed_where goes) rows
       (λ row. removed_warming _ row.status) (λ row. removed_active _ row.status) single;
-  added = λ kind name content rows made phase single. added_single kind name content rows made single;
+  added = λ kind name content kept rows made phase single. added_single kind name content kept rows made single;
   left = λ test rows made phase single. record {
     one_warms = λ kind name. le_trans (fewer_left (warms_as kind name) test rows) (single.one_warms kind name);
     one_serves = λ kind name. le_trans (fewer_left (serves_as kind name) test rows) (single.one_serves kind name);

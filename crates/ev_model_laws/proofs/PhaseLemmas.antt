@@ -21,7 +21,7 @@ phase_from-forward clusters listeners Serving = omega arith
 keeps_far : (least : ℕ) → Keeps (λ (rows : List GenRow) made phase. least ≤ rank phase)
 keeps_far least = record {
   removed = λ goes rows made phase far. far;
-  added = λ kind name content rows made phase far. far;
+  added = λ kind name content kept rows made phase far. far;
   left = λ test rows made phase far. far;
   tidied = λ world far. le_trans far (phase_from-forward _ _ world.phase);
 }

@@ -1,4 +1,5 @@
--- What pictures show: one that is published shows generations that serve, and what is in use is shown by a version in use.
+-- What pictures show: one that is published shows generations that serve,
+-- and what is in use is shown by a version in use.
 use Rattle.std.proofs.Common.{◌≡◌, ℕ, ◌-◌, zero, suc, Bool, true, false, ◌&&◌, ◌||◌, ◌==◌, cond, List, [], ◌∷◌, ◌++◌, length, map, filter, sym, ap, ◌∙◌, length-append, arith}
 use Rattle.std.specs.Prelude.{slice_index_or}
 use Rattle.std.specs.Cmp.{second_so}
@@ -10,7 +11,7 @@ use Rattle.ev_types.specs.Statuses.{is_active}
 use Rattle.ev_types.specs.declared.contents.Kind.{Kind}
 use Rattle.ev_types.specs.declared.contents.Kind.TheVariants.{Cds, Lds}
 use Rattle.ev_types.specs.declared.contents.Content.{Content}
-use Rattle.ev_types.specs.declared.contents.Content.TheVariants.{Cluster as a_cluster, Assignment as an_assignment, Listener as a_listener, Routes as routes}
+use Rattle.ev_types.specs.declared.contents.Content.TheVariants.{Cluster as a_cluster, Assignment as an_assignment, Listener as a_listener, Routes as routes, Secret as a_secret, Extension as an_extension}
 use Rattle.ev_types.specs.declared.rows.GenRow.{GenRow}
 use Rattle.ev_model.specs.declared.pictures.Shown.{Shown}
 use Rattle.ev_model.specs.declared.pictures.ServedCluster.{ServedCluster}
@@ -63,6 +64,8 @@ one_listener number arrivals row (a_cluster cluster) h = absurd (false≢true h)
 one_listener number arrivals row (an_assignment rows) h = absurd (false≢true h)
 one_listener number arrivals row (a_listener listener) h = or_so (row.number == number) false (λ same. same) (λ never. absurd (false≢true never)) h
 one_listener number arrivals row (routes table) h = absurd (false≢true h)
+one_listener number arrivals row a_secret h = absurd (false≢true h)
+one_listener number arrivals row an_extension h = absurd (false≢true h)
 
 listeners_serve : (number : ℕ) (world : World) (serving : Bool)
     → has_number number (map (λ (l : ServedListener). l.number) (cond serving (served_listeners world.arrivals world.rows) [])) ≡ true

@@ -23,7 +23,7 @@ each_left P test xs each x there = All-contains P (filter test xs) x (All-filter
 keeps_due : KeepsTidied (λ rows made phase versions seen. ⊤) NothingIsDue
 keeps_due = record {
   removed = λ goes rows made phase versions seen any. tt;
-  added = λ kind name content rows made phase versions seen any. tt;
+  added = λ kind name content kept rows made phase versions seen any. tt;
   version_added = λ new rows made phase versions seen any. tt;
   version_renewed = λ kind name rows made phase versions seen any. tt;
   versions_left = λ test rows made phase versions seen any. tt;

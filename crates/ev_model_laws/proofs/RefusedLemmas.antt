@@ -1,4 +1,5 @@
--- A refused resource takes nothing away: what a response does to other names leaves the rows, the version and the value of its name.
+-- A refused resource takes nothing away: what a response does to other names leaves the rows,
+-- the version and the value of its name.
 use Rattle.std.proofs.Common.{◌≡◌, ℕ, ◌+◌, ◌⊎◌, inl, inr, Bool, true, false, not, ◌&&◌, ◌||◌, cond, List, [], ◌∷◌, ◌++◌, map, filter, filter_map, Option, Some, None, refl, sym, ap, ◌∙◌, subst, append-nil, ap₂, arith, ◌<◌}
 use Rattle.std.specs.Prelude.{slice_get, length}
 use Rattle.std.specs.Cmp.{first_so, second_so}
@@ -8,16 +9,14 @@ use Rattle.std.proofs.lemmas.Bool.{false≢true, both_ways, cond_both, cases_Boo
 use Rattle.std.proofs.lemmas.List.{map-append}
 use Rattle.std.proofs.lemmas.List.Elements.{filter-append, filter_map-append}
 use Rattle.ev_types.specs.Items.{ItemParts, ResponseParts}
-use Rattle.ev_types.specs.Kinds.{kind_same, kind_decides}
+use Rattle.ev_types.specs.Kinds.{kind_same, kind_decides, is_by_name}
 use Rattle.ev_types.specs.Same.{bytes_decide}
 use Rattle.ev_types.specs.Statuses.{is_warming}
 use Rattle.ev_types.specs.declared.contents.Kind.{Kind}
-use Rattle.ev_types.specs.declared.contents.Kind.TheVariants.{Cds, Eds, Lds, Rds}
-use Rattle.ev_types.specs.declared.contents.Body.{Body}
-use Rattle.ev_types.specs.declared.contents.Body.TheVariants.{Good, Bad, Beat}
+use Rattle.ev_types.specs.declared.contents.Kind.TheVariants.{Cds, Eds, Lds, Rds, Sds, Ecds}
 use Rattle.ev_types.specs.declared.contents.Content.{Content}
 use Rattle.ev_types.specs.declared.events.Verdict.{Verdict}
-use Rattle.ev_types.specs.declared.events.Verdict.TheVariants.{New, Same, Kept, Unasked, Renewed, Refused}
+use Rattle.ev_types.specs.declared.events.Verdict.TheVariants.{New, InPlace, Back, Same, Kept, Unasked, Renewed, Refused}
 use Rattle.ev_types.specs.declared.rows.Arrival.{Arrival}
 use Rattle.ev_types.specs.declared.rows.Arrival.TheVariants.{Value, Absent, Bad as bad}
 use Rattle.ev_types.specs.declared.rows.GenRow.{GenRow}
@@ -27,10 +26,10 @@ use Rattle.ev_types.specs.declared.rows.KeptVersion.{KeptVersion}
 use Rattle.ev_model.specs.World.{World, Arrived, HealthResult}
 use Rattle.ev_model.specs.Live.{lives_of}
 use Rattle.ev_model.specs.Versions.{is_version_of, with_version, bounded_as, renewed}
-use Rattle.ev_model.specs.Watching.{is_by_name, is_watched}
+use Rattle.ev_model.specs.Watching.{is_watched}
 use Rattle.ev_model.specs.Warming.{came_for, content_in, value_by, value_of, is_ready_by}
 use Rattle.ev_model.specs.Verdicts.{is_removed, lives_left, verdicts_for, verdicts_by, verdicts_of}
-use Rattle.ev_model.specs.Rows.{is_row_of, removed_status, with_statuses, status_left, rows_left, is_version_left, versions_left, arrived, without_rows, absent_names, with_absences, with_removals, replaced_status, new_row, rows_with_new, version_in, keep_version, add_row, keep_value, with_content, told_of_refusal, refuse, renew, add_item, add_items, made_names, with_first}
+use Rattle.ev_model.specs.Rows.{is_row_of, removed_status, with_statuses, status_left, rows_left, is_version_left, versions_left, arrived, without_rows, absent_names, with_absences, with_removals, replaced_status, new_row, rows_with_new, version_in, keep_version, add_row, keep_value, told_of_refusal, refuse, renew, add_item, add_items, made_names, with_first, rows_replaced, add_in_place, go_back, serving_row, without_versions}
 use Rattle.ev_model.specs.Tidy.{is_due, has_successor, promoted_status, promoted, is_version_due, tidy}
 use Rattle.ev_model.specs.Laws.{rows_named, versions_named, KeepsRows, KeepsValue, Keeps, Told, world_told, Stays}
 use Rattle.ev_model_laws.specs.Acknowledging.{is_refused}
@@ -51,6 +50,9 @@ use Rattle.ev_model_laws.proofs.RunParts.{parts_kept}
 use Rattle.std.proofs.lemmas.Option.{slice_get_within}
 use Rattle.ev_model_laws.proofs.VersionLemmas.{mark_same, placed}
 use Rattle.ev_model_laws.proofs.FilterLemmas.{filter_changed, each_passing}
+use Rattle.ev_types.specs.declared.origins.KeptChain.{KeptChain}
+use Rattle.ev_model.specs.Origins.{kept_from}
+use Rattle.ev_model_laws.proofs.KeepLemmas.{with_content-holds}
 
 -- what is of one name isn't of another
 other_name : (kind : Kind) (name other row : List ℕ) (of : Kind) → bytes_eq other name ≡ false → (kind_same of kind && bytes_eq row name) ≡ true
@@ -157,36 +159,38 @@ module _ (kind : Kind) (name : List ℕ) (before : World) where
       (and_right (kind_same row.kind kind) (bytes_eq row.name other) (other_name kind name other row.name row.kind apart is)) in
       λ i. record row { status = cond (isnt i) Dropped row.status })
 
-  row_left : (item : ItemParts) (content : Content) (w : World) → bytes_eq item.name name ≡ false → IsLeft kind name before w
-      → IsLeft kind name before (add_row kind item content w)
-  row_left item content w apart left =
-      let new : GenRow = new_row kind w.made item.name content in
-      let olds : List GenRow = with_statuses (replaced_status kind item.name) w.rows in
+  replaced_left : (item : ItemParts) (w : World) → bytes_eq item.name name ≡ false → IsLeft kind name before w
+      → IsLeft kind name before (record w { rows = rows_replaced kind item.name w.rows })
+  replaced_left item w apart left = record {
+    rows = replaced_other item.name w.rows apart ∙ left.rows;
+    version = left.version;
+    value = left.value;
+    arrivals = left.arrivals;
+    results = left.results;
+  }
+
+  row_left : (item : ItemParts) (content : Content) (chains : List KeptChain) (w : World) → bytes_eq item.name name ≡ false → IsLeft kind name before w
+      → IsLeft kind name before (add_row kind item content chains w)
+  row_left item content chains w apart left =
+      let new : GenRow = new_row kind w.made item.name content chains in
+      let olds : List GenRow = rows_replaced kind item.name w.rows in
       let isnt : is_row_of kind name new ≡ false = and_right (kind_same kind kind) (bytes_eq item.name name) apart in
       let alone : filter (is_row_of kind name) (new ∷ []) ≡ [] = simp isnt refl in
-      version_left item (record w { rows = rows_with_new kind w.made item.name content w.rows; made = w.made + 1 }) apart (record {
+      version_left item (record w { rows = rows_with_new kind w.made item.name content chains w.rows; made = w.made + 1 }) apart (record {
         rows = filter-append (is_row_of kind name) olds (new ∷ [])
             ∙ ap (λ (more : List GenRow). filter (is_row_of kind name) olds ++ more) alone
             ∙ append-nil (filter (is_row_of kind name) olds)
-            ∙ replaced_other item.name w.rows apart
-            ∙ left.rows;
+            ∙ (replaced_left item w apart left).rows;
         version = left.version;
         value = left.value;
         arrivals = left.arrivals;
         results = left.results;
       })
 
-  new_left : (item : ItemParts) (body : Body) (w : World) → bytes_eq item.name name ≡ false → IsLeft kind name before w
-      → IsLeft kind name before (with_content (add_row kind item) body w)
-  new_left item (Good content) w apart left = row_left item content w apart left
-  new_left item (Bad rule) w apart left = left
-  new_left item Beat w apart left = left
-
-  same_left : (item : ItemParts) (body : Body) (w : World) → bytes_eq item.name name ≡ false → IsLeft kind name before w
-      → IsLeft kind name before (with_content (λ content. keep_version kind item) body w)
-  same_left item (Good content) w apart left = version_left item w apart left
-  same_left item (Bad rule) w apart left = left
-  same_left item Beat w apart left = left
+  back_left : (item : ItemParts) (w : World) → bytes_eq item.name name ≡ false → IsLeft kind name before w
+      → IsLeft kind name before (go_back kind item w)
+  back_left item w apart left =
+      version_left item (record w { rows = rows_replaced kind item.name w.rows }) apart (replaced_left item w apart left)
 
   -- something came without a resource, or for another name
   silent_left : (more : List Arrived) (w : World) → is_by_name kind ≡ true → ByRecursion (IsSilent kind name) more → IsLeft kind name before w
@@ -199,14 +203,12 @@ module _ (kind : Kind) (name : List ℕ) (before : World) where
     results = left.results;
   }
 
-  kept_left : (item : ItemParts) (body : Body) (w : World) → is_by_name kind ≡ true → bytes_eq item.name name ≡ false → IsLeft kind name before w
-      → IsLeft kind name before (with_content (keep_value kind item) body w)
-  kept_left item (Good content) w by_name apart left =
+  kept_left : (item : ItemParts) (content : Content) (w : World) → is_by_name kind ≡ true → bytes_eq item.name name ≡ false → IsLeft kind name before w
+      → IsLeft kind name before (keep_value kind item content w)
+  kept_left item content w by_name apart left =
       version_left item (record w { arrivals = w.arrivals ++ arrived w.made kind (Value content) item.name ∷ [] }) apart
       (silent_left (arrived w.made kind (Value content) item.name ∷ []) w by_name
       (λ is. absurd (both_ways (bytes_eq item.name name) apart (second_so (kind_same kind kind) (bytes_eq item.name name) is)), tt) left)
-  kept_left item (Bad rule) w by_name apart left = left
-  kept_left item Beat w by_name apart left = left
 
   told_left : (other : List ℕ) (w : World) → is_by_name kind ≡ true → IsLeft kind name before w → IsLeft kind name before (told_of_refusal kind other w)
   told_left other w by_name left =
@@ -229,12 +231,8 @@ refuse_left Cds name before other w left = left
 refuse_left Eds name before other w left = told_left Eds name before other w refl left
 refuse_left Lds name before other w left = left
 refuse_left Rds name before other w left = told_left Rds name before other w refl left
-
-kept_by_name : (kind : Kind) → fits kind Kept ≡ true → is_by_name kind ≡ true
-kept_by_name Cds h = h
-kept_by_name Eds h = refl
-kept_by_name Lds h = h
-kept_by_name Rds h = refl
+refuse_left Sds name before other w left = told_left Sds name before other w refl left
+refuse_left Ecds name before other w left = told_left Ecds name before other w refl left
 
 apart_by : (named : Bool) → (named ≡ true → false ≡ true) → named ≡ false
 apart_by true so = sym (so refl)
@@ -243,10 +241,23 @@ apart_by false so = refl
 -- so does a resource, which is refused where it is of the name
 item_left : (kind : Kind) (name : List ℕ) (before : World) (verdict : Verdict) (item : ItemParts) (w : World) → fits kind verdict ≡ true
     → (bytes_eq item.name name ≡ true → is_refused verdict ≡ true) → IsLeft kind name before w → IsLeft kind name before (add_item kind verdict item w)
-item_left kind name before New item w fit so left = new_left kind name before item item.body w (apart_by (bytes_eq item.name name) so) left
-item_left kind name before Same item w fit so left = same_left kind name before item item.body w (apart_by (bytes_eq item.name name) so) left
+item_left kind name before New item w fit so left =
+    with_content-holds (IsLeft kind name before) (λ content. add_row kind item content []) item.body w
+    (λ content. row_left kind name before item content [] w (apart_by (bytes_eq item.name name) so) left) left
+item_left kind name before InPlace item w fit so left =
+    with_content-holds (IsLeft kind name before) (add_in_place kind item) item.body w
+    (λ content.
+    row_left kind name before item content (kept_from (serving_row kind item.name w.rows) content) w (apart_by (bytes_eq item.name name) so) left)
+    left
+item_left kind name before Back item w fit so left =
+    with_content-holds (IsLeft kind name before) (λ content. go_back kind item) item.body w
+    (λ content. back_left kind name before item w (apart_by (bytes_eq item.name name) so) left) left
+item_left kind name before Same item w fit so left =
+    with_content-holds (IsLeft kind name before) (λ content. keep_version kind item) item.body w
+    (λ content. version_left kind name before item w (apart_by (bytes_eq item.name name) so) left) left
 item_left kind name before Kept item w fit so left =
-    kept_left kind name before item item.body w (kept_by_name kind fit) (apart_by (bytes_eq item.name name) so) left
+    with_content-holds (IsLeft kind name before) (keep_value kind item) item.body w
+    (λ content. kept_left kind name before item content w fit (apart_by (bytes_eq item.name name) so) left) left
 item_left kind name before Unasked item w fit so left = left
 item_left kind name before Renewed item w fit so left = renew_left kind name before item.name w (apart_by (bytes_eq item.name name) so) left
 item_left kind name before (Refused rule) item w fit so left = refuse_left kind name before item.name w left
@@ -265,6 +276,8 @@ first_left Cds name before names w left = record { rows = left.rows; version = l
 first_left Eds name before names w left = left
 first_left Lds name before names w left = record { rows = left.rows; version = left.version; value = left.value; arrivals = left.arrivals; results = left.results }
 first_left Rds name before names w left = left
+first_left Sds name before names w left = left
+first_left Ecds name before names w left = left
 
 -- a resource of the response has the name, so its removals leave it
 module _ (name : List ℕ) (response : ResponseParts) (stands : is_removed response name ≡ false) where
@@ -303,11 +316,22 @@ module _ (name : List ℕ) (response : ResponseParts) (stands : is_removed respo
     results = refl;
   }
 
+  version_gone : (kind : Kind) (world : World) → IsLeft kind name world (without_versions kind response world)
+  version_gone kind world = record {
+    rows = refl;
+    version = versions_stay kind world.versions;
+    value = refl;
+    arrivals = λ isnt. refl;
+    results = refl;
+  }
+
   removals_left : (kind : Kind) (world : World) → IsLeft kind name world (with_removals kind response world)
   removals_left Cds world = rows_removed Cds world
   removals_left Eds world = absences_left Eds world refl
   removals_left Lds world = rows_removed Lds world
   removals_left Rds world = absences_left Rds world refl
+  removals_left Sds world = version_gone Sds world
+  removals_left Ecds world = absences_left Ecds world refl
 
 -- where none of the rows of a name is due, tidying leaves them
 module _ (kind : Kind) (name : List ℕ) (w : World)
@@ -403,6 +427,8 @@ keeps_by Cds response verdicts name world none stands fit refused = rows_left_by
 keeps_by Eds response verdicts name world none stands fit refused = value_or_not Eds response verdicts name world stands fit refused _ refl
 keeps_by Lds response verdicts name world none stands fit refused = rows_left_by Lds response verdicts name world stands fit refused refl none
 keeps_by Rds response verdicts name world none stands fit refused = value_or_not Rds response verdicts name world stands fit refused _ refl
+keeps_by Sds response verdicts name world none stands fit refused = value_or_not Sds response verdicts name world stands fit refused _ refl
+keeps_by Ecds response verdicts name world none stands fit refused = value_or_not Ecds response verdicts name world stands fit refused _ refl
 
 -- a response of a kind that refuses a resource keeps what its name has
 pub refusal_keeps : (kind : Kind) (response : ResponseParts) (world : World) (place rule : ℕ) (item : ItemParts) → NothingIsDue world

@@ -1,5 +1,5 @@
--- Why a script has one replay, and why it holds each actor's operations. In the order of a replay an accept or close is in
--- a batch of its actor, which another operation ends.
+-- Why a script has one replay, and why it holds each actor's operations.
+-- In the order of a replay an accept or close is in a batch of its actor, which another operation ends.
 use Rattle.std.proofs.Common.{◌≡◌, inl, inr, ℕ, Bool, true, false, not, List, [], ◌∷◌, ◌++◌, map, filter, refl, ap, sym, ◌∙◌, subst}
 use Rattle.std.specs.Prelude.{⊤}
 use Rattle.std.specs.List.{AllByRecursion as ByRecursion, flat_map}

@@ -7,7 +7,7 @@ use Rattle.std.proofs.lemmas.List.Elements.{All-nil, All-cons, All-head, All-tai
 use Rattle.ev_types.specs.Items.{ItemParts, ResponseParts}
 use Rattle.ev_types.specs.SameContents.{content_same}
 use Rattle.ev_types.specs.declared.contents.Kind.{Kind}
-use Rattle.ev_types.specs.declared.contents.Kind.TheVariants.{Cds, Eds, Lds, Rds}
+use Rattle.ev_types.specs.declared.contents.Kind.TheVariants.{Cds, Eds, Lds, Rds, Sds, Ecds}
 use Rattle.ev_types.specs.declared.contents.Body.{Body}
 use Rattle.ev_types.specs.declared.contents.Body.TheVariants.{Good, Bad, Beat}
 use Rattle.ev_types.specs.declared.contents.Content.{Content}
@@ -17,19 +17,20 @@ use Rattle.ev_types.specs.declared.events.Answer.TheVariants.{Ignored, Replied}
 use Rattle.ev_types.specs.declared.events.Entry.{Entry}
 use Rattle.ev_types.specs.declared.events.Event.{Event}
 use Rattle.ev_types.specs.declared.events.Verdict.{Verdict}
-use Rattle.ev_types.specs.declared.events.Verdict.TheVariants.{New, Same, Kept, Unasked, Renewed, Refused}
+use Rattle.ev_types.specs.declared.events.Verdict.TheVariants.{New, InPlace, Back, Same, Kept, Unasked, Renewed, Refused}
 use Rattle.ev_types.specs.declared.rows.KeptVersion.{KeptVersion}
 use Rattle.ev_types.specs.declared.rows.Live.{Live}
 use Rattle.ev_model.specs.World.{World}
 use Rattle.ev_model.specs.Live.{lives_of, newest_of}
 use Rattle.ev_model.specs.Versions.{is_kept}
 use Rattle.ev_model.specs.Watching.{is_watched}
-use Rattle.ev_model.specs.Verdicts.{stale_rule, twice_rule, removed_rule, form_rule, lesser, rule_of, is_taken, against, good_verdict, body_verdict, verdict_by, verdict_of, lives_after, lives_left, verdicts_from, verdicts_for, verdicts_by, verdicts_of}
+use Rattle.ev_model.specs.Verdicts.{stale_rule, twice_rule, removed_rule, form_rule, lesser, rule_of, is_taken, against, good_verdict, body_verdict, verdict_by, verdict_of, lives_after, lives_left, verdicts_from, verdicts_for, verdicts_by, verdicts_of, serving_of, listener_verdict}
 use Rattle.ev_model.specs.Requests.{refusals, refusal_text, message_of, reply_of, requests_of}
 use Rattle.ev_model.specs.Step.{responded, respond, respond_by, step}
 use Rattle.ev_model.specs.Laws.{Told, world_told, taken_rule, broken_rule, rules_from, rules_broken, complaints, refused_by, IsRepliedByRules, Acknowledged}
 use Rattle.ev_model_laws.proofs.PlaceLemmas.{IsAnswered, Runs, entry_answered}
 use Rattle.ev_model_laws.proofs.RefusedLemmas.{was_replied}
+use Rattle.ev_model_laws.proofs.VerdictLemmas.{listener_each}
 
 against_accepts : (live : Option Live) (content : Content) → refused_by (against live content) ≡ None
 against_accepts None content = refl
@@ -49,14 +50,19 @@ good_refused : (kind : Kind) (lives : List Live) (name : List ℕ) (content : Co
 good_refused Cds lives name content = against_accepts (newest_of lives Cds name) content
 good_refused Eds lives name content = watched_accepts (is_watched lives Eds name)
 good_refused Lds lives name content =
-    taken_refused (is_taken lives name content) (against (newest_of lives Lds name) content) (against_accepts (newest_of lives Lds name) content)
+    taken_refused (is_taken lives name content) (listener_verdict (newest_of lives Lds name) (serving_of lives Lds name) content)
+    (listener_each (λ (v : Verdict). refused_by v ≡ None) refl refl refl refl (newest_of lives Lds name) (serving_of lives Lds name) content)
 good_refused Rds lives name content = watched_accepts (is_watched lives Rds name)
+good_refused Sds lives name content = watched_accepts (is_watched lives Sds name)
+good_refused Ecds lives name content = watched_accepts (is_watched lives Ecds name)
 
 beat_free : (kind : Kind) (lives : List Live) (name : List ℕ) → taken_rule kind lives name Beat ≡ None
 beat_free Cds lives name = refl
 beat_free Eds lives name = refl
 beat_free Lds lives name = refl
 beat_free Rds lives name = refl
+beat_free Sds lives name = refl
+beat_free Ecds lives name = refl
 
 lesser_some : (first : Option ℕ) (rule : ℕ) → lesser first (Some rule) ≡ None → ⊥
 lesser_some None rule none = cc
@@ -117,6 +123,8 @@ told_alike : (verdicts : List Verdict) (items : List ItemParts) → refusals ver
 told_alike [] items = refl
 told_alike (verdict ∷ verdicts) [] = refl
 told_alike (New ∷ verdicts) (item ∷ items) = told_alike verdicts items
+told_alike (InPlace ∷ verdicts) (item ∷ items) = told_alike verdicts items
+told_alike (Back ∷ verdicts) (item ∷ items) = told_alike verdicts items
 told_alike (Same ∷ verdicts) (item ∷ items) = told_alike verdicts items
 told_alike (Kept ∷ verdicts) (item ∷ items) = told_alike verdicts items
 told_alike (Unasked ∷ verdicts) (item ∷ items) = told_alike verdicts items

@@ -14,7 +14,7 @@ use Rattle.ev_model.specs.World.{World, opening}
 use Rattle.ev_model.specs.Step.{step}
 use Rattle.ev_model.specs.Laws.{Told, world_told, IsEntryAt}
 use Rattle.ev_model.proofs.RunLemmas.{length-held}
-use Rattle.ev_model_laws.specs.Kept.{numbers_gone, UsesServed, HidesUnserved, HoldsPublished, NothingIsDue, DrawnOnce, HasParts, AreMade, ComesByEntries, KeepsWatched}
+use Rattle.ev_model_laws.specs.Kept.{numbers_gone, UsesServed, HidesUnserved, HoldsPublished, NothingIsDue, DrawnOnce, HasParts, AreMade, ComesByEntries, KeepsWatched, OpensOnce}
 use Rattle.ev_model_laws.proofs.PlaceLemmas.{IsAnswered, Runs, entry_answered, world_next, gone_next}
 use Rattle.ev_model_laws.proofs.HeldLemmas.{opens_held, step-held}
 use Rattle.ev_model_laws.proofs.SettledLemmas.{settled_next}
@@ -31,6 +31,9 @@ use Rattle.ev_model_laws.proofs.ShownLemmas.{opens_shows, shows_next}
 use Rattle.ev_model.specs.Picture.{is_shown}
 use Rattle.ev_model.specs.Dead.{shown_at}
 use Rattle.ev_model_laws.proofs.WatchedLemmas.{opens_watched, step-watched}
+use Rattle.ev_model_laws.proofs.OneANameLemmas.{stays_single}
+use Rattle.ev_model_laws.proofs.SeenMadeLemmas.{opens_seen_made, seen_made_next}
+use Rattle.ev_model_laws.proofs.OpenOnceLemmas.{opens_opens_once, step-opens_once}
 
 -- who may make an event is no worker, or one of this many
 pub may_known : (workers : ℕ) (actor : Actor) (event : Event) → MayMake workers actor event → IsKnown workers actor
@@ -79,6 +82,8 @@ parts_next told k entry run there parts =
       watched = subst KeepsWatched (sym next) (step-watched told.format world entry.actor entry.event parts.watched);
       serves = serves_next told k entry there parts.serves made come;
       shows = shows_next told k entry there answered parts.serves parts.shows;
+      sees = seen_made_next told k entry there (stays_single.runs told.format told.workers told.node (take k told.journal)) parts.made parts.sees;
+      once = subst OpensOnce (sym next) (step-opens_once told.format world entry.actor entry.event parts.once);
     }
 
 next_by : (told : Told) (k : ℕ) → Runs told → suc k ≤ length told.journal
@@ -105,6 +110,8 @@ parts_kept told run zero le = record {
   watched = opens_watched told.workers told.node;
   serves = λ row there active. absurd (omega (arith, there.1));
   shows = λ version number shown. absurd (both_ways (is_shown number (shown_at (opening told.workers told.node) version)) (opens_shows told.workers told.node version number) shown);
+  sees = opens_seen_made told.workers told.node;
+  once = opens_opens_once told.workers told.node;
 }
 parts_kept told run (suc k) le =
     next_by told k run le (slice_get_cases told.journal k).1 (parts_kept told run k (omega arith))

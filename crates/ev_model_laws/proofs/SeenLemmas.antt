@@ -16,7 +16,7 @@ pub record IsSameSeen (old seen : Seen) : Type 0 where
 keeps_seen : (old : Seen) → KeepsTidied (λ rows made phase versions seen. IsSameSeen old seen) (λ world. IsSameSeen old (seen_of world))
 keeps_seen old = record {
   removed = λ goes rows made phase versions seen same. same;
-  added = λ kind name content rows made phase versions seen same. same;
+  added = λ kind name content kept rows made phase versions seen same. same;
   version_added = λ new rows made phase versions seen same. same;
   version_renewed = λ kind name rows made phase versions seen same. same;
   versions_left = λ test rows made phase versions seen same. same;
@@ -35,7 +35,7 @@ same_seen format world actor event is =
 keeps_expired : (old : List ℕ) → KeepsTidied (λ rows made phase versions seen. seen.expired ≡ old) (λ world. world.expired ≡ old)
 keeps_expired old = record {
   removed = λ goes rows made phase versions seen same. same;
-  added = λ kind name content rows made phase versions seen same. same;
+  added = λ kind name content kept rows made phase versions seen same. same;
   version_added = λ new rows made phase versions seen same. same;
   version_renewed = λ kind name rows made phase versions seen same. same;
   versions_left = λ test rows made phase versions seen same. same;

@@ -10,15 +10,13 @@ use Rattle.ev_types.specs.Kinds.{kind_same}
 use Rattle.ev_types.specs.Same.{numbers_decide}
 use Rattle.ev_types.specs.Statuses.{is_active, is_live, is_warming}
 use Rattle.ev_types.specs.declared.contents.Kind.{Kind}
-use Rattle.ev_types.specs.declared.contents.Kind.TheVariants.{Cds, Eds, Lds, Rds}
-use Rattle.ev_types.specs.declared.contents.Body.{Body}
-use Rattle.ev_types.specs.declared.contents.Body.TheVariants.{Good, Bad, Beat}
+use Rattle.ev_types.specs.declared.contents.Kind.TheVariants.{Cds, Eds, Lds, Rds, Sds, Ecds}
 use Rattle.ev_types.specs.declared.events.Actor.{Actor}
 use Rattle.ev_types.specs.declared.events.Answer.{Answer}
 use Rattle.ev_types.specs.declared.events.Entry.{Entry}
 use Rattle.ev_types.specs.declared.events.Event.{Event}
 use Rattle.ev_types.specs.declared.events.Verdict.{Verdict}
-use Rattle.ev_types.specs.declared.events.Verdict.TheVariants.{New, Same, Kept, Unasked, Renewed, Refused}
+use Rattle.ev_types.specs.declared.events.Verdict.TheVariants.{New, InPlace, Back, Same, Kept, Unasked, Renewed, Refused}
 use Rattle.ev_types.specs.declared.journals.Format.{Format}
 use Rattle.ev_types.specs.declared.rows.Arrival.TheVariants.{Bad as bad}
 use Rattle.ev_types.specs.declared.rows.GenRow.{GenRow}
@@ -29,7 +27,7 @@ use Rattle.ev_model.specs.Live.{lives_of}
 use Rattle.ev_model.specs.Verdicts.{verdicts_for, is_removed}
 use Rattle.ev_model.specs.Watching.{is_watched, dependencies_of}
 use Rattle.ev_model.specs.Warming.{is_ready_by, is_ready}
-use Rattle.ev_model.specs.Rows.{is_row_of, arrived, with_statuses, status_left, with_removals, replaced_status, new_row, add_row, keep_value, keep_version, with_content, told_of_refusal, refuse, add_item, add_items, made_names, with_first}
+use Rattle.ev_model.specs.Rows.{is_row_of, arrived, with_statuses, status_left, with_removals, replaced_status, new_row, add_row, keep_value, keep_version, told_of_refusal, refuse, add_item, add_items, made_names, with_first, rows_replaced, add_in_place, go_back, serving_row}
 use Rattle.ev_model.specs.Tidy.{has_successor, status_by, promoted_status, promoted, arrivals_watched, tidy}
 use Rattle.ev_model.specs.Signals.{ended_status, with_end, forget_version}
 use Rattle.ev_model.specs.Step.{step}
@@ -45,6 +43,10 @@ use Rattle.ev_model_laws.proofs.MadeLemmas.{made_more}
 use Rattle.ev_model_laws.proofs.PlaceLemmas.{world_next}
 use Rattle.ev_model_laws.proofs.OneANameLemmas.{removed_active, replaced_active}
 use Rattle.ev_model_laws.proofs.AnsweredLemmas.{answered_by, ready_answered}
+use Rattle.ev_model_laws.proofs.KeepLemmas.{with_content-holds}
+use Rattle.ev_types.specs.declared.origins.KeptChain.{KeptChain}
+use Rattle.ev_model.specs.Origins.{kept_from}
+use Rattle.ev_types.specs.declared.contents.Content.{Content}
 
 -- what serves in the one world serves in the other
 abbrev ServesWithin : World → World → Type 0
@@ -68,30 +70,23 @@ module _ (before : World) where
   removals_serve Lds response world within number h =
       within number (statuses_within number (status_left Lds response) world.rows (λ (row : GenRow). removed_active (kind_same row.kind Lds && is_removed response row.name) row.status) h)
   removals_serve Rds response world within number h = within number h
+  removals_serve Sds response world within number h = within number h
+  removals_serve Ecds response world within number h = within number h
 
-  new_serves : (kind : Kind) (item : ItemParts) (body : Body) (world : World) → ServesWithin before world
-      → ServesWithin before (with_content (add_row kind item) body world)
-  new_serves kind item (Good content) world within number =
-      let new : GenRow = new_row kind world.made item.name content in
-      any_behind (serves_numbered number) (with_statuses (replaced_status kind item.name) world.rows) (new ∷ [])
-      (λ olds. within number
-      (statuses_within number (replaced_status kind item.name) world.rows
-      (λ (row : GenRow). replaced_active (is_row_of kind item.name row && is_warming row.status) row.status) olds))
+  replaced_serves : (kind : Kind) (name : List ℕ) (world : World) → ServesWithin before world
+      → ServesWithin before (record world { rows = rows_replaced kind name world.rows })
+  replaced_serves kind name world within number olds =
+      within number
+      (statuses_within number (replaced_status kind name) world.rows
+      (λ (row : GenRow). replaced_active (is_row_of kind name row && is_warming row.status) row.status) olds)
+
+  row_serves : (kind : Kind) (item : ItemParts) (content : Content) (chains : List KeptChain) (world : World) → ServesWithin before world
+      → ServesWithin before (add_row kind item content chains world)
+  row_serves kind item content chains world within number =
+      let new : GenRow = new_row kind world.made item.name content chains in
+      any_behind (serves_numbered number) (rows_replaced kind item.name world.rows) (new ∷ [])
+      (replaced_serves kind item.name world within number)
       (λ is. absurd (false≢true (second_so (world.made + 1 == number) false (any_only (serves_numbered number) new is))))
-  new_serves kind item (Bad rule) world within number = within number
-  new_serves kind item Beat world within number = within number
-
-  same_serves : (kind : Kind) (item : ItemParts) (body : Body) (world : World) → ServesWithin before world
-      → ServesWithin before (with_content (λ content. keep_version kind item) body world)
-  same_serves kind item (Good content) world within = within
-  same_serves kind item (Bad rule) world within = within
-  same_serves kind item Beat world within = within
-
-  value_serves : (kind : Kind) (item : ItemParts) (body : Body) (world : World) → ServesWithin before world
-      → ServesWithin before (with_content (keep_value kind item) body world)
-  value_serves kind item (Good content) world within = within
-  value_serves kind item (Bad rule) world within = within
-  value_serves kind item Beat world within = within
 
   told_serves : (kind : Kind) (name : List ℕ) (world : World) → ServesWithin before world → ServesWithin before (told_of_refusal kind name world)
   told_serves kind name world within =
@@ -104,11 +99,22 @@ module _ (before : World) where
   refuse_serves Eds name world within = told_serves Eds name world within
   refuse_serves Lds name world within = within
   refuse_serves Rds name world within = told_serves Rds name world within
+  refuse_serves Sds name world within = told_serves Sds name world within
+  refuse_serves Ecds name world within = told_serves Ecds name world within
 
   item_serves : (kind : Kind) (verdict : Verdict) (item : ItemParts) (world : World) → ServesWithin before world → ServesWithin before (add_item kind verdict item world)
-  item_serves kind New item world within = new_serves kind item item.body world within
-  item_serves kind Same item world within = same_serves kind item item.body world within
-  item_serves kind Kept item world within = value_serves kind item item.body world within
+  item_serves kind New item world within =
+      with_content-holds (ServesWithin before) (λ content. add_row kind item content []) item.body world
+      (λ content. row_serves kind item content [] world within) within
+  item_serves kind InPlace item world within =
+      with_content-holds (ServesWithin before) (add_in_place kind item) item.body world
+      (λ content. row_serves kind item content (kept_from (serving_row kind item.name world.rows) content) world within) within
+  item_serves kind Back item world within =
+      with_content-holds (ServesWithin before) (λ content. go_back kind item) item.body world (λ content. replaced_serves kind item.name world within) within
+  item_serves kind Same item world within =
+      with_content-holds (ServesWithin before) (λ content. keep_version kind item) item.body world (λ content. within) within
+  item_serves kind Kept item world within =
+      with_content-holds (ServesWithin before) (keep_value kind item) item.body world (λ content. within) within
   item_serves kind Unasked item world within = within
   item_serves kind Renewed item world within = within
   item_serves kind (Refused rule) item world within = refuse_serves kind item.name world within
@@ -123,6 +129,8 @@ module _ (before : World) where
   first_serves Eds names world within = within
   first_serves Lds names world within = within
   first_serves Rds names world within = within
+  first_serves Sds names world within = within
+  first_serves Ecds names world within = within
 
   end_serves : (kind : Kind) (name : List ℕ) (world : World) → ServesWithin before world → ServesWithin before (with_end kind name world)
   end_serves Cds name world within number h =
@@ -131,6 +139,8 @@ module _ (before : World) where
   end_serves Lds name world within number h =
       within number (statuses_within number (ended_status Lds name) world.rows (λ (row : GenRow). removed_active (is_row_of Lds name row) row.status) h)
   end_serves Rds name world within number h = within number h
+  end_serves Sds name world within number h = within number h
+  end_serves Ecds name world within number h = within number h
 
 -- it served, or is ready
 abbrev ServedOrReady : World → GenRow → Type 0

@@ -83,14 +83,7 @@ answers_settle = record {
   not_open = refl;
   no_listener = refl;
   no_chain = refl;
-  undecided = λ listener. refl;
-  elsewhere = λ listener cluster. refl;
-  no_route = λ listener. refl;
-  redirect = λ listener. refl;
-  no_cluster = λ listener. refl;
-  no_endpoint = λ listener. refl;
-  local = λ listener status. refl;
-  served = λ listener cluster host. refl;
+  on = λ listener chain way. refl;
 }
 
 set_by : (held : List ℕ) (settler worker value : ℕ) (same : Bool) → (settler == worker) ≡ same → worker < length held

@@ -1,5 +1,5 @@
--- Entries that come after the one that made a generation: what one of them has told stays told with more entries, and was told
--- since an earlier generation too.
+-- Entries that come after the one that made a generation:
+-- what one of them has told stays told with more entries, and was told since an earlier generation too.
 use Rattle.std.proofs.Common.{◌≡◌, ℕ, zero, suc, ◌+◌, ◌-◌, ◌≤◌, ◌<◌, Bool, true, false, cond, List, [], ◌∷◌, ◌++◌, length, length-append, arith}
 use Rattle.std.specs.Prelude.{nat_le}
 use Rattle.std.specs.List.{list_any}

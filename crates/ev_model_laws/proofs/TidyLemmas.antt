@@ -1,11 +1,12 @@
--- Why tidying a world that was tidied changes nothing: no row that warms is ready any more, since neither what goes with names
--- that aren't watched nor the results that go are of a live row, and what is filtered was filtered by the same tests.
-use Rattle.std.proofs.Common.{◌≡◌, ℕ, Bool, true, false, not, ◌&&◌, ◌||◌, ◌==◌, List, [], map, filter, filter_map, Option, None, refl, ap, ap₂, sym, ◌∙◌}
+-- Why tidying a world that was tidied changes nothing:
+-- no row that warms is ready any more, since neither what goes with names that aren't watched nor the results
+-- that go are of a live row, and what is filtered was filtered by the same tests.
+use Rattle.std.proofs.Common.{◌≡◌, ℕ, Bool, true, false, not, ◌&&◌, ◌||◌, ◌==◌, List, map, filter, filter_map, Option, None, refl, ap, ap₂, sym, ◌∙◌, ◌++◌}
 use Rattle.std.specs.List.{Contains, list_all, last_or}
 use Rattle.std.specs.Str.{bytes_eq}
 use Rattle.std.specs.Cmp.{first_so, second_so}
 use Rattle.std.proofs.lemmas.Bool.{and_from}
-use Rattle.std.proofs.lemmas.List.Elements.{All-map, All-contains, Contains-push}
+use Rattle.std.proofs.lemmas.List.Elements.{All-map, All-contains}
 use Rattle.std.proofs.lemmas.Map.Views.{any-filter_same}
 use Rattle.ev_types.specs.Hosts.{HostRowParts}
 use Rattle.ev_types.specs.Kinds.{kind_same, kind_decides}
@@ -14,9 +15,9 @@ use Rattle.ev_types.specs.SameHosts.{host_same, host_decides, has_host}
 use Rattle.ev_types.specs.Statuses.{is_warming, is_live}
 use Rattle.ev_types.specs.declared.hosts.Host.{Host}
 use Rattle.ev_types.specs.declared.contents.Kind.{Kind}
-use Rattle.ev_types.specs.declared.contents.Kind.TheVariants.{Eds}
+use Rattle.ev_types.specs.declared.contents.Kind.TheVariants.{Eds, Sds}
 use Rattle.ev_types.specs.declared.contents.Content.{Content}
-use Rattle.ev_types.specs.declared.contents.Content.TheVariants.{Cluster as a_cluster, Assignment as an_assignment, Listener as a_listener, Routes as routes}
+use Rattle.ev_types.specs.declared.contents.Content.TheVariants.{Cluster as a_cluster, Assignment as an_assignment, Listener as a_listener, Routes as routes, Secret as a_secret, Extension as an_extension}
 use Rattle.ev_types.specs.declared.clusters.Discovery.{Discovery}
 use Rattle.ev_types.specs.declared.clusters.Discovery.TheVariants.{Static, Eds as by_eds, Elsewhere}
 use Rattle.ev_types.specs.declared.rows.Arrival.{Arrival}
@@ -28,14 +29,14 @@ use Rattle.ev_types.specs.declared.rows.GenRow.{GenRow}
 use Rattle.ev_types.specs.declared.rows.Live.{Live}
 use Rattle.ev_model.specs.World.{World, Arrived, HealthResult}
 use Rattle.ev_model.specs.Live.{lives_of, live_of}
-use Rattle.ev_model.specs.Watching.{Dependency, dependencies_of, discovery_dependencies, has_dependency, is_dependency, is_watched}
+use Rattle.ev_model.specs.Watching.{Dependency, dependencies_of, discovery_dependencies, has_dependency, is_dependency, is_watched, each_once, referred, cluster_secrets}
 use Rattle.ev_model.specs.Warming.{is_for, came_for, content_in, rows_in, is_word, is_timeout, last_made, counts_for, has_answer, is_answered_by, discovered, assignment_by, is_checked, is_result_of, has_result, has_all_results, is_ready_by}
 use Rattle.ev_model.specs.Rows.{is_row_of}
 use Rattle.ev_model.specs.Phase.{phase_from, phase_after, clusters_have_come, listeners_have_come}
 use Rattle.ev_model.specs.Tidy.{is_due, has_successor, status_by, promoted_status, promoted_rows, promoted, arrivals_watched, is_version_due, without_unwatched, is_result_due, without_old_results, with_phase, tidy}
 use Rattle.ev_model_laws.specs.Kept.{NothingIsDue}
 use Rattle.ev_model_laws.specs.Tidying.{TidiesOnce}
-use Rattle.ev_model_laws.proofs.TidyLists.{all_of, any_at, any_none, all_agree, map_same, filter_within, filter_twice, any_of_map}
+use Rattle.ev_model_laws.proofs.TidyLists.{all_of, any_at, any_none, all_agree, map_same, filter_within, filter_twice, any_of_map, first_in}
 
 -- what is depended on is watched
 abbrev pub IsKept : List Live → List Dependency → Type 0
@@ -62,7 +63,7 @@ for_watched lives kind name a watched h =
     ∙ ap (is_watched lives kind) ((bytes_decide a.name name).0 (second_so (kind_same a.kind kind) (bytes_eq a.name name) h))
     ∙ watched
 
--- what came for a watched name stays, in order
+-- what was received for a watched name stays, in order
 pub for_same : (lives : List Live) (arrivals : List Arrived) (kind : Kind) (name : List ℕ) → is_watched lives kind name ≡ true
     → filter (is_for kind name) (arrivals_watched lives arrivals) ≡ filter (is_for kind name) arrivals
 for_same lives arrivals kind name watched =
@@ -92,21 +93,25 @@ answers_same lives arrivals number ds watched =
     (made_same is_word lives arrivals d.kind d.name (watched d among))
     (made_same is_timeout lives arrivals d.kind d.name (watched d among)))
 
--- and so the hosts of a content whose dependencies are watched
-discovered_same : (lives : List Live) (arrivals : List Arrived) (discovery : Discovery) → IsKept lives (discovery_dependencies discovery)
+-- and so the hosts of a cluster whose dependencies are watched, whatever else it depends on
+discovered_same : (lives : List Live) (arrivals : List Arrived) (discovery : Discovery) (more : List Dependency)
+    → IsKept lives (each_once (discovery_dependencies discovery ++ more))
     → discovered (arrivals_watched lives arrivals) discovery ≡ discovered arrivals discovery
-discovered_same lives arrivals (Static rows) watched = refl
-discovered_same lives arrivals (by_eds service limited fresh) watched =
+discovered_same lives arrivals (Static rows) more watched = refl
+discovered_same lives arrivals (by_eds service limited fresh) more watched =
     let d : Dependency = record { kind = Eds; name = service; limited = limited; fresh = fresh } in
-    ap (λ came. rows_in (last_or None (filter_map content_in came))) (came_same lives arrivals Eds service (watched d (Contains-push [] d)))
-discovered_same lives arrivals Elsewhere watched = refl
+    ap (λ came. rows_in (last_or None (filter_map content_in came))) (came_same lives arrivals Eds service (watched d (first_in d _)))
+discovered_same lives arrivals Elsewhere more watched = refl
 
 hosts_same : (lives : List Live) (arrivals : List Arrived) (content : Content) → IsKept lives (dependencies_of content)
     → assignment_by (arrivals_watched lives arrivals) content ≡ assignment_by arrivals content
-hosts_same lives arrivals (a_cluster cluster) watched = discovered_same lives arrivals cluster.discovery watched
+hosts_same lives arrivals (a_cluster cluster) watched =
+    discovered_same lives arrivals cluster.discovery (referred Sds (cluster_secrets cluster)) watched
 hosts_same lives arrivals (an_assignment rows) watched = refl
 hosts_same lives arrivals (a_listener listener) watched = refl
 hosts_same lives arrivals (routes table) watched = refl
+hosts_same lives arrivals a_secret watched = refl
+hosts_same lives arrivals an_extension watched = refl
 
 -- a row whose dependencies are watched is ready without what isn't watched where it is ready with it
 pub watched_ready : (lives : List Live) (arrivals : List Arrived) (results : List HealthResult) (row : GenRow)

@@ -1,7 +1,11 @@
--- Lists under the tests of tidying: what holds of what each element that they contain gives, and filters one after another.
-use Rattle.std.proofs.Common.{◌≡◌, Bool, true, false, ◌&&◌, ◌||◌, List, [], ◌∷◌, map, filter, refl, ap, ◌∙◌}
-use Rattle.std.specs.List.{All, AllByRecursion as ByRecursion, Contains, list_any, list_all}
-use Rattle.std.proofs.lemmas.List.Elements.{All-contains_itself, All-weaker, recursion_from_All}
+-- Lists under the tests of tidying: what holds of what each element that they contain gives,
+-- and filters one after another.
+use Rattle.std.proofs.Common.{◌≡◌, Bool, true, false, ◌&&◌, ◌||◌, List, [], ◌∷◌, map, filter, Some, refl, sym, ap, ◌∙◌}
+use Rattle.std.specs.List.{All, AllByRecursion as ByRecursion, Contains, find, list_any, list_all}
+use Rattle.std.specs.Option.{IfSome}
+use Rattle.std.proofs.lemmas.Bool.{false≢true, cond_both}
+use Rattle.std.proofs.lemmas.Option.{IfSome_then}
+use Rattle.std.proofs.lemmas.List.Elements.{All-nil, All-cons, All-contains, All-contains_itself, All-filter, All-map, All-weaker, Contains-append_left, Contains-append_right, Contains-push, filter_passes, recursion_from_All}
 use Rattle.std.proofs.lemmas.List.Folds.{list_any_none, list_any_at}
 
 -- what holds of each element that a list contains holds of all
@@ -62,3 +66,56 @@ pub any_of_map : {X Y : Type 0} (p : Y → Bool) (f : X → Y) (q : X → Bool) 
     → list_any p (map f (filter q xs)) ≡ list_any (λ x. q x && p (f x)) xs
 any_of_map p f q [] = refl
 any_of_map p f q (x ∷ xs) = of_map_by p f q x xs (q x) refl (any_of_map p f q xs)
+
+-- the first element of a list, and those behind it
+pub first_in : {X : Type 0} (x : X) (xs : List X) → Contains (x ∷ xs) x
+first_in x xs = Contains-append_left (x ∷ []) xs x (Contains-push [] x)
+
+pub rest_in : {X : Type 0} (first : X) (xs : List X) (x : X) → Contains xs x → Contains (first ∷ xs) x
+rest_in first xs x there = Contains-append_right (first ∷ []) xs x there
+
+-- what is found is an element that passes the test
+pub found_in : {X : Type 0} (test : X → Bool) (xs : List X) → IfSome (find test xs) (λ x. Contains xs x × (test x ≡ true))
+found_in test [] = tt
+found_in test (first ∷ xs) =
+    cond_both (test first) (Some first) (find test xs) (λ o. IfSome o (λ x. Contains (first ∷ xs) x × (test x ≡ true)))
+    (λ passes. (first_in first xs, passes))
+    (λ fails. IfSome_then (find test xs) (found_in test xs) (λ x h. (rest_in first xs x h.0, h.1)))
+
+-- what a filter leaves was there, and passes
+pub left_in : {X : Type 0} (test : X → Bool) (xs : List X) (x : X) → Contains (filter test xs) x → Contains xs x × (test x ≡ true)
+left_in test xs x there = (
+  All-contains (Contains xs) (filter test xs) x (All-filter test (Contains xs) xs (All-contains_itself xs)) there,
+  All-contains (λ y. test y ≡ true) (filter test xs) x (filter_passes test xs) there,
+)
+
+-- what passes is among what a filter leaves
+pub passing_in : {X : Type 0} (test : X → Bool) (xs : List X) → All (λ x. test x ≡ true → Contains (filter test xs) x) xs
+passing_in test [] = All-nil _
+passing_in test (first ∷ xs) =
+    let old : All (λ x. test x ≡ true → Contains (filter test xs) x) xs = passing_in test xs in
+    cond_both (test first) (first ∷ filter test xs) (filter test xs) (λ left. All (λ x. test x ≡ true → Contains left x) (first ∷ xs))
+    (λ passes. All-cons (λ x. test x ≡ true → Contains (first ∷ filter test xs) x) first xs (λ is. first_in first (filter test xs))
+    (All-weaker (λ x. test x ≡ true → Contains (filter test xs) x) (λ x. test x ≡ true → Contains (first ∷ filter test xs) x)
+    (λ x so is. rest_in first (filter test xs) x (so is)) xs old))
+    (λ fails. All-cons (λ x. test x ≡ true → Contains (filter test xs) x) first xs (λ is. absurd (false≢true (sym fails ∙ is))) old)
+
+made_each : {X Y : Type 0} (f : X → Y) (xs : List X) → All (λ y. Contains (map f xs) (f y)) xs
+made_each f [] = All-nil _
+made_each f (first ∷ xs) =
+    All-cons (λ y. Contains (map f (first ∷ xs)) (f y)) first xs (first_in (f first) (map f xs))
+    (All-weaker (λ y. Contains (map f xs) (f y)) (λ y. Contains (map f (first ∷ xs)) (f y)) (λ y there. rest_in (f first) (map f xs) (f y) there) xs
+    (made_each f xs))
+
+-- what is made of an element is among what is made of all
+pub made_in : {X Y : Type 0} (f : X → Y) (xs : List X) (x : X) → Contains xs x → Contains (map f xs) (f x)
+made_in f xs x there =
+    All-contains (λ y. Contains (map f xs) (f y)) xs x (made_each f xs) there
+
+-- and what is among those is made of an element
+pub made_from : {X Y : Type 0} (f : X → Y) (xs : List X) (y : Y) → Contains (map f xs) y → (x : X) × Contains xs x × (f x ≡ y)
+made_from {X = X} f xs y there =
+    All-contains (λ z. (x : X) × Contains xs x × (f x ≡ z)) (map f xs) y
+    (All-map (λ z. (x : X) × Contains xs x × (f x ≡ z)) f xs
+    (all_of (λ x. (w : X) × Contains xs w × (f w ≡ f x)) xs (λ x among. (x, among, refl))))
+    there

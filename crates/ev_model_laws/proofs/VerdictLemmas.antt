@@ -7,30 +7,39 @@ use Rattle.std.proofs.lemmas.Bool.{both_ways, cond_both, cases_Bool, le-leb, leb
 use Rattle.ev_types.specs.Items.{ItemParts, ResponseParts}
 use Rattle.ev_types.specs.Same.{bytes_decide}
 use Rattle.ev_types.specs.declared.contents.Kind.{Kind}
-use Rattle.ev_types.specs.declared.contents.Kind.TheVariants.{Cds, Eds, Lds, Rds}
+use Rattle.ev_types.specs.declared.contents.Kind.TheVariants.{Cds, Eds, Lds, Rds, Sds, Ecds}
 use Rattle.ev_types.specs.declared.contents.Body.{Body}
 use Rattle.ev_types.specs.declared.contents.Body.TheVariants.{Good, Bad, Beat}
 use Rattle.ev_types.specs.declared.contents.Content.{Content}
 use Rattle.ev_types.specs.declared.events.Verdict.{Verdict}
-use Rattle.ev_types.specs.declared.events.Verdict.TheVariants.{New, Same, Kept, Unasked, Renewed, Refused}
+use Rattle.ev_types.specs.declared.events.Verdict.TheVariants.{New, InPlace, Back, Same, Kept, Unasked, Renewed, Refused}
 use Rattle.ev_types.specs.declared.rows.Live.{Live}
 use Rattle.ev_types.specs.declared.rows.KeptVersion.{KeptVersion}
 use Rattle.ev_types.specs.SameContents.{content_same}
 use Rattle.ev_model.specs.Live.{newest_of}
 use Rattle.ev_model.specs.Versions.{is_kept}
 use Rattle.ev_model.specs.Watching.{is_watched}
-use Rattle.ev_model.specs.Verdicts.{items_named, is_among, is_removed, lesser, twice_rule, stale_rule, removed_rule, form_rule, rule_of, is_taken, against, good_verdict, body_verdict, verdict_by, verdict_of, verdicts_from, lives_after}
+use Rattle.ev_model.specs.Verdicts.{items_named, is_among, is_removed, lesser, twice_rule, stale_rule, removed_rule, form_rule, rule_of, is_taken, against, good_verdict, body_verdict, verdict_by, verdict_of, verdicts_from, lives_after, returns_to, changes_chains, update_verdict, content_verdict, serving_of, serving_verdict, listener_verdict}
 use Rattle.ev_model_laws.specs.Acknowledging.{is_refused}
+use Rattle.ev_types.specs.Kinds.{kind_same, kind_decides, is_by_name}
+use Rattle.ev_types.specs.declared.listeners.Listener.{Listener}
+use Rattle.ev_types.specs.declared.contents.Content.TheVariants.{Listener as a_listener}
 
--- the verdict may be given on a resource of the kind: clusters and listeners make generations, endpoints and routes are values
+-- the verdict may be given on a resource of the kind: clusters and listeners make generations,
+-- listeners alone in place of one that serves, and what is asked for by name is a value
 abbrev pub fits : Kind → Verdict → Bool
-fits Cds Kept = false
-fits Lds Kept = false
-fits Eds New = false
-fits Eds Same = false
-fits Rds New = false
-fits Rds Same = false
-fits kind verdict = true
+fits kind New = not (is_by_name kind)
+fits kind InPlace = kind_same kind Lds
+fits kind Back = kind_same kind Lds
+fits kind Same = not (is_by_name kind)
+fits kind Kept = is_by_name kind
+fits kind Unasked = true
+fits kind Renewed = true
+fits kind (Refused rule) = true
+
+-- a listener isn't asked for by name
+pub listener_not : (kind : Kind) → kind_same kind Lds ≡ true → is_by_name kind ≡ false
+listener_not kind is = ap is_by_name ((kind_decides kind Lds).0 is)
 
 -- what holds of what each verdict is
 module _ (P : Verdict → Type 0) (kind : Kind) (response : ResponseParts) (lives : List Live) (versions : List KeptVersion) (item : ItemParts)
@@ -49,6 +58,26 @@ module _ (P : Verdict → Type 0) (kind : Kind) (response : ResponseParts) (live
   pub verdict_each : P (verdict_of kind response lives versions item)
   verdict_each = rule_each (rule_of kind response lives versions item)
 
+-- what holds of each verdict on a good listener whose address is free holds of the one that it is given
+module _ (P : Verdict → Type 0) (new : P New) (in_place : P InPlace) (back : P Back) (same : P Same) where
+  update_each : (active update : Listener) → P (update_verdict active update)
+  update_each active update =
+      cond_both (returns_to active update) Back (cond (changes_chains active update) InPlace New) P (λ is. back)
+      (λ other. cond_both (changes_chains active update) InPlace New P (λ is. in_place) (λ isnt. new))
+
+  content_each : (active update : Content) → P (content_verdict active update)
+  content_each (a_listener active) (a_listener update) = update_each active update
+  content_each active update = new
+
+  serving_each : (serving : Option Live) (content : Content) → P (serving_verdict serving content)
+  serving_each None content = new
+  serving_each (Some live) content = content_each live.content content
+
+  pub listener_each : (newest serving : Option Live) (content : Content) → P (listener_verdict newest serving content)
+  listener_each None serving content = new
+  listener_each (Some newest) serving content =
+      cond_both (content_same newest.content content) Same (serving_verdict serving content) P (λ is. same) (λ other. serving_each serving content)
+
 against_fits : (kind : Kind) (live : Option Live) (content : Content) → fits kind New ≡ true → fits kind Same ≡ true
     → fits kind (against live content) ≡ true
 against_fits kind None content new same = new
@@ -63,34 +92,20 @@ good_fits : (kind : Kind) (lives : List Live) (name : List ℕ) (content : Conte
 good_fits Cds lives name content = against_fits Cds (newest_of lives Cds name) content refl refl
 good_fits Eds lives name content = watched_fits Eds (is_watched lives Eds name) refl refl
 good_fits Lds lives name content =
-    cond_both (is_taken lives name content) (Refused 15) (against (newest_of lives Lds name) content) (λ (v : Verdict). fits Lds v ≡ true)
-    (λ taken. refl) (λ free. against_fits Lds (newest_of lives Lds name) content refl refl)
+    cond_both (is_taken lives name content) (Refused 15) (listener_verdict (newest_of lives Lds name) (serving_of lives Lds name) content)
+    (λ (v : Verdict). fits Lds v ≡ true)
+    (λ taken. refl)
+    (λ free. listener_each (λ (v : Verdict). fits Lds v ≡ true) refl refl refl refl (newest_of lives Lds name) (serving_of lives Lds name) content)
 good_fits Rds lives name content = watched_fits Rds (is_watched lives Rds name) refl refl
-
-refused_fits : (kind : Kind) (rule : ℕ) → fits kind (Refused rule) ≡ true
-refused_fits Cds rule = refl
-refused_fits Eds rule = refl
-refused_fits Lds rule = refl
-refused_fits Rds rule = refl
-
-renewed_fits : (kind : Kind) → fits kind Renewed ≡ true
-renewed_fits Cds = refl
-renewed_fits Eds = refl
-renewed_fits Lds = refl
-renewed_fits Rds = refl
-
-unasked_fits : (kind : Kind) → fits kind Unasked ≡ true
-unasked_fits Cds = refl
-unasked_fits Eds = refl
-unasked_fits Lds = refl
-unasked_fits Rds = refl
+good_fits Sds lives name content = watched_fits Sds (is_watched lives Sds name) refl refl
+good_fits Ecds lives name content = watched_fits Ecds (is_watched lives Ecds name) refl refl
 
 -- a verdict fits its kind
 pub verdict_fits : (kind : Kind) (response : ResponseParts) (lives : List Live) (versions : List KeptVersion) (item : ItemParts)
     → fits kind (verdict_of kind response lives versions item) ≡ true
 verdict_fits kind response lives versions item =
     verdict_each (λ (v : Verdict). fits kind v ≡ true) kind response lives versions item
-    (refused_fits kind) (renewed_fits kind) (unasked_fits kind) (λ content is. good_fits kind lives item.name content)
+    (λ rule. refl) refl refl (λ content is. good_fits kind lives item.name content)
 
 -- what holds of each verdict with its resource holds of all that a response is given
 pub judged_by : (P : Verdict × ItemParts → Type 0) (kind : Kind) (response : ResponseParts) (versions : List KeptVersion)

@@ -1,5 +1,6 @@
--- Of each kind and name at most one version is kept, and the versions are in the order of their names: a new one takes the
--- place of that of its kind and name, or comes before the first whose name is greater.
+-- Of each kind and name at most one version is kept, and the versions are in the order
+-- of their names: a new one takes the place of that of its kind and name,
+-- or comes before the first whose name is greater.
 use Rattle.std.proofs.Common.{◌≡◌, ℕ, ◌≤◌, Bool, true, false, cond, List, [], ◌∷◌, map, filter, refl, sym, ap, Ordering, Less, Equal, Greater, ◌∙◌, subst, le_trans, arith}
 use Rattle.std.specs.Bool.{Decides}
 use Rattle.std.specs.List.{AllByRecursion as ByRecursion}
@@ -239,7 +240,7 @@ renewed_kept kind name versions kept = record {
 keeps_kept : KeepsAll (λ (rows : List GenRow) (made : ℕ) (phase : Phase) versions. AreKeptOnce versions)
 keeps_kept = record {
   removed = λ goes rows made phase versions kept. kept;
-  added = λ kind name content rows made phase versions kept. kept;
+  added = λ kind name content chains rows made phase versions kept. kept;
   left = λ test rows made phase versions kept. kept;
   version_added = λ new rows made phase versions kept. with_kept new versions kept;
   version_renewed = λ kind name rows made phase versions kept. renewed_kept kind name versions kept;

@@ -62,13 +62,13 @@ keeps_others : (number : ℕ) (name : List ℕ) → Keeps (λ rows made (phase :
 keeps_others number name = record {
   removed = λ goes rows made phase fact.
       (fact.0, others_with number name (removed_where goes) rows (λ row. removed_served (goes row) row.status) fact.1);
-  added = λ kind other content rows made phase fact. (
+  added = λ kind other content kept rows made phase fact. (
     omega (arith, fact.0),
-    list_any-append (is_other number name) (with_statuses (replaced_status kind other) rows) (new_row kind made other content ∷ [])
+    list_any-append (is_other number name) (with_statuses (replaced_status kind other) rows) (new_row kind made other content kept ∷ [])
         ∙ or_from _ _
         (others_with number name (replaced_status kind other) rows (λ row. replaced_served (is_row_of kind other row) row.status) fact.1)
-        (or_from (is_other number name (new_row kind made other content)) false
-        (and_left (made + 1 == number) (not (has_listened name (new_row kind made other content))) (next_apart number made fact.0)) refl),
+        (or_from (is_other number name (new_row kind made other content kept)) false
+        (and_left (made + 1 == number) (not (has_listened name (new_row kind made other content kept))) (next_apart number made fact.0)) refl),
   );
   left = λ test rows made phase fact. (fact.0, none_left (is_other number name) test rows fact.1);
   tidied = λ world fact. (
@@ -79,7 +79,7 @@ keeps_others number name = record {
   );
 }
 
--- each row of this number is a listener of this name that has served, and the number was drawn
+-- each row of this number is a listener of this name that has served, and the number was allocated
 abbrev HasListened : ℕ → List ℕ → World → Type 0
 HasListened number name world = (number ≤ world.made) × (list_any (is_other number name) world.rows ≡ false)
 

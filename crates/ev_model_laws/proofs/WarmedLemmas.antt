@@ -1,11 +1,8 @@
 -- Connections go only to warmed generations: an accept names what the picture shows that its worker holds.
-use Rattle.std.proofs.Common.{◌≡◌, ℕ, ◌<◌, true, ◌==◌, length, take, Option, Some, None, sym, ap, ◌∙◌, subst, arith}
-use Rattle.std.specs.Option.{IfSome}
-use Rattle.std.proofs.lemmas.Bool.{false≢true, cond_both}
+use Rattle.std.proofs.Common.{◌≡◌, ℕ, ◌<◌, true, ◌==◌, length, take, sym, ap, ◌∙◌, subst, arith}
+use Rattle.std.proofs.lemmas.Bool.{false≢true, cond_both, or_left, or_right}
 use Rattle.std.proofs.lemmas.Option.{slice_get_within}
 use Rattle.ev_types.specs.Events.{MayMake}
-use Rattle.ev_types.specs.Same.{numbers_decide}
-use Rattle.ev_types.specs.declared.hosts.Host.{Host}
 use Rattle.ev_types.specs.declared.events.Actor.{Actor}
 use Rattle.ev_types.specs.declared.events.Actor.TheVariants.{Stream, Health as health_checker, Timer, Main, Worker}
 use Rattle.ev_types.specs.declared.events.Answer.TheVariants.{InUse}
@@ -15,49 +12,31 @@ use Rattle.ev_types.specs.declared.events.Event.{Event}
 use Rattle.ev_types.specs.declared.events.Event.TheVariants.{Accept}
 use Rattle.ev_model.specs.declared.pictures.Picture.{Picture}
 use Rattle.ev_model.specs.declared.pictures.Choice.{Choice}
-use Rattle.ev_model.specs.declared.pictures.Choice.TheVariants.{NoListener, NoChain, Undecided, Elsewhere, NoRoute, Local, Redirect, NoCluster, NoEndpoint, Served}
+use Rattle.ev_model.specs.declared.pictures.Choice.TheVariants.{NoListener, NoChain, On}
 use Rattle.ev_model.specs.World.{World}
 use Rattle.ev_model.specs.Picture.{is_shown}
 use Rattle.ev_model.specs.Dead.{shown_at, version_held, picture_held, is_forwarded_to}
 use Rattle.ev_model.specs.Choice.{choice_of}
-use Rattle.ev_model.specs.Connections.{Worked, is_open, host_at, served_by, answer_of, opened_by, accept}
+use Rattle.ev_model.specs.Connections.{Worked, is_open, cluster_on, way_of, answer_of, opened_by, accept}
 use Rattle.ev_model.specs.Step.{step}
-use Rattle.ev_model.specs.Entries.{names_row, is_accept, last_settled}
+use Rattle.ev_model.specs.Entries.{cluster_named_by, names_row, is_accept, last_settled}
 use Rattle.ev_model.specs.Laws.{Told, world_told, WasWarm, Warmed}
 use Rattle.ev_model_laws.specs.Kept.{HasParts}
 use Rattle.ev_model_laws.proofs.AnyLemmas.{or_so}
-use Rattle.ev_model_laws.proofs.ChoiceLemmas.{ShowsChosen, choice_shown}
+use Rattle.ev_model_laws.proofs.ChoiceLemmas.{ShowsChosen, choice_shown, taken_shown, way_names}
 use Rattle.ev_model_laws.proofs.PlaceLemmas.{Runs, IsAnswered, entry_answered}
 use Rattle.ev_model_laws.proofs.RunParts.{parts_kept}
 
-module _ (picture : Picture) (number : ℕ) where
-  is_number : (listener : ℕ) → is_shown listener picture.shown ≡ true → (listener == number) ≡ true → is_shown number picture.shown ≡ true
-  is_number listener shown same = subst (λ n. is_shown n picture.shown ≡ true) ((numbers_decide listener number).0 same) shown
-
-  served_names : (listener cluster : ℕ) (host : Option Host) → is_shown listener picture.shown ≡ true → is_shown cluster picture.shown ≡ true
-      → names_row number (served_by listener cluster host) ≡ true → is_shown number picture.shown ≡ true
-  served_names listener cluster None first second names = is_number listener first names
-  served_names listener cluster (Some host) first second names =
-      or_so (listener == number) (cluster == number) (is_number listener first) (is_number cluster second) names
-
-  is_forwarded : (cluster : Option ℕ) → IfSome cluster (λ c. is_shown c picture.shown ≡ true) → is_forwarded_to number cluster ≡ true
-      → is_shown number picture.shown ≡ true
-  is_forwarded None shown same = absurd (false≢true same)
-  is_forwarded (Some cluster) shown same = is_number cluster shown same
-
-  -- an answer names generations that are chosen
-  chosen_names : (choice : Choice) → ShowsChosen picture.shown choice → names_row number (answer_of picture choice) ≡ true → is_shown number picture.shown ≡ true
-  chosen_names NoListener chosen names = absurd (false≢true names)
-  chosen_names NoChain chosen names = absurd (false≢true names)
-  chosen_names (Undecided listener) chosen names = is_number listener chosen names
-  chosen_names (Elsewhere listener cluster) chosen names =
-      or_so (listener == number) (is_forwarded_to number cluster) (is_number listener chosen.0) (is_forwarded cluster chosen.1) names
-  chosen_names (NoRoute listener) chosen names = is_number listener chosen names
-  chosen_names (Local listener status) chosen names = is_number listener chosen names
-  chosen_names (Redirect listener) chosen names = is_number listener chosen names
-  chosen_names (NoCluster listener) chosen names = is_number listener chosen names
-  chosen_names (NoEndpoint listener) chosen names = is_number listener chosen names
-  chosen_names (Served listener cluster place) chosen names = served_names listener cluster (host_at picture cluster place) chosen.0 chosen.1 names
+-- an answer names generations that are chosen
+chosen_names : (picture : Picture) (number : ℕ) (choice : Choice) → ShowsChosen picture.shown choice
+    → names_row number (answer_of picture choice) ≡ true → is_shown number picture.shown ≡ true
+chosen_names picture number NoListener chosen names = absurd (false≢true names)
+chosen_names picture number NoChain chosen names = absurd (false≢true names)
+chosen_names picture number (On listener chain origin course) chosen names =
+    taken_shown picture.shown number listener origin course chosen
+    (or_so (listener == number) (is_forwarded_to number (cluster_named_by (way_of picture course)))
+    (λ same. or_left (listener == number) (is_forwarded_to number (cluster_on course)) same)
+    (λ named. or_right (listener == number) (is_forwarded_to number (cluster_on course)) (way_names picture number course named)) names)
 
 -- what an accept names is shown by the picture that its worker holds
 pub accept_names : (world : World) (ask : Ask) (worker number : ℕ) → names_row number (accept ask worker world).1 ≡ true

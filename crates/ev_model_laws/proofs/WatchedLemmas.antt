@@ -1,20 +1,19 @@
--- What came for names is kept only of names that are watched, and a version of endpoints or routes only of one that was reported.
+-- What was received for names is kept only of names that are watched,
+-- and a version of endpoints or routes only of one that was reported.
 use Rattle.std.proofs.Common.{◌≡◌, ℕ, ◌+◌, Bool, true, false, ◌&&◌, cond, List, [], ◌∷◌, ◌++◌, map, filter, refl, sym, ap, ◌∙◌, subst, not}
 use Rattle.std.specs.List.{All, AllByRecursion as ByRecursion, fold, zip, list_any}
 use Rattle.std.specs.Str.{bytes_eq}
 use Rattle.std.proofs.lemmas.Bool.{false≢true, both_ways, cond_both, and_from, or_left, not_from_true}
 use Rattle.std.proofs.lemmas.List.Elements.{All-nil, All-map, All-weaker, All-filter, All-contains, All-from_recursion, recursion_from_All, filter_passes}
 use Rattle.ev_types.specs.Items.{ItemParts, ResponseParts}
-use Rattle.ev_types.specs.Kinds.{kind_same, kind_decides}
+use Rattle.ev_types.specs.Kinds.{kind_same, kind_decides, is_by_name}
 use Rattle.ev_types.specs.Same.{bytes_decide}
 use Rattle.ev_types.specs.declared.contents.Kind.{Kind}
-use Rattle.ev_types.specs.declared.contents.Kind.TheVariants.{Cds, Eds, Lds, Rds}
-use Rattle.ev_types.specs.declared.contents.Body.{Body}
-use Rattle.ev_types.specs.declared.contents.Body.TheVariants.{Good, Bad, Beat}
+use Rattle.ev_types.specs.declared.contents.Kind.TheVariants.{Cds, Eds, Lds, Rds, Sds, Ecds}
 use Rattle.ev_types.specs.declared.events.Answer.{Answer}
 use Rattle.ev_types.specs.declared.events.Event.{Event}
 use Rattle.ev_types.specs.declared.events.Verdict.{Verdict}
-use Rattle.ev_types.specs.declared.events.Verdict.TheVariants.{New, Same, Kept, Unasked, Renewed, Refused}
+use Rattle.ev_types.specs.declared.events.Verdict.TheVariants.{New, InPlace, Back, Same, Kept, Unasked, Renewed, Refused}
 use Rattle.ev_types.specs.declared.journals.Format.{Format}
 use Rattle.ev_types.specs.declared.rows.Arrival.TheVariants.{Value, Absent, Bad as bad, TimedOut, Ended}
 use Rattle.ev_types.specs.declared.rows.KeptVersion.{KeptVersion}
@@ -22,9 +21,9 @@ use Rattle.ev_model.specs.World.{World, Arrived, opening}
 use Rattle.ev_model.specs.Live.{lives_of, live_of}
 use Rattle.ev_model.specs.Versions.{is_version_of, bounded_as, with_version}
 use Rattle.ev_model.specs.Verdicts.{lives_left, verdicts_for}
-use Rattle.ev_model.specs.Watching.{is_by_name, is_watched}
+use Rattle.ev_model.specs.Watching.{is_watched}
 use Rattle.ev_model.specs.Warming.{is_word, is_told_by}
-use Rattle.ev_model.specs.Rows.{is_version_left, arrived, absent_names, with_removals, version_in, keep_version, add_row, keep_value, with_content, told_of_refusal, refuse, renew, add_item, add_items, made_names, with_first, rows_with_new, versions_left}
+use Rattle.ev_model.specs.Rows.{is_version_left, arrived, absent_names, with_removals, version_in, keep_version, add_row, keep_value, told_of_refusal, refuse, renew, add_item, add_items, made_names, with_first, rows_with_new, versions_left, rows_replaced, add_in_place, go_back, serving_row}
 use Rattle.ev_model.specs.Tidy.{promoted, is_version_due, tidy, arrivals_watched}
 use Rattle.ev_model.specs.Signals.{no_hosts, no_routes, with_end, forget_version}
 use Rattle.ev_model.specs.Step.{step}
@@ -33,7 +32,7 @@ use Rattle.ev_model_laws.proofs.TidyLists.{all_of, any_of_map, filter_within}
 use Rattle.ev_model_laws.proofs.AnyLemmas.{any_first, any_second, or_so}
 use Rattle.ev_model_laws.proofs.VersionLemmas.{all_with}
 use Rattle.ev_model_laws.proofs.ExpiredLemmas.{passed}
-use Rattle.ev_model_laws.proofs.VerdictLemmas.{fits, judged_by, verdict_fits}
+use Rattle.ev_model_laws.proofs.VerdictLemmas.{fits, judged_by, verdict_fits, listener_not}
 use Rattle.ev_model_laws.proofs.EventLemmas.{step-leads}
 use Rattle.ev_types.specs.declared.rows.Live.{Live}
 use Rattle.ev_types.specs.declared.rows.GenRow.{GenRow}
@@ -43,10 +42,14 @@ use Rattle.ev_types.specs.Statuses.{is_live}
 use Rattle.ev_model.specs.Dead.{is_dead, is_dead_at}
 use Rattle.ev_model.specs.Publishing.{without_dead}
 use Rattle.ev_model_laws.proofs.TidyLemmas.{came_same}
-use Rattle.ev_model_laws.proofs.CameLemmas.{by_name_not, by_name_not_same}
+use Rattle.ev_model_laws.proofs.CameLemmas.{by_name_not}
 use Rattle.ev_model_laws.proofs.PromotionLemmas.{each_left}
 use Rattle.ev_types.specs.declared.rows.Arrival.{Arrival}
 use Rattle.ev_types.specs.declared.events.Actor.{Actor}
+use Rattle.ev_types.specs.declared.origins.KeptChain.{KeptChain}
+use Rattle.ev_model.specs.Origins.{kept_from}
+use Rattle.ev_model_laws.proofs.KeepLemmas.{with_content-holds}
+use Rattle.ev_types.specs.declared.contents.Content.{Content}
 
 -- it is one of endpoints or routes of a name of which a word came, or one of clusters or listeners
 abbrev IsVersionHeard : List Arrived → KeptVersion → Type 0
@@ -102,22 +105,28 @@ removals_heard Lds response world heard = left_heard (is_version_left Lds respon
 removals_heard Rds response world heard =
     more_heard (map (arrived world.made Rds Absent) (absent_names Rds response world))
     (record world { versions = versions_left Rds response world.versions }) (left_heard (is_version_left Rds response) world heard)
+removals_heard Sds response world heard = left_heard (is_version_left Sds response) world heard
+removals_heard Ecds response world heard =
+    more_heard (map (arrived world.made Ecds Absent) (absent_names Ecds response world))
+    (record world { versions = versions_left Ecds response world.versions }) (left_heard (is_version_left Ecds response) world heard)
 
 module _ (kind : Kind) (item : ItemParts) where
-  row_heard : (body : Body) (world : World) → is_by_name kind ≡ false → AreHeard world → AreHeard (with_content (add_row kind item) body world)
-  row_heard (Good content) world isnt heard =
-      new_heard (version_in kind item) (record world { rows = rows_with_new kind world.made item.name content world.rows; made = world.made + 1 })
+  row_heard : (content : Content) (chains : List KeptChain) (world : World) → is_by_name kind ≡ false → AreHeard world
+      → AreHeard (add_row kind item content chains world)
+  row_heard content chains world isnt heard =
+      new_heard (version_in kind item) (record world { rows = rows_with_new kind world.made item.name content chains world.rows; made = world.made + 1 })
       (λ is. absurd (both_ways (is_by_name kind) isnt is)) heard
-  row_heard (Bad rule) world isnt heard = heard
-  row_heard Beat world isnt heard = heard
 
-  same_heard : (body : Body) (world : World) → is_by_name kind ≡ false → AreHeard world → AreHeard (with_content (λ content. keep_version kind item) body world)
-  same_heard (Good content) world isnt heard = new_heard (version_in kind item) world (λ is. absurd (both_ways (is_by_name kind) isnt is)) heard
-  same_heard (Bad rule) world isnt heard = heard
-  same_heard Beat world isnt heard = heard
+  back_heard : (world : World) → is_by_name kind ≡ false → AreHeard world → AreHeard (go_back kind item world)
+  back_heard world isnt heard =
+      new_heard (version_in kind item) (record world { rows = rows_replaced kind item.name world.rows })
+      (λ is. absurd (both_ways (is_by_name kind) isnt is)) heard
 
-  value_heard : (body : Body) (world : World) → AreHeard world → AreHeard (with_content (keep_value kind item) body world)
-  value_heard (Good content) world heard =
+  same_heard : (world : World) → is_by_name kind ≡ false → AreHeard world → AreHeard (keep_version kind item world)
+  same_heard world isnt heard = new_heard (version_in kind item) world (λ is. absurd (both_ways (is_by_name kind) isnt is)) heard
+
+  value_heard : (content : Content) (world : World) → AreHeard world → AreHeard (keep_value kind item content world)
+  value_heard content world heard =
       let more : List Arrived = arrived world.made kind (Value content) item.name ∷ [] in
       new_heard (version_in kind item) (record world { arrivals = world.arrivals ++ more })
       (λ is.
@@ -127,8 +136,6 @@ module _ (kind : Kind) (item : ItemParts) where
       (and_from (kind_same kind kind && bytes_eq item.name item.name) true
       (and_from (kind_same kind kind) (bytes_eq item.name item.name) ((kind_decides kind kind).1 refl) ((bytes_decide item.name item.name).1 refl)) refl)))
       (more_heard more world heard)
-  value_heard (Bad rule) world heard = heard
-  value_heard Beat world heard = heard
 
 refusal_heard : (kind : Kind) (name : List ℕ) (world : World) → AreHeard world → AreHeard (told_of_refusal kind name world)
 refusal_heard kind name world heard =
@@ -141,12 +148,23 @@ refused_heard Cds name world heard = heard
 refused_heard Eds name world heard = refusal_heard Eds name world heard
 refused_heard Lds name world heard = heard
 refused_heard Rds name world heard = refusal_heard Rds name world heard
+refused_heard Sds name world heard = refusal_heard Sds name world heard
+refused_heard Ecds name world heard = refusal_heard Ecds name world heard
 
 item_heard : (kind : Kind) (verdict : Verdict) (item : ItemParts) (world : World) → fits kind verdict ≡ true → AreHeard world
     → AreHeard (add_item kind verdict item world)
-item_heard kind New item world fit heard = row_heard kind item item.body world (by_name_not kind fit) heard
-item_heard kind Same item world fit heard = same_heard kind item item.body world (by_name_not_same kind fit) heard
-item_heard kind Kept item world fit heard = value_heard kind item item.body world heard
+item_heard kind New item world fit heard =
+    with_content-holds AreHeard (λ content. add_row kind item content []) item.body world
+    (λ content. row_heard kind item content [] world (by_name_not kind fit) heard) heard
+item_heard kind InPlace item world fit heard =
+    with_content-holds AreHeard (add_in_place kind item) item.body world
+    (λ content. row_heard kind item content (kept_from (serving_row kind item.name world.rows) content) world (listener_not kind fit) heard) heard
+item_heard kind Back item world fit heard =
+    with_content-holds AreHeard (λ content. go_back kind item) item.body world (λ content. back_heard kind item world (listener_not kind fit) heard) heard
+item_heard kind Same item world fit heard =
+    with_content-holds AreHeard (λ content. keep_version kind item) item.body world (λ content. same_heard kind item world (by_name_not kind fit) heard) heard
+item_heard kind Kept item world fit heard =
+    with_content-holds AreHeard (keep_value kind item) item.body world (λ content. value_heard kind item content world heard) heard
 item_heard kind Unasked item world fit heard = heard
 item_heard kind Renewed item world fit heard = renewed_heard kind item.name world heard
 item_heard kind (Refused rule) item world fit heard = refused_heard kind item.name world heard
@@ -162,12 +180,16 @@ first_heard Cds names world heard = heard
 first_heard Eds names world heard = heard
 first_heard Lds names world heard = heard
 first_heard Rds names world heard = heard
+first_heard Sds names world heard = heard
+first_heard Ecds names world heard = heard
 
 end_heard : (kind : Kind) (name : List ℕ) (world : World) → AreHeard world → AreHeard (with_end kind name world)
 end_heard Cds name world heard = heard
 end_heard Eds name world heard = more_heard (arrived world.made Eds (Ended no_hosts) name ∷ []) world heard
 end_heard Lds name world heard = heard
 end_heard Rds name world heard = more_heard (arrived world.made Rds (Ended no_routes) name ∷ []) world heard
+end_heard Sds name world heard = heard
+end_heard Ecds name world heard = heard
 
 due_heard : (lives : List Live) (arrivals : List Arrived) (kept : KeptVersion) (by_name : Bool) → is_by_name kept.kind ≡ by_name
     → is_version_due lives kept ≡ true → IsVersionHeard arrivals kept → IsVersionHeard (arrivals_watched lives arrivals) kept
@@ -179,7 +201,7 @@ due_heard lives arrivals kept true also due told is =
     (λ isnt. absurd (false≢true (sym (not_from_true (is_by_name kept.kind) is) ∙ isnt))) (λ watched. watched) due))
     ∙ told is
 
--- tidying takes what came for names that aren't watched, and their versions
+-- tidying takes what was received for names that aren't watched, and their versions
 tidied_watched : (world : World) → AreHeard world → KeepsWatched (tidy world)
 tidied_watched world heard =
     let lives : List Live = lives_of (promoted world) in

@@ -4,12 +4,14 @@ use Rattle.std.specs.List.{list_all}
 use Rattle.ev_types.specs.Items.{ResponseParts}
 use Rattle.ev_types.specs.declared.contents.Kind.{Kind}
 use Rattle.ev_types.specs.declared.events.Verdict.{Verdict}
-use Rattle.ev_types.specs.declared.events.Verdict.TheVariants.{New, Same, Kept, Unasked, Renewed, Refused}
+use Rattle.ev_types.specs.declared.events.Verdict.TheVariants.{New, InPlace, Back, Same, Kept, Unasked, Renewed, Refused}
 use Rattle.ev_model.specs.Requests.{reply_of}
 
 -- a resource with this verdict is refused
 abbrev pub is_refused : Verdict → Bool
 is_refused New = false
+is_refused InPlace = false
+is_refused Back = false
 is_refused Same = false
 is_refused Kept = false
 is_refused Unasked = false

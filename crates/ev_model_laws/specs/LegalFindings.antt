@@ -8,7 +8,8 @@ use Rattle.ev_types.specs.declared.journals.Finding.TheVariants.{Legal}
 use Rattle.ev_model.specs.Operations.{IsRunOf}
 use Rattle.ev_model.specs.Finding.{row_of, finding_of}
 
--- the rows are those of a run of the machine, which holds each actor's operations of the script, by the rules of the format
+-- the rows are those of a run of the machine, which holds each actor's operations of the script,
+-- by the rules of the format
 pub record IsLegalJournal (format : Format) (script : ScriptParts) (rows : List Row) : Type 0 where
   pub journal : List Entry
   pub run_of : IsRunOf format script journal

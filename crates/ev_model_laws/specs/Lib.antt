@@ -10,3 +10,10 @@ pub mod Acknowledging
 pub mod Kept
 pub mod RunLaws
 pub mod Narrowing
+pub mod Drawing
+pub mod ByNumber
+pub mod InUse
+pub mod MainSide
+pub mod Watches
+pub mod Told
+pub mod Walks

@@ -4,8 +4,8 @@ use Rattle.ev_types.specs.FilterChains.{has_collision}
 use Rattle.ev_model.specs.declared.pictures.ServedChain.{ServedChain}
 use Rattle.ev_model.specs.Narrowing.{Incoming, chains_left, lacks_source}
 
--- where no two chains collide one is left at most, for a connection of which it is said who connects, or where none that is
--- left asks for that
+-- where no two chains collide one is left at most, for a connection of which it is said who
+-- connects, or where none that is left asks for that
 abbrev pub NarrowsToOne : Type 0
 NarrowsToOne =
     (incoming : Incoming) (chains : List ServedChain) → has_collision (map (λ (c : ServedChain). c.criteria) chains) ≡ false

@@ -3,7 +3,7 @@ use Rattle.std.specs.Prelude.{◌≡◌, Bool, true, false, IsTrue}
 use Rattle.ev_types.specs.declared.events.Actor.{Actor}
 use Rattle.ev_types.specs.declared.events.Event.{Event}
 use Rattle.ev_types.specs.declared.events.Answer.{Answer}
-use Rattle.ev_types.specs.declared.events.Answer.TheVariants.{Ignored, Done, Moved, Replied, Version, Unchanged, Reaped, InUse, NoListener, NoChain, Undecided, Elsewhere, NoRoute, Redirect, NoCluster, NoEndpoint, Local, Served, NotOpen, Settled}
+use Rattle.ev_types.specs.declared.events.Answer.TheVariants.{Ignored, Done, Moved, Replied, Version, Unchanged, Reaped, InUse, NoListener, NoChain, On, NotOpen, Settled}
 use Rattle.ev_types.specs.declared.journals.Format.{Format}
 use Rattle.ev_model.specs.World.{World}
 use Rattle.ev_model.specs.Step.{step}
@@ -20,16 +20,9 @@ is_nothing_done (Reaped numbers) = false
 is_nothing_done InUse = true
 is_nothing_done NoListener = false
 is_nothing_done NoChain = false
-is_nothing_done (Undecided listener) = false
-is_nothing_done (Elsewhere listener cluster) = false
-is_nothing_done (NoRoute listener) = false
-is_nothing_done (Redirect listener) = false
-is_nothing_done (NoCluster listener) = false
-is_nothing_done (NoEndpoint listener) = false
-is_nothing_done (Local listener status) = false
-is_nothing_done (Served listener cluster host) = false
+is_nothing_done (On listener chain way) = false
 is_nothing_done NotOpen = true
-is_nothing_done (Settled closed version) = false
+is_nothing_done (Settled closed moved version) = false
 
 -- where the answer says that nothing was done, the world stays as it was
 abbrev pub LeavesAsItWas : Type 0

@@ -1,4 +1,4 @@
--- The numbers of generations are drawn once, and in order.
+-- The numbers of generations are allocated once, and in order.
 use Rattle.std.specs.Prelude.{◌≡◌, ℕ, ◌<◌, ◌≤◌, ◌⊎◌, List, [], ◌∷◌, map, ⊤}
 use Rattle.ev_types.specs.declared.rows.GenRow.{GenRow}
 use Rattle.ev_types.specs.declared.events.Actor.{Actor}
@@ -14,7 +14,7 @@ abbrev pub RiseWithin : ℕ → List ℕ → ℕ → Type 0
 RiseWithin low [] high = low ≤ high
 RiseWithin low (number ∷ numbers) high = (low < number) × RiseWithin number numbers high
 
--- the rows' numbers rise, from 1 at least to the count of those drawn at most
+-- the rows' numbers rise, from 1 at least to the count of those allocated at most
 abbrev pub IsNumbered : World → Type 0
 IsNumbered world = RiseWithin 0 (map (λ (row : GenRow). row.number) world.rows) world.made
 
@@ -24,18 +24,19 @@ pub record IsSameGeneration (row other : GenRow) : Type 0 where
   pub kind : row.kind ≡ other.kind
   pub name : row.name ≡ other.name
   pub content : row.content ≡ other.content
+  pub kept : row.kept ≡ other.kept
 
 -- the row's generation is among these
 abbrev pub IsAmong : List GenRow → GenRow → Type 0
 IsAmong [] row = ⊥
 IsAmong (other ∷ others) row = IsSameGeneration row other ⊎ IsAmong others row
 
--- each row's generation is of this world, or its number wasn't drawn in it
+-- each row's generation is of this world, or its number wasn't allocated in it
 abbrev pub AreOldOrNew : World → List GenRow → Type 0
 AreOldOrNew world [] = ⊤
 AreOldOrNew world (row ∷ rows) = (IsAmong world.rows row ⊎ (world.made < row.number)) × AreOldOrNew world rows
 
--- numbers are drawn once, and in order
+-- numbers are allocated once, and in order
 pub record DrawsInOrder : Type 0 where
   -- at the start the rows are numbered in order, since there are none
   pub opens : (workers : ℕ) (node : List ℕ) → IsNumbered (opening workers node)
@@ -45,10 +46,10 @@ pub record DrawsInOrder : Type 0 where
   -- so they are after any entries
   pub runs : (format : Format) (workers : ℕ) (node : List ℕ) (entries : List Entry)
       → IsNumbered (world_after format (opening workers node) entries)
-  -- no number that was drawn is given back
+  -- no number that was allocated is given back
   pub counts : (format : Format) (world : World) (actor : Actor) (event : Event)
       → world.made ≤ (step format world actor event).0.made
-  -- a row after an event is of a generation from before it, or has a number that wasn't drawn before it
+  -- a row after an event is of a generation from before it, or has a number that wasn't allocated before it
   pub draws : (format : Format) (world : World) (actor : Actor) (event : Event)
       → AreOldOrNew world (step format world actor event).0.rows
   -- the same after any entries: a number whose generation is gone never comes back

@@ -1,6 +1,6 @@
 -- Laws of every run, in both formats.
 use Rattle.ev_model.specs.Runs.{IsRun}
-use Rattle.ev_model.specs.Laws.{Told, Warmed, Forward, Unused, Once, Stays, Acknowledged, Waited}
+use Rattle.ev_model.specs.Laws.{Told, Warmed, Forward, Unused, Once, Stays, Acknowledged, Waited, KeepsConnections, BodiesStay}
 use Rattle.ev_model_laws.specs.Kept.{HasParts}
 use Rattle.std.specs.Prelude.{ℕ, ◌≤◌, length}
 
@@ -39,3 +39,12 @@ RunsAcknowledge = (told : Told) → IsRunTold told → Acknowledged told
 -- in format 2 a listener that has served is destroyed only when its drain timeout has come
 abbrev pub RunsWait : Type 0
 RunsWait = (told : Told) → IsRunTold told → Waited told
+
+-- a settle closes a connection whose chain was found only where its listener's drain timeout came
+-- and its chain isn't shown; where it is shown, the connection stays open on the listener that shows it
+abbrev pub RunsKeepConnections : Type 0
+RunsKeepConnections = (told : Told) → IsRunTold told → KeepsConnections told
+
+-- two chains of one origin have equal bodies
+abbrev pub RunsKeepBodies : Type 0
+RunsKeepBodies = (told : Told) → IsRunTold told → BodiesStay told

@@ -1,17 +1,19 @@
--- Connections go to the filter chain that is left by port, address, server name and transport protocol, in this order; what was given
--- up doesn't come back, and where nothing is left the default chain serves, or nothing does.
+-- Connections go to the filter chain that is left by port, address, server name and transport protocol,
+-- in this order; what was given up doesn't come back, and where nothing is left the default chain
+-- serves, or nothing does.
 use Rattle.std.specs.Prelude.{◌≡◌, ℕ, ◌*◌, ◌+◌, ◌^◌, List, [], ◌∷◌, codes, true, Some, None}
 use Rattle.ev_types.specs.Ips.{range_about}
 use Rattle.ev_types.specs.Items.{ItemParts}
 use Rattle.ev_types.specs.declared.contents.Kind.TheVariants.{Cds, Lds}
-use Rattle.ev_types.specs.declared.events.Answer.TheVariants.{Moved, Replied, Version, Local, NoChain}
+use Rattle.ev_types.specs.declared.events.Answer.TheVariants.{Moved, Replied, Version, NoChain}
+use Rattle.ev_types.specs.declared.ways.Way.TheVariants.{Local}
 use Rattle.ev_types.specs.declared.events.Verdict.TheVariants.{New}
 use Rattle.ev_types.specs.declared.ips.Ip.{Ip}
 use Rattle.ev_types.specs.declared.ips.Ip.TheVariants.{V4}
 use Rattle.ev_types.specs.declared.listeners.FilterChain.{FilterChain}
 use Rattle.ev_types.specs.declared.listeners.Serve.{Serve}
 use Rattle.ev_types.specs.declared.listeners.Serve.TheVariants.{Inline}
-use Rattle.ev_model_rows.specs.Words.{Deed, answers_to, no_criteria, chain_by, chain_for, open_chain, listener_with, answering_all, connect, response, publish, accept_of, asked, asked_at, settle, ask, ask_first, ack, settled}
+use Rattle.ev_model_rows.specs.Words.{Deed, answers_to, no_criteria, chain_by, chain_for, open_chain, listener_with, answering_all, connect, response, publish, accept_of, asked, asked_at, settle, ask, ask_first, ack, settled, on}
 
 -- 10.0.0.0, 10.1.0.0 and 11.1.1.1
 abbrev pub ten : Ip
@@ -97,14 +99,14 @@ ChainsInOrderAnswers = answers_to deeds
     ∷ (4, Replied (ack (codes "3") Lds ∷ []) (New ∷ New ∷ New ∷ New ∷ New ∷ New ∷ []))
     ∷ (5, Version 1)
     ∷ (6, settled 1)
-    ∷ (7, Local 1 200)
-    ∷ (8, Local 2 202)
-    ∷ (9, Local 3 205)
-    ∷ (10, Local 4 207)
+    ∷ (7, on 1 (Local 200))
+    ∷ (8, on 2 (Local 202))
+    ∷ (9, on 3 (Local 205))
+    ∷ (10, on 4 (Local 207))
     ∷ (11, NoChain)
-    ∷ (12, Local 5 208)
+    ∷ (12, on 5 (Local 208))
     ∷ (13, NoChain)
-    ∷ (14, Local 6 210)
-    ∷ (15, Local 6 211)
+    ∷ (14, on 6 (Local 210))
+    ∷ (15, on 6 (Local 211))
     ∷ (16, settled 1)
     ∷ []

@@ -42,7 +42,8 @@ on name test invert empty = Header (record {
 abbrev pub text : Bool → StringPattern → HeaderTest
 text ignore pattern = by_text (record { pattern = pattern; ignore_case = ignore })
 
--- headers that are there: each test, with its case and without, and turned over; the host is `:authority`, the path `:path`
+-- headers that are there: each test, with its case and without, and turned over;
+-- the host is `:authority`, the path `:path`
 abbrev pub There : Type 0
 There = map (condition_says request)
     (on (codes "user") (text false (Exact (codes "Anna"))) false false

@@ -1,4 +1,5 @@
--- A content that returns: an update that never warmed is dropped, and the generation that served goes once nothing holds it.
+-- A content that returns: an update that never warmed is dropped,
+-- and the generation that served goes once nothing holds it.
 use Rattle.std.specs.Prelude.{◌≡◌, List, [], ◌∷◌, codes}
 use Rattle.ev_types.specs.declared.contents.Kind.TheVariants.{Cds, Eds, Lds}
 use Rattle.ev_types.specs.declared.events.Answer.TheVariants.{Moved, Replied, Version, Reaped}

@@ -1,14 +1,16 @@
--- A virtual host is found by its domains: one that is equal, then the longest suffix, then `*`; ASCII letters in either case.
+-- A virtual host is found by its domains: one that is equal, then the longest suffix, then `*`;
+-- ASCII letters in either case.
 use Rattle.std.specs.Prelude.{◌≡◌, ℕ, List, [], ◌∷◌, codes, None}
 use Rattle.ev_types.specs.declared.contents.Kind.TheVariants.{Cds, Lds}
-use Rattle.ev_types.specs.declared.events.Answer.TheVariants.{Moved, Replied, Version, Local}
+use Rattle.ev_types.specs.declared.events.Answer.TheVariants.{Moved, Replied, Version}
+use Rattle.ev_types.specs.declared.ways.Way.TheVariants.{Local}
 use Rattle.ev_types.specs.declared.events.Verdict.TheVariants.{New}
 use Rattle.ev_types.specs.declared.listeners.Serve.TheVariants.{Inline}
 use Rattle.ev_types.specs.declared.routes.Action.TheVariants.{Local as local}
 use Rattle.ev_types.specs.declared.routes.PathMatch.TheVariants.{Prefix}
 use Rattle.ev_types.specs.declared.routes.VirtualHost.{VirtualHost}
 use Rattle.ev_types.specs.declared.routes.RouteTable.{RouteTable}
-use Rattle.ev_model_rows.specs.Words.{Deed, answers_to, pictures_of, listener_at, at_path, connect, response, fetch_timeout, publish, accept_with, settle, ask, ask_first, ack, settled}
+use Rattle.ev_model_rows.specs.Words.{Deed, answers_to, pictures_of, listener_at, at_path, connect, response, fetch_timeout, publish, accept_with, settle, ask, ask_first, ack, settled, on}
 
 -- a virtual host of one domain that answers each path with a status
 abbrev pub answering : List ℕ → List ℕ → ℕ → VirtualHost
@@ -46,10 +48,10 @@ DomainsAnswers = answers_to deeds
     ∷ (4, Replied (ack (codes "1") Lds ∷ []) (New ∷ []))
     ∷ (5, Version 1)
     ∷ (6, settled 1)
-    ∷ (7, Local 1 202)
-    ∷ (8, Local 1 201)
-    ∷ (9, Local 1 200)
-    ∷ (10, Local 1 202)
+    ∷ (7, on 1 (Local 202))
+    ∷ (8, on 1 (Local 201))
+    ∷ (9, on 1 (Local 200))
+    ∷ (10, on 1 (Local 202))
     ∷ (11, settled 1)
     ∷ []
 

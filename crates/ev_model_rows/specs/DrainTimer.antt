@@ -1,9 +1,10 @@
 -- The drain timer of a listener: connections on its old generation are closed when their worker settles.
 use Rattle.std.specs.Prelude.{◌≡◌, List, [], ◌∷◌, codes}
 use Rattle.ev_types.specs.declared.contents.Kind.TheVariants.{Cds, Lds}
-use Rattle.ev_types.specs.declared.events.Answer.TheVariants.{Ignored, Done, Moved, Replied, Version, Reaped, NoCluster, NotOpen, Settled}
+use Rattle.ev_types.specs.declared.events.Answer.TheVariants.{Ignored, Done, Moved, Replied, Version, Reaped, NotOpen, Settled}
+use Rattle.ev_types.specs.declared.ways.Way.TheVariants.{NoCluster}
 use Rattle.ev_types.specs.declared.events.Verdict.TheVariants.{New}
-use Rattle.ev_model_rows.specs.Words.{Deed, answers_to, pictures_of, host_row, static_cluster, tcp_listener, connect, response, drain_timeout, publish, reap, accept, close, settle, ask, ask_first, ack, served, settled}
+use Rattle.ev_model_rows.specs.Words.{Deed, answers_to, pictures_of, host_row, static_cluster, tcp_listener, connect, response, drain_timeout, publish, reap, accept, close, settle, ask, ask_first, ack, served, settled, on}
 
 -- the lines, from the second on
 abbrev pub deeds : List Deed
@@ -38,9 +39,9 @@ DrainTimerAnswers = answers_to deeds
     ∷ (10, Done)
     ∷ (11, Ignored)
     ∷ (7, served 2 1 (codes "1"))
-    ∷ (12, Settled (1 ∷ []) 2)
+    ∷ (12, Settled (1 ∷ []) [] 2)
     ∷ (13, NotOpen)
-    ∷ (14, NoCluster 3)
+    ∷ (14, on 3 NoCluster)
     ∷ (15, settled 2)
     ∷ (16, Reaped (2 ∷ []))
     ∷ (17, settled 2)

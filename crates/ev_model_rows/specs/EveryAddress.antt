@@ -1,14 +1,15 @@
--- A listener that takes every address of its port serves what comes to IP addresses that no listener has itself: `0.0.0.0` those of
--- IPv4, and `::` all.
+-- A listener that takes every address of its port serves what comes to IP addresses
+-- that no listener has itself: `0.0.0.0` those of IPv4, and `::` all.
 use Rattle.std.specs.Prelude.{◌≡◌, ℕ, ◌*◌, ◌+◌, ◌^◌, Bool, true, false, List, [], ◌∷◌, codes, Option, Some, None}
 use Rattle.ev_types.specs.Items.{ItemParts}
 use Rattle.ev_types.specs.declared.contents.Kind.TheVariants.{Cds, Lds}
-use Rattle.ev_types.specs.declared.events.Answer.TheVariants.{Moved, Replied, Version, Local, NoListener}
+use Rattle.ev_types.specs.declared.events.Answer.TheVariants.{Moved, Replied, Version, NoListener}
+use Rattle.ev_types.specs.declared.ways.Way.TheVariants.{Local}
 use Rattle.ev_types.specs.declared.events.Verdict.TheVariants.{New}
 use Rattle.ev_types.specs.declared.ips.Ip.{Ip}
 use Rattle.ev_types.specs.declared.ips.Ip.TheVariants.{V4, V6}
 use Rattle.ev_types.specs.declared.listeners.Serve.TheVariants.{Inline}
-use Rattle.ev_model_rows.specs.Words.{Deed, answers_to, open_chain, listener_by, answering_all, connect, response, publish, accept_of, asked, settle, ask, ask_first, ack, settled}
+use Rattle.ev_model_rows.specs.Words.{Deed, answers_to, open_chain, listener_by, answering_all, connect, response, publish, accept_of, asked, settle, ask, ask_first, ack, settled, on}
 
 -- a listener at an address and port, with its mark, that answers each request with a status
 abbrev pub listening : List ℕ → List ℕ → ℕ → Bool → ℕ → ItemParts
@@ -19,7 +20,7 @@ listening name address port every status =
 abbrev pub coming : ℕ → List ℕ → Option Ip → ℕ → Deed
 coming connection address ip port = accept_of (record (asked connection) { address = record { address = address; port = port }; ip = ip })
 
--- listeners at addresses of their own, and at those that stand for every address; the last one has no mark
+-- listeners at addresses of their own, and at those that represent every address; the last one has no mark
 abbrev pub listeners : List ItemParts
 listeners =
     listening (codes "a") (codes "10.1.0.1") 8080 false 200
@@ -57,13 +58,13 @@ EveryAddressAnswers = answers_to deeds
     ∷ (4, Replied (ack (codes "3") Lds ∷ []) (New ∷ New ∷ New ∷ New ∷ New ∷ New ∷ New ∷ []))
     ∷ (5, Version 1)
     ∷ (6, settled 1)
-    ∷ (7, Local 1 200)
-    ∷ (8, Local 2 201)
-    ∷ (9, Local 3 202)
-    ∷ (10, Local 4 203)
+    ∷ (7, on 1 (Local 200))
+    ∷ (8, on 2 (Local 201))
+    ∷ (9, on 3 (Local 202))
+    ∷ (10, on 4 (Local 203))
     ∷ (11, NoListener)
     ∷ (12, NoListener)
-    ∷ (13, Local 6 205)
+    ∷ (13, on 6 (Local 205))
     ∷ (14, NoListener)
     ∷ (15, settled 1)
     ∷ []

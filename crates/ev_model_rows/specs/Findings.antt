@@ -21,9 +21,10 @@ moved = take 11 rows ++ (take 1 (drop 13 rows) ++ (take 2 (drop 11 rows) ++ drop
 abbrev pub waiting : List Row
 waiting = map row_of (replay_order Two (script_of drained_deeds))
 
--- The journal is legal; with the reaping too early it isn't answered as the machine answers; without its last row, a settle of a
--- worker that has no connection open and has settled, one is missing in format 1, and none in format 2. A script of a header
--- alone has one settle, which may be left out. The journal in which a drained listener waits is illegal by format 1.
+-- The journal is legal; with the reaping too early it isn't answered as the machine answers;
+-- without its last row, a settle of a worker that has no connection open and has settled, one is missing in format 1,
+-- and none in format 2. A script of a header alone has one settle, which may be left out.
+-- The journal in which a drained listener waits is illegal by format 1.
 pub record Found : Type 0 where
   pub whole : finding_of Two (script_of deeds) rows ≡ Legal
   pub too_early : finding_of Two (script_of deeds) moved ≡ IllegalAt 12

@@ -1,5 +1,5 @@
--- An updated cluster waits until its endpoints are sent anew, though they are known; the same ones wake it, and the end of a time
--- to live doesn't. While it waits the generation before it serves.
+-- An updated cluster waits until its endpoints are sent anew, though they are known;
+-- the same ones wake it, and the end of a time to live doesn't. While it waits the generation before it serves.
 use Rattle.std.specs.Prelude.{◌≡◌, List, [], ◌∷◌, codes, None}
 use Rattle.ev_types.specs.declared.contents.Kind.TheVariants.{Cds, Eds, Lds}
 use Rattle.ev_types.specs.declared.events.Answer.TheVariants.{Moved, Replied, Version, Unchanged}
@@ -62,7 +62,8 @@ ended =
     ∷ publish
     ∷ []
 
--- their pictures: clusters by number with the hosts that may be chosen; the end takes the hosts of the generation that serves
+-- their pictures: clusters by number with the hosts that may be chosen;
+-- the end takes the hosts of the generation that serves
 abbrev pub FreshEndpointsPictures : Type 0
 FreshEndpointsPictures = pictures_of ended
     ≡ ([], [])

@@ -1,5 +1,6 @@
--- A batch is full with 256 lines. To compute all operations of so long a script is too expensive, so the row is cut down to the
--- lines about its 256th accept: a settle is forced after that one, and after neither the one before nor the one after.
+-- A batch is full with 256 lines. To compute all operations of so long a script is too expensive,
+-- so the row is cut down to the lines about its 256th accept:
+-- a settle is forced after that one, and after neither the one before nor the one after.
 use Rattle.std.specs.Prelude.{◌≡◌, ◌+◌, ℕ, List, true, false, map}
 use Rattle.std.specs.List.{range_with_len}
 use Rattle.ev_types.specs.declared.events.Line.{Line}

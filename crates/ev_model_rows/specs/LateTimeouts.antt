@@ -1,9 +1,10 @@
 -- A fetch timeout that came before an update doesn't count for it: the update waits for its own, which isn't ignored.
 use Rattle.std.specs.Prelude.{◌≡◌, List, [], ◌∷◌, codes, Some, None}
 use Rattle.ev_types.specs.declared.contents.Kind.TheVariants.{Cds, Eds, Lds}
-use Rattle.ev_types.specs.declared.events.Answer.TheVariants.{Ignored, Moved, Replied, Version, Unchanged, NoEndpoint}
+use Rattle.ev_types.specs.declared.events.Answer.TheVariants.{Ignored, Moved, Replied, Version, Unchanged}
+use Rattle.ev_types.specs.declared.ways.Way.TheVariants.{NoEndpoint}
 use Rattle.ev_types.specs.declared.events.Verdict.TheVariants.{New, Kept}
-use Rattle.ev_model_rows.specs.Words.{Deed, answers_to, host_row, fresh_cluster, hosts_of, tcp_listener, connect, response, fetch_timeout, publish, accept, settle, ask, ask_first, ack, subscribe, served, settled}
+use Rattle.ev_model_rows.specs.Words.{Deed, answers_to, host_row, fresh_cluster, hosts_of, tcp_listener, connect, response, fetch_timeout, publish, accept, settle, ask, ask_first, ack, subscribe, served, settled, on}
 
 -- the lines, from the second on
 abbrev pub deeds : List Deed
@@ -43,7 +44,7 @@ LateTimeoutsAnswers = answers_to deeds
     ∷ (11, Moved [])
     ∷ (12, Version 2)
     ∷ (13, settled 2)
-    ∷ (14, NoEndpoint 1)
+    ∷ (14, on 1 NoEndpoint)
     ∷ (15, settled 2)
     ∷ (16, Replied (ack (codes "15") Eds ∷ []) (Kept ∷ []))
     ∷ (17, Version 3)

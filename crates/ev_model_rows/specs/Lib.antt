@@ -33,3 +33,5 @@ pub mod OpenRoutes
 pub mod WhatOpens
 pub mod EveryAddress
 pub mod Redirected
+pub mod ListenersInPlace
+pub mod MissingSecrets

@@ -1,4 +1,5 @@
--- Which filter chains of a listener are left for a connection: by one criterion after the other, and nothing comes back.
+-- Which filter chains of a listener are left for a connection:
+-- by one criterion after the other, and nothing comes back.
 use Rattle.std.specs.Prelude.{◌≡◌, ℕ, ◌*◌, ◌+◌, ◌^◌, true, false, List, [], ◌∷◌, codes, Some, None, map}
 use Rattle.ev_types.specs.declared.events.Peer.{Peer}
 use Rattle.ev_types.specs.declared.filter_chains.FilterChainMatch.{FilterChainMatch}
@@ -15,7 +16,8 @@ use Rattle.ev_model_rows.specs.Words.{no_criteria}
 
 -- a chain that forwards to a cluster, by whose name it is distinguished from others
 abbrev pub chain : List ℕ → FilterChainMatch → ServedChain
-chain name criteria = record { criteria = criteria; routing = Tcp (One name) }
+chain name criteria =
+    record { place = None; origin = None; criteria = criteria; routing = Tcp (One name); lacks_secret = false }
 
 -- the name of a chain
 abbrev pub name_of : Routing → List ℕ

@@ -1,9 +1,10 @@
 -- A cluster without hosts is warm, and has no endpoint for a connection.
 use Rattle.std.specs.Prelude.{◌≡◌, List, [], ◌∷◌, codes}
 use Rattle.ev_types.specs.declared.contents.Kind.TheVariants.{Cds, Eds, Lds}
-use Rattle.ev_types.specs.declared.events.Answer.TheVariants.{Moved, Replied, Version, NoEndpoint}
+use Rattle.ev_types.specs.declared.events.Answer.TheVariants.{Moved, Replied, Version}
+use Rattle.ev_types.specs.declared.ways.Way.TheVariants.{NoEndpoint}
 use Rattle.ev_types.specs.declared.events.Verdict.TheVariants.{New, Kept}
-use Rattle.ev_model_rows.specs.Words.{Deed, answers_to, pictures_of, eds_cluster, hosts_of, tcp_listener, connect, response, publish, accept, settle, ask, ask_first, ack, subscribe, settled}
+use Rattle.ev_model_rows.specs.Words.{Deed, answers_to, pictures_of, eds_cluster, hosts_of, tcp_listener, connect, response, publish, accept, settle, ask, ask_first, ack, subscribe, settled, on}
 
 -- the lines, from the second on
 abbrev pub deeds : List Deed
@@ -26,7 +27,7 @@ NoHostsAnswers = answers_to deeds
     ∷ (5, Replied (ack (codes "3") Lds ∷ []) (New ∷ []))
     ∷ (6, Version 1)
     ∷ (7, settled 1)
-    ∷ (8, NoEndpoint 2)
+    ∷ (8, on 2 NoEndpoint)
     ∷ (9, settled 1)
     ∷ []
 

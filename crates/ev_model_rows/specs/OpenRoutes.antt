@@ -1,7 +1,8 @@
 -- The first route that doesn't say no decides: where it is open, nothing in a script decides the connection's way.
 use Rattle.std.specs.Prelude.{◌≡◌, ℕ, List, [], ◌∷◌, codes, false}
 use Rattle.ev_types.specs.declared.contents.Kind.TheVariants.{Cds, Lds}
-use Rattle.ev_types.specs.declared.events.Answer.TheVariants.{Moved, Replied, Version, Local, NoRoute, Undecided}
+use Rattle.ev_types.specs.declared.events.Answer.TheVariants.{Moved, Replied, Version}
+use Rattle.ev_types.specs.declared.ways.Way.TheVariants.{Local, NoRoute, Undecided}
 use Rattle.ev_types.specs.declared.events.Verdict.TheVariants.{New}
 use Rattle.ev_types.specs.declared.listeners.Serve.TheVariants.{Inline}
 use Rattle.ev_types.specs.declared.matchers.HeaderTest.TheVariants.{Present}
@@ -12,7 +13,7 @@ use Rattle.ev_types.specs.declared.routes.Action.TheVariants.{Local as local}
 use Rattle.ev_types.specs.declared.routes.PathMatch.TheVariants.{Prefix}
 use Rattle.ev_types.specs.declared.routes.Route.{Route}
 use Rattle.ev_types.specs.declared.routes.RouteTable.{RouteTable}
-use Rattle.ev_model_rows.specs.Words.{Deed, answers_to, listener_at, connect, response, publish, accept_of, asked, settle, ask, ask_first, ack, settled}
+use Rattle.ev_model_rows.specs.Words.{Deed, answers_to, listener_at, connect, response, publish, accept_of, asked, settle, ask, ask_first, ack, settled, on}
 
 -- a route by the beginning of the path and conditions, that answers with a status
 abbrev pub route_by : List ℕ → List RouteCondition → ℕ → Route
@@ -62,10 +63,10 @@ OpenRoutesAnswers = answers_to deeds
     ∷ (4, Replied (ack (codes "3") Lds ∷ []) (New ∷ []))
     ∷ (5, Version 1)
     ∷ (6, settled 1)
-    ∷ (7, Local 1 202)
-    ∷ (8, Undecided 1)
-    ∷ (9, Undecided 1)
-    ∷ (10, Local 1 201)
-    ∷ (11, NoRoute 1)
+    ∷ (7, on 1 (Local 202))
+    ∷ (8, on 1 Undecided)
+    ∷ (9, on 1 Undecided)
+    ∷ (10, on 1 (Local 201))
+    ∷ (11, on 1 NoRoute)
     ∷ (12, settled 1)
     ∷ []

@@ -1,43 +1,46 @@
--- Connections that were redirected: the listener at the address where one was delivered takes it, or hands it over to the
--- listener at the address that it was meant for; and its chains look at the address that the listener takes it to come to. No
--- connection comes to a listener by UDP.
+-- Connections that were redirected: the listener at the address where one was delivered takes
+-- it, or hands it over to the listener at the address that it was meant for;
+-- and its chains look at the address that the listener takes it to come to. No connection comes to a listener by UDP.
 use Rattle.std.specs.Prelude.{◌≡◌, ℕ, ◌*◌, ◌+◌, ◌^◌, Bool, true, false, List, [], ◌∷◌, codes, Some, None}
 use Rattle.ev_types.specs.Items.{ItemParts}
 use Rattle.ev_types.specs.declared.contents.Body.TheVariants.{Good}
 use Rattle.ev_types.specs.declared.contents.Content.TheVariants.{Listener}
 use Rattle.ev_types.specs.declared.contents.Kind.TheVariants.{Cds, Lds}
-use Rattle.ev_types.specs.declared.events.Answer.TheVariants.{Moved, Replied, Version, Local, NoListener, NoChain}
+use Rattle.ev_types.specs.declared.events.Answer.TheVariants.{Moved, Replied, Version, NoListener, NoChain}
+use Rattle.ev_types.specs.declared.ways.Way.TheVariants.{Local}
 use Rattle.ev_types.specs.declared.events.Peer.{Peer}
 use Rattle.ev_types.specs.declared.events.Verdict.TheVariants.{New, Refused}
 use Rattle.ev_types.specs.declared.ips.Ip.TheVariants.{V4}
 use Rattle.ev_types.specs.declared.listeners.FilterChain.{FilterChain}
 use Rattle.ev_types.specs.declared.listeners.Serve.TheVariants.{Inline}
-use Rattle.ev_model_rows.specs.Words.{Deed, answers_to, open_chain, chain_by, no_criteria, answering_all, connect, response, publish, accept_of, asked, asked_at, settle, ask, ask_first, ack, nack, settled}
+use Rattle.ev_model_rows.specs.Words.{Deed, answers_to, open_chain, chain_by, no_criteria, answering_all, connect, response, publish, accept_of, asked, asked_at, settle, ask, ask_first, ack, nack, settled, on}
 
 -- how a listener takes connections: by UDP, as one that restores, as one that hands over
-pub record Way : Type 0 where
+pub record Marks : Type 0 where
   pub udp : Bool
   pub restores : Bool
   pub hands_over : Bool
 
 -- as most do
-abbrev pub usual : Way
+abbrev pub usual : Marks
 usual = record { udp = false; restores = false; hands_over = false }
 
 -- a listener at 10.1.0.1 and a port
-abbrev pub listening : List ℕ → ℕ → Way → List FilterChain → ItemParts
-listening name port way chains = record {
+abbrev pub listening : List ℕ → ℕ → Marks → List FilterChain → ItemParts
+listening name port marks chains = record {
   name = name;
   version = codes "v1";
   ttl = false;
   body = Good (Listener (record {
     name = name;
-    address = record { host = record { address = codes "10.1.0.1"; port = port }; udp = way.udp };
+    address = record { host = record { address = codes "10.1.0.1"; port = port }; udp = marks.udp };
     takes_every_address = false;
-    restores = way.restores;
-    hands_over = way.hands_over;
+    restores = marks.restores;
+    hands_over = marks.hands_over;
     filter_chains = chains;
     default_filter_chain = None;
+    extensions = [];
+    frame_text = [];
     body_text = [];
   }));
 }
@@ -58,9 +61,10 @@ abbrev pub delivered : ℕ → ℕ → ℕ → Deed
 delivered connection port to =
     accept_of (record (asked connection) { address = (end_at port).host; redirected_to = Some (end_at to) })
 
--- listeners: one that hands over, one that restores alone, one that does neither, and one where connections are meant to go;
--- the first three have a chain for port 80 and one for their own. Two by UDP, of which one shares the address of the first, and
--- one by TCP that does so too.
+-- listeners: one that hands over, one that restores alone, one that does neither,
+-- and one where connections are meant to go;
+-- the first three have a chain for port 80 and one for their own.
+-- Two by UDP, of which one shares the address of the first, and one by TCP that does so too.
 abbrev pub listeners : List ItemParts
 listeners =
     listening (codes "hands") 15006 (record usual { restores = true; hands_over = true }) (for_port 80 200 ∷ for_port 15006 201 ∷ [])
@@ -90,9 +94,10 @@ deeds =
     ∷ delivered 8 8080 15010
     ∷ []
 
--- the answers, each with the number of its line: a listener that hands over has the one where the connection is meant to go take
--- it, if there is one; the chain is that of the port where it is meant to go, or, of a listener that doesn't restore, of the one
--- where it was delivered
+-- the answers, each with the number of its line: a listener that hands over has the one
+-- where the connection is meant to go take it, if there is one;
+-- the chain is that of the port where it is meant to go, or, of a listener that doesn't restore,
+-- of the one where it was delivered
 abbrev pub RedirectedAnswers : Type 0
 RedirectedAnswers = answers_to deeds
     ≡ (2, Moved (ask_first ∷ []))
@@ -100,12 +105,12 @@ RedirectedAnswers = answers_to deeds
     ∷ (4, Replied (nack (codes "3") Lds (codes "again: V15") ∷ []) (New ∷ New ∷ New ∷ New ∷ New ∷ New ∷ Refused 15 ∷ []))
     ∷ (5, Version 1)
     ∷ (6, settled 1)
-    ∷ (7, Local 4 206)
-    ∷ (8, Local 1 200)
+    ∷ (7, on 4 (Local 206))
+    ∷ (8, on 1 (Local 200))
     ∷ (9, NoChain)
-    ∷ (10, Local 2 202)
-    ∷ (11, Local 3 205)
-    ∷ (12, Local 1 201)
+    ∷ (10, on 2 (Local 202))
+    ∷ (11, on 3 (Local 205))
+    ∷ (12, on 1 (Local 201))
     ∷ (13, NoListener)
     ∷ (14, NoListener)
     ∷ (15, settled 1)

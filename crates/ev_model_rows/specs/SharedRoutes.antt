@@ -1,11 +1,12 @@
--- Listeners share what came for a name of routes: an update and another user of a known name serve at once.
+-- Listeners share what was received for a name of routes: an update and another user of a known name serve at once.
 use Rattle.std.specs.Prelude.{◌≡◌, List, [], ◌∷◌, codes, true, false, None}
 use Rattle.ev_types.specs.Items.{ItemParts}
 use Rattle.ev_types.specs.declared.contents.Kind.TheVariants.{Cds, Lds, Rds}
-use Rattle.ev_types.specs.declared.events.Answer.TheVariants.{Moved, Replied, Version, Local}
+use Rattle.ev_types.specs.declared.events.Answer.TheVariants.{Moved, Replied, Version}
+use Rattle.ev_types.specs.declared.ways.Way.TheVariants.{Local}
 use Rattle.ev_types.specs.declared.events.Verdict.TheVariants.{New, Kept}
 use Rattle.ev_types.specs.declared.listeners.Serve.TheVariants.{Rds as by_rds}
-use Rattle.ev_model_rows.specs.Words.{Deed, answers_to, listener_by, listener_with, open_chain, rds_listener, routes_of, answering_all, connect, response, fetch_timeout, publish, accept_of, asked, asked_at, settle, ask, ask_first, ack, subscribe, settled}
+use Rattle.ev_model_rows.specs.Words.{Deed, answers_to, listener_by, listener_with, open_chain, rds_listener, routes_of, answering_all, connect, response, fetch_timeout, publish, accept_of, asked, asked_at, settle, ask, ask_first, ack, subscribe, settled, on}
 
 -- the first listener with another body
 abbrev pub changed : ItemParts
@@ -39,7 +40,7 @@ SharedRoutesAnswers = answers_to deeds
     ∷ (7, Replied (ack (codes "6") Lds ∷ []) (New ∷ New ∷ []))
     ∷ (8, Version 2)
     ∷ (9, settled 2)
-    ∷ (10, Local 2 200)
-    ∷ (11, Local 3 200)
+    ∷ (10, on 2 (Local 200))
+    ∷ (11, on 3 (Local 200))
     ∷ (12, settled 2)
     ∷ []

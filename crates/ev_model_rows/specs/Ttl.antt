@@ -1,4 +1,5 @@
--- A heartbeat renews the version that is kept, one of another version is refused, and the end of a time to live removes.
+-- A heartbeat renews the version that is kept, one of another version is refused,
+-- and the end of a time to live removes.
 use Rattle.std.specs.Prelude.{◌≡◌, List, [], ◌∷◌, codes}
 use Rattle.ev_types.specs.declared.contents.Kind.TheVariants.{Cds, Lds}
 use Rattle.ev_types.specs.declared.events.Answer.TheVariants.{Ignored, Moved, Replied, Reaped}

@@ -1,13 +1,14 @@
--- Two chains of a listener wait for one name, one within a limit and one without: the name is asked for once, a timeout ends the one
--- wait, and a notice of absence the other.
+-- Two chains of a listener wait for one name, one within a limit and one without:
+-- the name is asked for once, a timeout ends the one wait, and a notice of absence the other.
 use Rattle.std.specs.Prelude.{◌≡◌, Bool, true, false, List, [], ◌∷◌, codes, Some, None}
 use Rattle.ev_types.specs.declared.contents.Kind.TheVariants.{Cds, Lds, Rds}
-use Rattle.ev_types.specs.declared.events.Answer.TheVariants.{Ignored, Moved, Replied, Version, Unchanged, NoRoute}
+use Rattle.ev_types.specs.declared.events.Answer.TheVariants.{Ignored, Moved, Replied, Version, Unchanged}
+use Rattle.ev_types.specs.declared.ways.Way.TheVariants.{NoRoute}
 use Rattle.ev_types.specs.declared.events.Verdict.TheVariants.{New}
 use Rattle.ev_types.specs.declared.listeners.FilterChain.{FilterChain}
 use Rattle.ev_types.specs.declared.listeners.Serve.{Serve}
 use Rattle.ev_types.specs.declared.listeners.Serve.TheVariants.{Rds as by_rds}
-use Rattle.ev_model_rows.specs.Words.{Deed, answers_to, listener_with, open_chain, chain_for, connect, response, fetch_timeout, publish, accept, settle, ask, ask_first, ack, subscribe, settled}
+use Rattle.ev_model_rows.specs.Words.{Deed, answers_to, listener_with, open_chain, chain_for, connect, response, fetch_timeout, publish, accept, settle, ask, ask_first, ack, subscribe, settled, on}
 
 -- the routes of the name, within a limit or without
 abbrev pub routes : Bool → Serve
@@ -44,6 +45,6 @@ TwoMarksAnswers = answers_to deeds
     ∷ (8, Replied (ack (codes "7") Rds ∷ []) [])
     ∷ (9, Version 1)
     ∷ (10, settled 1)
-    ∷ (11, NoRoute 1)
+    ∷ (11, on 1 NoRoute)
     ∷ (12, settled 1)
     ∷ []

@@ -1,4 +1,5 @@
--- Two clusters wait for one name: a fetch timeout releases the one whose wait is limited, and a value, a word of the control plane, the other.
+-- Two clusters wait for one name: a fetch timeout releases the one whose wait is limited, and a value,
+-- a word of the control plane, the other.
 use Rattle.std.specs.Prelude.{◌≡◌, List, [], ◌∷◌, codes, Some}
 use Rattle.ev_types.specs.declared.contents.Kind.TheVariants.{Cds, Eds, Lds}
 use Rattle.ev_types.specs.declared.events.Answer.TheVariants.{Ignored, Moved, Replied, Version}

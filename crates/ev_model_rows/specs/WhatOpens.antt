@@ -1,15 +1,17 @@
--- A connection that no chain takes opens nothing; one whose way no script tells is open on its listener, and where it goes to a cluster
--- whose hosts Envoy finds by itself, on that cluster too, which stays until it is closed.
-use Rattle.std.specs.Prelude.{◌≡◌, List, [], ◌∷◌, codes, true, false, Some, None}
+-- A connection that no chain takes opens nothing; one whose way no script tells is open on its listener,
+-- and where it goes to a cluster whose hosts Envoy finds by itself, on that cluster too,
+-- which stays until it is closed.
+use Rattle.std.specs.Prelude.{◌≡◌, List, [], ◌∷◌, codes, false, Some, None}
 use Rattle.ev_types.specs.declared.clusters.Discovery.TheVariants.{Elsewhere as found_elsewhere}
 use Rattle.ev_types.specs.declared.contents.Kind.TheVariants.{Cds, Lds}
-use Rattle.ev_types.specs.declared.events.Answer.TheVariants.{Done, InUse, Moved, Replied, Version, Reaped, NoChain, Undecided, Elsewhere, NoCluster}
+use Rattle.ev_types.specs.declared.events.Answer.TheVariants.{Done, InUse, Moved, Replied, Version, Reaped, NoChain}
+use Rattle.ev_types.specs.declared.ways.Way.TheVariants.{Undecided, Elsewhere, NoCluster}
 use Rattle.ev_types.specs.declared.events.Verdict.TheVariants.{New}
 use Rattle.ev_types.specs.declared.listeners.FilterChain.{FilterChain}
 use Rattle.ev_types.specs.declared.listeners.Serve.{Serve}
 use Rattle.ev_types.specs.declared.listeners.Serve.TheVariants.{Tcp, Other}
 use Rattle.ev_types.specs.declared.routes.Target.TheVariants.{One}
-use Rattle.ev_model_rows.specs.Words.{Deed, answers_to, cluster_of, no_criteria, chain_by, chain_for, listener_with, connect, response, publish, reap, accept_of, accept, asked, close, settle, ask, ask_first, ack, settled}
+use Rattle.ev_model_rows.specs.Words.{Deed, answers_to, cluster_of, no_criteria, chain_by, chain_for, listener_with, connect, response, publish, reap, accept_of, accept, asked, close, settle, ask, ask_first, ack, settled, on}
 
 -- to the cluster `c`
 abbrev pub to_cluster : Serve
@@ -60,11 +62,11 @@ WhatOpensAnswers = answers_to deeds
     ∷ (6, settled 1)
     ∷ (7, NoChain)
     ∷ (8, NoChain)
-    ∷ (9, Elsewhere 2 None)
+    ∷ (9, on 2 (Elsewhere None))
     ∷ (10, InUse)
-    ∷ (11, Undecided 2)
+    ∷ (11, on 2 Undecided)
     ∷ (12, InUse)
-    ∷ (13, Elsewhere 2 (Some 1))
+    ∷ (13, on 2 (Elsewhere (Some 1)))
     ∷ (14, InUse)
     ∷ (15, settled 1)
     ∷ (16, Replied (ack (codes "15") Cds ∷ []) [])
@@ -74,6 +76,6 @@ WhatOpensAnswers = answers_to deeds
     ∷ (20, Done)
     ∷ (21, settled 2)
     ∷ (22, Reaped (1 ∷ []))
-    ∷ (23, NoCluster 2)
+    ∷ (23, on 2 NoCluster)
     ∷ (24, settled 2)
     ∷ []

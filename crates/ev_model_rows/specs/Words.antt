@@ -1,5 +1,5 @@
 -- Short words for the scripts and answers of worked rows. This project's own.
-use Rattle.std.specs.Prelude.{ℕ, ◌+◌, ◌*◌, ◌^◌, Bool, true, false, List, [], ◌∷◌, ◌++◌, length, map, codes, Option, Some, None}
+use Rattle.std.specs.Prelude.{ℕ, ◌+◌, ◌*◌, ◌^◌, Bool, true, false, List, [], ◌∷◌, ◌++◌, length, map, codes, option_map, Option, Some, None}
 use Rattle.ev_types.specs.Hosts.{HostRowParts}
 use Rattle.ev_types.specs.Items.{ItemParts}
 use Rattle.ev_types.specs.Scripts.{ScriptParts}
@@ -29,7 +29,9 @@ use Rattle.ev_types.specs.declared.events.Actor.TheVariants.{Stream, Health as h
 use Rattle.ev_types.specs.declared.events.Event.{Event}
 use Rattle.ev_types.specs.declared.events.Event.TheVariants.{Connect, Disconnect, Response, Health, FetchTimeout, DrainTimeout, TtlExpired, Publish, Reap, Accept, Close, Settle}
 use Rattle.ev_types.specs.declared.events.Answer.{Answer}
-use Rattle.ev_types.specs.declared.events.Answer.TheVariants.{Served, Settled}
+use Rattle.ev_types.specs.declared.events.Answer.TheVariants.{On, Settled}
+use Rattle.ev_types.specs.declared.ways.Way.{Way}
+use Rattle.ev_types.specs.declared.ways.Way.TheVariants.{Served}
 use Rattle.ev_types.specs.declared.events.Entry.{Entry}
 use Rattle.ev_types.specs.declared.events.Line.{Line}
 use Rattle.ev_types.specs.declared.events.Profile.TheVariants.{Own}
@@ -56,7 +58,7 @@ cluster_with name discovery checked text = record {
   name = name;
   version = codes "v1";
   ttl = false;
-  body = Good (Cluster (record { name = name; discovery = discovery; checked = checked; body_text = text }));
+  body = Good (Cluster (record { name = name; discovery = discovery; checked = checked; secrets = []; secrets_by_match = None; body_text = text }));
 }
 
 -- the same without the text
@@ -103,7 +105,7 @@ no_criteria = record {
 
 -- a chain that serves the connections that its match takes
 abbrev pub chain_by : FilterChainMatch → Serve → FilterChain
-chain_by criteria serve = record { criteria = criteria; serve = serve }
+chain_by criteria serve = record { criteria = criteria; serve = serve; secrets = []; extensions = []; body_text = [] }
 
 -- a chain that serves every connection
 abbrev pub open_chain : Serve → FilterChain
@@ -126,7 +128,9 @@ listener_by name address every chains default text = record {
     restores = false;
     hands_over = false;
     filter_chains = chains;
-    default_filter_chain = default;
+    default_filter_chain = option_map open_chain default;
+    extensions = [];
+    frame_text = [];
     body_text = text;
   }));
 }
@@ -330,10 +334,14 @@ subscribe kind names = record (ask kind) { subscribe = names }
 abbrev pub unsubscribe : Kind → List (List ℕ) → Request
 unsubscribe kind names = record (ask kind) { unsubscribe = names }
 
+-- a listener takes a connection, by the profile of this project's own, where chains aren't told apart
+abbrev pub on : ℕ → Way Host → Answer
+on listener way = On listener None way
+
 -- a connection is served by host h
 abbrev pub served : ℕ → ℕ → List ℕ → Answer
-served listener cluster last = Served listener cluster (host last)
+served listener cluster last = on listener (Served cluster (host last))
 
 -- a settle that closes nothing
 abbrev pub settled : ℕ → Answer
-settled version = Settled [] version
+settled version = Settled [] [] version

@@ -32,20 +32,25 @@ ghost use Rattle.ev_model_rows.specs.OpenRoutes.{OpenRoutesAnswers};
 ghost use Rattle.ev_model_rows.specs.WhatOpens.{WhatOpensAnswers};
 ghost use Rattle.ev_model_rows.specs.EveryAddress.{EveryAddressAnswers};
 ghost use Rattle.ev_model_rows.specs.Redirected.{RedirectedAnswers};
+ghost use Rattle.ev_model_rows.specs.ListenersInPlace.{ChangesInPlace, ComesBack, GoesBack};
+ghost use Rattle.ev_model_rows.specs.MissingSecrets.{MissingSecretsAnswers};
 
-/// A content that returns: an update that never warmed is dropped, and the generation that served goes once nothing holds it. It does nothing.
+/// A content that returns: an update that never warmed is dropped,
+/// and the generation that served goes once nothing holds it. It does nothing.
 pub fn content_returns()
     ensures answers { ContentReturnsAnswers }
     ensures pictures { ContentReturnsPictures }
 {}
 
-/// Two clusters wait for one name: a fetch timeout releases the one whose wait is limited, and a value, a word of the control plane, the other. It does nothing.
+/// Two clusters wait for one name: a fetch timeout releases the one whose wait is limited, and a value,
+/// a word of the control plane, the other. It does nothing.
 pub fn two_timeouts()
     ensures answers { TwoTimeoutsAnswers }
     ensures pictures { TwoTimeoutsPictures }
 {}
 
-/// An assignment grows while its checked cluster warms: it is warm once each host of the assignment then has a result. It does nothing.
+/// An assignment grows while its checked cluster warms:
+/// it is warm once each host of the assignment then has a result. It does nothing.
 pub fn growing_assignment()
     ensures answers { GrowingAssignmentAnswers }
     ensures pictures { GrowingAssignmentPictures }
@@ -57,13 +62,15 @@ pub fn no_hosts()
     ensures pictures { NoHostsPictures }
 {}
 
-/// A batch comes before the settle that ends it, and what it opened keeps its generation until it is closed. It does nothing.
+/// A batch comes before the settle that ends it, and what it opened keeps its generation
+/// until it is closed. It does nothing.
 pub fn late_batch()
     ensures answers { LateBatchAnswers }
     ensures pictures { LateBatchPictures }
 {}
 
-/// The drain timer of a listener: connections on its old generation are closed when their worker settles. It does nothing.
+/// The drain timer of a listener: connections on its old generation are closed
+/// when their worker settles. It does nothing.
 pub fn drain_timer()
     ensures answers { DrainTimerAnswers }
     ensures pictures { DrainTimerPictures }
@@ -81,7 +88,8 @@ pub fn watch_ends_and_begins()
     ensures pictures { WatchEndsAndBeginsPictures }
 {}
 
-/// A stream that is lost and opened again: nothing else changes, and what is held is named at the connect. It does nothing.
+/// A stream that is lost and opened again: nothing else changes,
+/// and what is held is named at the connect. It does nothing.
 pub fn lost_stream()
     ensures answers { LostStreamAnswers }
 {}
@@ -118,25 +126,29 @@ pub fn realistic()
     ensures pictures { RealisticPictures }
 {}
 
-/// With `auto` each line of the stream, the health checker and the timers is followed by a publication and a reaping. It does nothing.
+/// With `auto` each line of the stream, the health checker and the timers is followed by a publication
+/// and a reaping. It does nothing.
 pub fn automatic()
     ensures answers { AutomaticAnswers }
     ensures pictures { AutomaticPictures }
 {}
 
-/// A virtual host is found by its domains: one that is equal, then the longest suffix, then `*`; ASCII letters in either case. It does nothing.
+/// A virtual host is found by its domains: one that is equal, then the longest suffix, then `*`;
+/// ASCII letters in either case. It does nothing.
 pub fn domains()
     ensures answers { DomainsAnswers }
     ensures pictures { DomainsPictures }
 {}
 
-/// A pick takes a cluster by the weights of the target, and its quotient a host by the weights of the cluster. It does nothing.
+/// A pick takes a cluster by the weights of the target, and its quotient a host by the weights
+/// of the cluster. It does nothing.
 pub fn weights()
     ensures answers { WeightsAnswers }
     ensures pictures { WeightsPictures }
 {}
 
-/// A heartbeat renews the version that is kept, one of another version is refused, and the end of a time to live removes. It does nothing.
+/// A heartbeat renews the version that is kept, one of another version is refused,
+/// and the end of a time to live removes. It does nothing.
 pub fn ttl()
     ensures answers { TtlAnswers }
 {}
@@ -163,8 +175,8 @@ pub fn findings()
     ensures { Found }
 {}
 
-/// Filter chains are narrowed by port, address, server name, transport and application protocols, then by where a connection comes
-/// from, and nothing comes back. It does nothing.
+/// Filter chains are narrowed by port, address, server name, transport and application protocols,
+/// then by where a connection comes from, and nothing comes back. It does nothing.
 pub fn narrowing()
     ensures no_way_back { NoWayBack }
     ensures ranges { Ranges }
@@ -175,7 +187,8 @@ pub fn narrowing()
     ensures source_types { SourceTypes }
 {}
 
-/// What routes ask of headers and paths, and what that says where a header is missing or nothing decides it. It does nothing.
+/// What routes ask of headers and paths, and what that says where a header is missing
+/// or nothing decides it. It does nothing.
 pub fn conditions()
     ensures there { There }
     ensures missing { Missing }
@@ -190,7 +203,8 @@ pub fn queries()
     ensures path { OfPath }
 {}
 
-/// An updated cluster waits until its endpoints are sent anew, though they are known, and the same ones wake it. It does nothing.
+/// An updated cluster waits until its endpoints are sent anew, though they are known,
+/// and the same ones wake it. It does nothing.
 pub fn fresh_endpoints()
     ensures answers { FreshEndpointsAnswers }
     ensures pictures { FreshEndpointsPictures }
@@ -201,7 +215,7 @@ pub fn late_timeouts()
     ensures answers { LateTimeoutsAnswers }
 {}
 
-/// Listeners share what came for a name of routes. It does nothing.
+/// Listeners share what was received for a name of routes. It does nothing.
 pub fn shared_routes()
     ensures answers { SharedRoutesAnswers }
 {}
@@ -211,7 +225,8 @@ pub fn two_marks()
     ensures answers { TwoMarksAnswers }
 {}
 
-/// Connections go to the filter chain that is left by each criterion in its order, else to the default chain, or to none. It does nothing.
+/// Connections go to the filter chain that is left by each criterion in its order, else to the default chain,
+/// or to none. It does nothing.
 pub fn chains_in_order()
     ensures answers { ChainsInOrderAnswers }
 {}
@@ -231,7 +246,22 @@ pub fn every_address()
     ensures answers { EveryAddressAnswers }
 {}
 
-/// A redirected connection is taken by the listener where it was delivered, or by the one where it is meant to go. It does nothing.
+/// A redirected connection is taken by the listener where it was delivered,
+/// or by the one where it is meant to go. It does nothing.
 pub fn redirected()
     ensures answers { RedirectedAnswers }
+{}
+
+/// A listener is changed in place: connections move with the chains that stay,
+/// and a roll-back leaves all as it was. It does nothing.
+pub fn listeners_in_place()
+    ensures changes { ChangesInPlace }
+    ensures comes_back { ComesBack }
+    ensures goes_back { GoesBack }
+{}
+
+/// Connections that lack a secret fail; a secret that comes mends them,
+/// and its removal changes nothing. It does nothing.
+pub fn missing_secrets()
+    ensures answers { MissingSecretsAnswers }
 {}

@@ -18,7 +18,7 @@ use Rattle.ev_model.specs.Finding.{is_unfinished, operations_left, tells_of}
 use Rattle.ev_operations.specs.Dues.{AreDue, at_line, operation_due}
 use Rattle.ev_operations.specs.declared.due.Due.{Due}
 use Rattle.ev_operations.specs.declared.due.Due.TheVariants.{Line as by_line, Publish, Reap, Settle, LastSettle}
-use Rattle.ev_walk_laws.specs.Walks.{may_leave_out, next_of}
+use Rattle.ev_model_laws.specs.Walks.{may_leave_out, next_of}
 use Rattle.ev_operations.specs.Courses.{IsFoundAt, is_left, is_settle_due, tells_due}
 use Rattle.ev_operations.specs.declared.course.Course.{Course}
 
@@ -131,7 +131,8 @@ all_put : (P : Operation → Type 0) (os : List Operation) (o : Operation) → B
 all_put P [] o all is = (is, tt)
 all_put P (p ∷ os) o all is = (all.0, all_put P os o all.1 is)
 
--- a walk through the course has come to a place: before it come settles alone that may be left out, and the row records none of them
+-- a walk through the course has come to a place: before it come settles alone that may be left out,
+-- and the row records none of them
 pub record IsPassed (script : ScriptParts) (row : Row) (course : Course) (os : List Operation) (place : ℕ) : Type 0 where
   pub left : List Operation
   pub due : AreDue script row.actor (drop place course.dues) left

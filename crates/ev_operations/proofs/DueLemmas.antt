@@ -22,7 +22,8 @@ use Rattle.ev_operations.specs.Dues.{AreDue, at_line, dues_at, last_dues, makes_
 use Rattle.ev_operations.specs.declared.due.Due.{Due}
 use Rattle.ev_operations.specs.declared.due.Due.TheVariants.{Publish, Reap, Settle, LastSettle}
 
--- this many lines were gone through: what is due is what the actor does at them, and this many of its accepts and closes wait
+-- this many lines were gone through: what is due is what the actor does at them,
+-- and this many of its accepts and closes wait
 pub record AreDueSoFar (script : ScriptParts) (actor : Actor) (dues : List Due) (waiting place : ℕ) : Type 0 where
   pub due : AreDue script actor dues (made_by actor (flat_map (line_operations script) (take place script.lines)))
   pub counted : waiting ≡ length (lines_since actor (take place script.lines)) % 256

@@ -20,8 +20,8 @@ use Rattle.ev_model_laws.proofs.OperationLists.{IsIn, at_in, any_at, any_none, f
 use Rattle.ev_model_laws.proofs.ScriptOperations.{IsAllowed, all_allowed}
 use Rattle.ev_operations.specs.Dues.{AreDue, operation_due}
 use Rattle.ev_operations.specs.declared.due.Due.{Due}
-use Rattle.ev_walk_laws.specs.Walks.{may_leave_out, next_of}
-use Rattle.ev_walk_laws.proofs.NextLemmas.{left_other, left_own, next_actor, rests_other}
+use Rattle.ev_model_laws.specs.Walks.{may_leave_out, next_of}
+use Rattle.ev_model_laws.proofs.NextLemmas.{left_other, left_own, next_actor, rests_other}
 use Rattle.ev_operations.specs.Courses.{HasBegun, HasCome, HaveCome, HaveMoved, IsFound, IsFoundAt, is_left, seat_of}
 use Rattle.ev_operations.proofs.CourseLemmas.{unfinished_due}
 use Rattle.ev_operations.specs.declared.course.Course.{Course}

@@ -12,7 +12,7 @@ use Rattle.ev_model.specs.Finding.{operations_left, tells_of}
 use Rattle.ev_operations.specs.Dues.{AreDue, operation_due}
 use Rattle.ev_operations.specs.declared.due.Due.{Due}
 use Rattle.ev_operations.specs.declared.due.Due.TheVariants.{Line as by_line, Publish, Reap, Settle, LastSettle}
-use Rattle.ev_walk_laws.specs.Walks.{ComesNext, IsNextFor, leaves_out, may_leave_out}
+use Rattle.ev_model_laws.specs.Walks.{ComesNext, IsNextFor, leaves_out, may_leave_out}
 use Rattle.ev_operations.specs.declared.course.Course.{Course}
 use Rattle.ev_operations.specs.declared.courses.Courses.{Courses}
 use Rattle.ev_operations.specs.declared.courses.Found.{Found}
@@ -39,7 +39,8 @@ pub record HasBegun (format : Format) (script : ScriptParts) (actor : Actor) (co
   pub place : course.place ≡ 0
   pub rests : course.rests ≡ leaves_out format true
 
--- what is due of an actor is what is left of its operations after the journal, and it is marked where settles may be left out
+-- what is due of an actor is what is left of its operations after the journal,
+-- and it is marked where settles may be left out
 pub record HasCome (format : Format) (script : ScriptParts) (journal : List Entry) (actor : Actor) (course : Course) : Type 0 where
   pub within : course.place ≤ length course.dues
   pub due : AreDue script actor (drop course.place course.dues) (operations_left script journal actor)

@@ -3,7 +3,7 @@ ghost use Rattle.std.specs.List.{list_any};
 ghost use Rattle.ev_model.specs.Finding.{tells_of};
 ghost use Rattle.ev_model.specs.Operations.{Operation};
 ghost use Rattle.ev_operations.specs.Dues.{AreDue};
-ghost use Rattle.ev_walk_laws.specs.Walks.{next_of};
+ghost use Rattle.ev_model_laws.specs.Walks.{next_of};
 ghost use Rattle.ev_operations.specs.Courses.{HasBegun, IsFoundAt, is_left};
 
 use crate::due::Due;
@@ -41,7 +41,8 @@ impl Course {
         })
     }
 
-    /// The place of what a row records, where it may come next: settles alone come before it, and these may be left out.
+    /// The place of what a row records, where it may come next:
+    /// settles alone come before it, and these may be left out.
     pub(crate) fn find(&self, script: &Script, row: &Row) -> Option<usize>
         ensures there { IfSome result (λ place. place < length self.now.dues) }
         ensures found { IfSome result (λ place. (os : List Operation)

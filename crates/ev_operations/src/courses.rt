@@ -3,7 +3,7 @@ ghost use Rattle.std.specs.List.{list_any};
 ghost use Rattle.ev_types.specs.declared.events.Entry.{Entry};
 ghost use Rattle.ev_model.specs.Finding.{is_unfinished, operations_left, tells_of};
 ghost use Rattle.ev_model.specs.Operations.{Operation, all_operations};
-ghost use Rattle.ev_walk_laws.specs.Walks.{may_leave_out, next_of};
+ghost use Rattle.ev_model_laws.specs.Walks.{may_leave_out, next_of};
 ghost use Rattle.ev_operations.specs.Courses.{HaveCome, HaveMoved, IsFound, seat_of};
 
 use crate::course::Course;
@@ -16,7 +16,8 @@ use std::alloc::{AllocError, Global};
 pub struct Courses {
     /// Which rules the journal follows.
     pub format: Format,
-    /// The courses of the stream, the health checker, the timers and the main thread, and those of the workers by number.
+    /// The courses of the stream, the health checker, the timers and the main thread,
+    /// and those of the workers by number.
     pub seats: Vec<Course>,
 }
 

@@ -9,9 +9,10 @@ use std::alloc::{AllocError, Global};
 // How many accepts and closes a worker may make between two settles.
 const BATCH_LIMIT: u32 = 256;
 
-/// What an actor of a script is to do, in order: its lines and, with `auto`, a publication and a reaping after each; for a worker
-/// a settle after each accept or close that makes a batch of 256, and one after the last line. An actor that the script doesn't
-/// have has nothing to do. It goes over the script's lines once.
+/// What an actor of a script is to do, in order: its lines and, with `auto`,
+/// a publication and a reaping after each; for a worker a settle after each accept or close that makes a batch of 256,
+/// and one after the last line. An actor that the script doesn't have has nothing to do.
+/// It goes over the script's lines once.
 pub fn operations(alloc: Global, script: &Script, actor: Actor) -> Result<Seq<Due>, AllocError>
     ensures { IfOk result (λ dues. AreDue script.now actor dues (operations_of script.now actor)) }
 {

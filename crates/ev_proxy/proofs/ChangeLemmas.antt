@@ -1,5 +1,5 @@
--- What a publication makes of the last picture: where each change says what is found of its number, and of all other numbers the same is
--- found as before, that is what is found.
+-- What a publication makes of the last picture: where each change says what is found of its number, and of all other
+-- numbers the same is found as before, that is what is found.
 use Rattle.std.proofs.Common.{◌≡◌, ◌∙◌, ℕ, Bool, true, false, not, ◌||◌, ◌==◌, cond, List, [], ◌∷◌, Option, Some, None, find, filter, map, refl, sym, ap}
 use Rattle.std.proofs.Math.Bool.{or-false}
 use Rattle.std.specs.List.{AllByRecursion}

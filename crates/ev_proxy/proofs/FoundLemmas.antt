@@ -9,7 +9,7 @@ use Rattle.ev_types.specs.Statuses.{is_active}
 use Rattle.ev_types.specs.declared.contents.Kind.{Kind}
 use Rattle.ev_types.specs.declared.contents.Kind.TheVariants.{Cds, Lds}
 use Rattle.ev_types.specs.declared.contents.Content.{Content}
-use Rattle.ev_types.specs.declared.contents.Content.TheVariants.{Cluster as a_cluster, Assignment as an_assignment, Listener as a_listener, Routes as routes}
+use Rattle.ev_types.specs.declared.contents.Content.TheVariants.{Listener as a_listener}
 use Rattle.ev_types.specs.declared.rows.GenRow.{GenRow}
 use Rattle.ev_model.specs.declared.pictures.ServedCluster.{ServedCluster}
 use Rattle.ev_model.specs.declared.pictures.ServedListener.{ServedListener}
@@ -17,9 +17,8 @@ use Rattle.ev_model.specs.Picture.{active_rows, served_cluster, served_clusters,
 use Rattle.ev_model.specs.Phase.{is_serving}
 use Rattle.ev_model.specs.Versions.{is_before}
 use Rattle.ev_model.specs.World.{World}
-use Rattle.ev_generations.specs.Tables.{row_in}
+use Rattle.ev_indexes.specs.Tables.{row_in}
 use Rattle.ev_indexes.specs.Shown.{cluster_at, cluster_shown, first_of, listener_at, listener_shown}
-use Rattle.ev_indexes.specs.Worlds.{rows_of_kind}
 use Rattle.ev_retirement.specs.Holders.{AreNumbered}
 use Rattle.ev_proxy.proofs.OrderLemmas.{AllDiffer, AreInOrder, Differ, StandsBefore, found_sorted, none_found, number_same, number_turned, numbered, sorted_order}
 
@@ -162,26 +161,15 @@ numbered_left q (row ∷ rows) apart = by (q row) (numbered_left q rows apart.1)
     by true rest = (none rows apart.0, rest)
     by false rest = rest
 
--- the active ones of a kind are those of the kind's rows that are active
-active_of_kind : (kind : Kind) (rows : List GenRow) → filter (λ (row : GenRow). is_active row.status) (rows_of_kind kind rows) ≡ filter (serves_as kind) rows
-active_of_kind kind [] = refl
-active_of_kind kind (row ∷ rows) = by (kind_same row.kind kind) (active_of_kind kind rows)
-  where
-    by : (t : Bool) → filter (λ (r : GenRow). is_active r.status) (rows_of_kind kind rows) ≡ filter (serves_as kind) rows
-        → filter (λ (r : GenRow). is_active r.status) (cond t (row ∷ rows_of_kind kind rows) (rows_of_kind kind rows))
-        ≡ cond (t && is_active row.status) (row ∷ filter (serves_as kind) rows) (filter (serves_as kind) rows)
-    by true rest = λ i. cond (is_active row.status) (row ∷ rest i) (rest i)
-    by false rest = rest
-
 -- the names of the active rows of a kind differ
 abbrev pub NamesDiffer : Kind → List GenRow → Type 0
-NamesDiffer kind rows = IsDistinct bytes_eq (map row_name (filter (λ (row : GenRow). is_active row.status) (rows_of_kind kind rows)))
+NamesDiffer kind rows = IsDistinct bytes_eq (map row_name (filter (serves_as kind) rows))
 
 module _ (kind : Kind) (rows : List GenRow) (apart : AreNumbered rows) (names : NamesDiffer kind rows) where
   active_differ : AllDiffer row_name row_number (filter (serves_as kind) rows)
   active_differ =
       differ (filter (serves_as kind) rows)
-      (subst (λ rs. IsDistinct bytes_eq (map row_name rs)) (active_of_kind kind rows) names)
+      names
       (numbered_left (serves_as kind) rows apart)
 
   active_order : AreInOrder row_name row_number (active_rows rows kind)
@@ -244,10 +232,8 @@ module _ (world : World) (apart : AreNumbered world.rows) (names : NamesDiffer L
     where
       by : (content : Content) → (served_listener world.arrivals row content ≡ [])
           ⊎ ((l : ServedListener) × (served_listener world.arrivals row content ≡ l ∷ []) × IsOf row_name row_number listener_name listener_number one_listener row l)
-      by (a_cluster cluster) = inl refl
-      by (an_assignment rows) = inl refl
       by (a_listener listener) = inr (_, refl, record { names = refl; numbers = refl })
-      by (routes table) = inl refl
+      by content = inl refl
 
   abbrev shown_listeners : Bool → List ServedListener
   shown_listeners serving = cond serving (served_listeners world.arrivals world.rows) []

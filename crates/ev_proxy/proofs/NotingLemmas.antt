@@ -1,16 +1,15 @@
--- The generations that an event retired are noted, and what holds generations then stands for the world after it.
+-- The generations that an event retired are noted, and what holds generations then represents the world after it.
 use Rattle.std.proofs.Common.{◌≡◌, ℕ, Bool, true, false, not, ◌&&◌, ◌||◌, ◌==◌, cond, nat_eq, List, [], ◌∷◌, ◌++◌, Option, None, Some, refl, sym, ap, subst, ◌∙◌, arith}
 use Rattle.std.specs.Cmp.{first_so}
 use Rattle.std.specs.List.{list_any, IsDistinct, AllByRecursion}
 use Rattle.std.proofs.lemmas.Bool.{false≢true}
 use Rattle.std.proofs.lemmas.Bool.Decides.{nat_tests}
-use Rattle.std.proofs.lemmas.List.Folds.{list_any-append}
 use Rattle.std.proofs.lemmas.Map.Keys.{IsDistinct-head, IsDistinct-tail}
 use Rattle.ev_types.specs.Statuses.{is_live}
 use Rattle.ev_types.specs.declared.rows.GenRow.{GenRow}
 use Rattle.ev_model.specs.World.{World}
 use Rattle.ev_model.specs.Picture.{has_number}
-use Rattle.ev_generations.specs.Tables.{numbers_of, row_in}
+use Rattle.ev_indexes.specs.Tables.{numbers_of, row_in}
 use Rattle.ev_indexes.specs.Due.{is_one_of}
 use Rattle.ev_warming.specs.Changes.{is_over}
 use Rattle.ev_drain.specs.Retired.{Retired}
@@ -96,7 +95,7 @@ all_among P (n ∷ numbers) so = (
     or_later true is = refl
     or_later false is = is
 
--- what holds generations, once those that retired are noted, stands for the world after the event
+-- what holds generations, once those that retired are noted, represents the world after the event
 pub noted_stand : (first second : HoldersParts) (retired : List ℕ) (before after : World)
     → second ≡ record first { drain = noted_each after.rows retired first.drain }
     → HoldsFor first before → AreNumbered before.rows → AreNumbered after.rows → HoldTheSame before after → HaveCeased retired before after

@@ -1,5 +1,5 @@
--- Lists in the order of their elements' names, whose numbers differ: two that find the same by number are equal, and what changes by
--- number is put to its place.
+-- Lists in the order of their elements' names, whose numbers differ: two that find the same by number are equal, and
+-- what changes by number is put to its place.
 use Rattle.std.proofs.Common.{◌≡◌, ◌∙◌, ℕ, Bool, true, false, not, ◌||◌, ◌==◌, cond, List, [], ◌∷◌, Option, Some, None, Ordering, find, filter, refl, sym, ap, subst, arith}
 use Rattle.std.proofs.Math.Bool.{or-false, or-true}
 use Rattle.std.specs.declared.cmp.Ordering.TheVariants.{Less, Equal, Greater}

@@ -15,7 +15,7 @@ use Rattle.ev_model.specs.Picture.{has_number}
 use Rattle.ev_model.specs.Publishing.{ascending, dead_numbers}
 use Rattle.ev_model.specs.Dead.{is_dead, is_dead_at}
 use Rattle.ev_model.specs.World.{World}
-use Rattle.ev_generations.specs.Tables.{row_in}
+use Rattle.ev_indexes.specs.Tables.{row_in}
 use Rattle.ev_ledger.proofs.OrderLemmas.{any_put, any_sorted}
 use Rattle.ev_warming.specs.Changes.{is_over}
 use Rattle.ev_state.specs.States.{over_in, where_over, without_over}

@@ -1,10 +1,10 @@
 -- What the last picture shows, and which generations the next publication looks at.
 use Rattle.std.proofs.Common.{◌≡◌, ◌∙◌, ℕ, ◌-◌, Bool, true, false, not, ◌&&◌, ◌||◌, ◌==◌, cond, List, [], ◌∷◌, ◌++◌, Option, Some, None, length, map, filter, slice_index_or, refl, sym, ap, subst}
-use Rattle.std.specs.List.{AllByRecursion, IsDistinct, list_any}
-use Rattle.std.specs.Str.{bytes_eq}
+use Rattle.std.specs.List.{AllByRecursion, list_any}
 use Rattle.std.proofs.lemmas.Bool.{false≢true, or_parts}
 use Rattle.ev_types.specs.Kinds.{kind_same}
 use Rattle.ev_types.specs.Statuses.{is_active}
+use Rattle.ev_types.specs.declared.contents.Kind.{Kind}
 use Rattle.ev_types.specs.declared.contents.Kind.TheVariants.{Cds, Lds}
 use Rattle.ev_types.specs.declared.events.Answer.{Answer}
 use Rattle.ev_types.specs.declared.events.Answer.TheVariants.{Unchanged, Version}
@@ -23,22 +23,20 @@ use Rattle.ev_model.specs.Publishing.{publish, without_dead}
 use Rattle.ev_model.specs.Versions.{is_before}
 use Rattle.ev_model.specs.World.{World, last_version, nothing_shown}
 use Rattle.ev_model_laws.proofs.PictureLemmas.{last_shown}
-use Rattle.ev_generations.specs.Tables.{row_in}
+use Rattle.ev_indexes.specs.Tables.{row_in}
 use Rattle.ev_snapshot.specs.declared.changes.Changes.{Changes}
 use Rattle.ev_snapshot.specs.declared.changes.ClusterChange.{ClusterChange}
 use Rattle.ev_snapshot.specs.declared.changes.ListenerChange.{ListenerChange}
-use Rattle.ev_snapshot.specs.Changes.{IsInOrder, IsOrdered, put_cluster, put_clusters, put_listener, put_listeners, shown_with}
+use Rattle.ev_layers.specs.Rows.{IsInOrder}
+use Rattle.ev_snapshot.specs.Changes.{IsOrdered, put_cluster, put_clusters, put_listener, put_listeners, shown_with}
 use Rattle.ev_snapshot.specs.Tables.{cluster_numbered, listener_numbered}
 use Rattle.ev_indexes.proofs.ShownLemmas.{names-differ}
-use Rattle.ev_indexes.specs.declared.state.State.{State as Part}
 use Rattle.ev_indexes.specs.Due.{is_one_of}
-use Rattle.ev_indexes.specs.Indexes.{IsIndexed}
 use Rattle.ev_indexes.specs.Shown.{cluster_shown, listener_shown}
-use Rattle.ev_indexes.specs.Worlds.{HasRows}
 use Rattle.ev_state.specs.Changed.{HaveChanged}
 use Rattle.ev_state.specs.States.{ManagesAt, SameManaged}
 use Rattle.ev_state.specs.declared.state.State.{State}
-use Rattle.ev_pictures.specs.Pictures.{HasPictures, PicturesParts, shown_after}
+use Rattle.ev_retirement.specs.Pictures.{HasPictures, PicturesParts, shown_after}
 use Rattle.ev_retirement.specs.Holders.{AreNumbered}
 use Rattle.ev_proxy.specs.Changing.{IsShownBut, changes_at, cluster_change, listener_change}
 use Rattle.ev_proxy.proofs.OrderLemmas.{AreInOrder, StandsBefore, number_same, number_turned}
@@ -138,19 +136,16 @@ module _ (numbers : List ℕ) (world : World) (apart : AreNumbered world.rows) (
   pub shown_made : shown_with (changes_at world numbers) (last_picture world).shown ≡ shown_of world
   shown_made = λ i. record { clusters = clusters_made i; listeners = listeners_made i }
 
--- a state's names
-part_names : (s : Part) (world : World) → HasRows s world → IsIndexed s → NamesDiffer s.kind world.rows
-part_names s world stands indexed = subst (λ (rows : List GenRow). IsDistinct bytes_eq (map (λ (r : GenRow). r.name) (filter (λ (r : GenRow). is_active r.status) rows))) stands.rows (names-differ s indexed)
+-- the names of the active rows of a kind
+names_shown : (kind : Kind) (s : State) (world : World) → ManagesAt s world → NamesDiffer kind world.rows
+names_shown kind s world at =
+    subst (NamesDiffer kind) at.follows.stands.managers.rows (names-differ s.managers.core.state at.kept.indexed kind)
 
 pub cluster_names : (s : State) (world : World) → ManagesAt s world → NamesDiffer Cds world.rows
-cluster_names s world at =
-    subst (λ kind. NamesDiffer kind world.rows) at.kept.clusters.rows
-    (part_names s.managers.clusters.state world at.follows.stands.managers.clusters at.kept.clusters.kept.indexed)
+cluster_names s world at = names_shown Cds s world at
 
 pub listener_names : (s : State) (world : World) → ManagesAt s world → NamesDiffer Lds world.rows
-listener_names s world at =
-    subst (λ kind. NamesDiffer kind world.rows) at.kept.listeners.rows
-    (part_names s.managers.listeners.state world at.follows.stands.managers.listeners at.kept.listeners.kept.indexed)
+listener_names s world at = names_shown Lds s world at
 
 -- a publication: the last picture shows what is to be shown
 pub published_shown : (s : State) (world : World) → ManagesAt s world → IsShownBut [] (publish world).0

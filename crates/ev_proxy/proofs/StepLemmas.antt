@@ -44,7 +44,7 @@ module _ {E : Type 0} (result : Result Answer E) (format : Format) (actor : Acto
       IfOk-weaker result (λ v. Notes (record old { state = state }) new moved) (λ v. IsAt new (step format here actor event).0)
       (λ v notes. subst (λ (e : Event). IsAt new (step format here actor e).0) (sym is)
       (noted_at old new state moved here (step format here actor theirs).0 at reached (managed_same format here actor theirs moving managed)
-      (have-ceased moved.retired here (step format here actor theirs).0 at.managed.follows.sound led.follows.sound led.later reached.whole led.moved.retired)
+      (have-ceased moved.retired here (step format here actor theirs).0 led.later led.moved.retired)
       led.moved.changed notes))
 
   pub step_answer : IfOk result (λ answer. answer ≡ told) → IfOk result (λ answer. answer ≡ (step format here actor event).1)

@@ -1,4 +1,5 @@
--- What events leave of a world: publications and workers leave what the managers know, and the managers leave what workers hold.
+-- What events leave of a world: publications and workers leave what the managers know, and the managers leave what
+-- workers hold.
 use Rattle.std.proofs.Common.{◌≡◌, ℕ, ◌<◌, Bool, true, false, cond, List, [], ◌∷◌, ◌++◌, length, refl, sym, ap, subst, ◌∙◌}
 use Rattle.std.proofs.lemmas.List.{append-nil, length-map}
 use Rattle.ev_types.specs.declared.events.Actor.{Actor}

@@ -1,4 +1,5 @@
--- What the next publication looks at: the generations of which a picture may show something else than the last one. This project's own.
+-- What the next publication looks at: the generations of which a picture may show something else than the last one.
+-- This project's own.
 use Rattle.std.specs.Prelude.{◌≡◌, ℕ, false, List, map}
 use Rattle.ev_model.specs.World.{World}
 use Rattle.ev_model.specs.Dead.{last_picture}

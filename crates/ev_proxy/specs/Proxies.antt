@@ -9,7 +9,7 @@ use Rattle.ev_types.specs.declared.journals.Format.{Format}
 use Rattle.ev_types.specs.declared.rows.GenRow.{GenRow}
 use Rattle.ev_model.specs.World.{World}
 use Rattle.ev_model.specs.Publishing.{dead_numbers}
-use Rattle.ev_generations.specs.Tables.{row_in}
+use Rattle.ev_indexes.specs.Tables.{row_in}
 use Rattle.ev_indexes.specs.Due.{is_one_of}
 use Rattle.ev_managers.specs.declared.moved.Moved.{Moved}
 use Rattle.ev_drain.specs.Retired.{Retired}
@@ -19,8 +19,8 @@ use Rattle.ev_retirement.specs.Retiring.{noted}
 use Rattle.ev_proxy.specs.declared.proxy.Proxy.{Proxy}
 use Rattle.ev_proxy.specs.Changing.{IsShownBut}
 
--- between two events: what the managers know, and what holds generations, is that of the world, and the numbers that changed are all of
--- which the last picture doesn't show what is to be shown of them now
+-- between two events: what the managers know, and what holds generations, is that of the world, and the numbers that
+-- changed are all of which the last picture doesn't show what is to be shown of them now
 pub record IsAt (p : Proxy) (world : World) : Type 0 where
   pub managed : ManagesAt p.state world
   pub held : HoldsFor p.holders world
@@ -44,8 +44,8 @@ abbrev pub noted_each : List GenRow → List ℕ → List Retired → List Retir
 noted_each rows [] drain = drain
 noted_each rows (number ∷ numbers) drain = noted_each rows numbers (noted_over drain (row_in number rows))
 
--- what a step of the managers moved is noted: the managers and the deferred rows are as they were, what retired is noted among what
--- drains, whatever world the managers are at, and these too have changed
+-- what a step of the managers moved is noted: the managers and the deferred rows are as they were, what retired is
+-- noted among what drains, whatever world the managers are at, and these too have changed
 pub record Notes (old new : Proxy) (moved : Moved) : Type 0 where
   pub state : new.state ≡ old.state
   pub deferred : new.deferred ≡ old.deferred

@@ -30,7 +30,7 @@ impl Changed {
         }
     }
 
-    /// Puts these to them. Out of memory, nothing is promised.
+    /// Puts these to them. Out of memory, it is unspecified.
     pub(crate) fn put_all(&mut self, numbers: &[Gen]) -> Result<(), AllocError>
         ensures { OnOk result ((n : ℕ) → is_one_of self.new n ≡ (is_one_of self.old n || is_one_of numbers.now n)) }
     {

@@ -8,8 +8,8 @@ use ev_state::State;
 use ev_types::{Gen, Seq};
 use std::alloc::{AllocError, Global};
 
-/// What is to be shown of the generations of these numbers, as clusters and as listeners: a number is of one of both. It costs look-ups
-/// of each.
+/// What is to be shown of the generations of these numbers, as clusters and as listeners: a number is of one of both.
+/// It costs look-ups of each.
 pub(crate) fn changes(alloc: Global, state: &State, numbers: &[Gen]) -> Result<Changes, AllocError>
     ghost here: { World }
     requires at { ManagesAt state.now here }

@@ -42,8 +42,8 @@ fn note_row(alloc: Global, holders: &mut Holders, row: Option<&GenRow>) -> Resul
     holders.note(alloc, row)
 }
 
-/// Takes out the generations of these numbers that drain or were dropped, and puts their rows after those that are deferred,
-/// where there is room for as many. It takes no memory.
+/// Takes out the generations of these numbers that drain or were dropped, and puts their rows after those that are
+/// deferred, where there is room for as many. It takes no memory.
 pub(crate) fn remove_each(state: &mut State, numbers: &[Gen], deferred: &mut Deferred)
     requires kept { AreManagersKept state.old.managers }
     requires forgotten { AreForgotten state.old.managers }

@@ -8,8 +8,8 @@ ghost use Rattle.ev_model.specs.Runs.{world_after};
 ghost use Rattle.ev_model.specs.Step.{step};
 ghost use Rattle.ev_model.specs.declared.pictures.Picture.{Picture};
 ghost use Rattle.ev_types.specs.declared.journals.Format.{Format};
-ghost use Rattle.ev_run_laws.specs.Drawing.{NumbersSuffice};
-ghost use Rattle.ev_generations.specs.Tables.{row_in};
+ghost use Rattle.ev_model_laws.specs.Drawing.{NumbersSuffice};
+ghost use Rattle.ev_indexes.specs.Tables.{row_in};
 ghost use Rattle.ev_ledger.specs.Members.{count_of};
 ghost use Rattle.ev_worker.specs.Batches.{entries_of};
 ghost use Rattle.ev_worker.specs.Workers.{AreAnswered, IsToldBy};
@@ -17,7 +17,7 @@ ghost use Rattle.ev_proxy.specs.Proxies.{AreRowsOf, IsAt, IsKnown, numbers_reape
 
 use crate::changed::Changed;
 use ev_drain::Deferred;
-use ev_generations::Steps;
+use ev_indexes::Steps;
 use ev_keys::Keys;
 use ev_retirement::Holders;
 use ev_snapshot::Snapshot;
@@ -29,8 +29,8 @@ use std::marker::Brand;
 use std::sync::Arc;
 use std::sync::ledger::{Blank, Ledger};
 
-/// What the managers know, and what holds generations: the pictures that workers serve from, their open connections, and what drains.
-/// After running out of memory nothing is promised of it.
+/// What the managers know, and what holds generations: the pictures that workers serve from, their open connections,
+/// and what drains. After running out of memory it is unspecified.
 #[derive(Drop)]
 pub struct Proxy {
     pub state: State,
@@ -42,8 +42,8 @@ pub struct Proxy {
 }
 
 impl Proxy {
-    /// Nothing is known yet, and each of this many workers holds the empty picture. The tables by what an input names hash by
-    /// these keys.
+    /// Nothing is known yet, and each of this many workers holds the empty picture. The tables by what an input names
+    /// hash by these keys.
     pub fn new(alloc: Global, keys: Keys, workers: u32, node: &Text) -> Result<Proxy, AllocError>
         ensures at { IfOk result (λ p. IsAt p (opening workers node.now)) }
         ensures deferred { IfOk result (λ p. p.deferred.0 ≡ []) }
@@ -58,9 +58,9 @@ impl Proxy {
         })
     }
 
-    /// What an event does, and its answer: one step of the machine, by the rules of a journal's format. What only a worker does is
-    /// ignored where another actor brings it. The rows of the generations that it reaped are deferred, and no others. Out of
-    /// memory, nothing is promised.
+    /// What an event does, and its answer: one step of the machine, by the rules of a journal's format. What only a
+    /// worker does is ignored where another actor brings it. The rows of the generations that it reaped are deferred,
+    /// and no others. Out of memory, it is unspecified.
     pub fn step(
         &mut self,
         alloc: Global,
@@ -145,8 +145,8 @@ impl Proxy {
         }
     }
 
-    /// Takes over what a worker did since it settled. The world is then the one after these entries. The deferred rows stay as
-    /// they were; out of memory, nothing else is promised.
+    /// Takes over what a worker did since it settled. The world is then the one after these entries. The deferred
+    /// rows stay as they were; out of memory, all else is unspecified.
     pub fn take_batch(&mut self, batch: &Batch) -> Result<(), AllocError>
         ghost here: { World }
         requires at { IsAt self.old here }
@@ -158,16 +158,18 @@ impl Proxy {
         self.holders.take_batch(batch)
     }
 
-    /// A worker settles: it takes over the last snapshot, and its connections on listeners whose drain timeout came are closed.
-    /// The deferred rows stay as they were; out of memory, nothing else is promised.
+    /// A worker settles: it takes over the last snapshot. Its connections move to the listeners that keep their
+    /// chains, and are closed on listeners whose drain timeout came where their chains are gone. The deferred rows
+    /// stay as they were; out of memory, all else is unspecified.
     pub fn settle(&mut self, alloc: Global, worker: u32) -> Result<Settled, AllocError>
         ghost here: { World }
         requires at { IsAt self.old here }
         requires known { worker < length here.held }
         ensures at { OnOk result (IsAt self.new (settle worker here).0) }
         ensures answer { IfOk result (λ settled. (settle worker here).1
-            ≡ settled_answer settled.closed settled.version) }
-        ensures told { IfOk result (λ settled. IsToldBy worker settled.closed (arc_value settled.snapshot) here) }
+            ≡ settled_answer settled.closed settled.moved settled.version) }
+        ensures told { IfOk result (λ settled. IsToldBy worker settled.closed settled.moved
+            (arc_value settled.snapshot) here) }
         ensures deferred { self.new.deferred ≡ self.old.deferred }
     {
         self.holders.settle(alloc, worker)
@@ -188,7 +190,8 @@ impl Proxy {
         self.state.phase()
     }
 
-    /// The generation of this number. It costs a look-up among clusters, and one among listeners where no cluster has the number.
+    /// The generation of this number. It costs a look-up among clusters, and one among listeners where no cluster has
+    /// the number.
     pub fn row(&self, number: Gen) -> Option<&GenRow>
         ensures { (world : World) → IsAt self.now world → option_copied result ≡ row_in number world.rows }
     {
@@ -202,7 +205,7 @@ impl Proxy {
         self.holders.count(number)
     }
 
-    /// How many numbers were drawn for generations.
+    /// How many numbers were allocated for generations.
     pub fn made(&self) -> u32
         ensures { (world : World) → IsAt self.now world → result ≡ world.made }
     {

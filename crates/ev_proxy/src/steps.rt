@@ -4,22 +4,22 @@ ghost use Rattle.ev_model.specs.Publishing.{dead_numbers, publish, reap};
 ghost use Rattle.ev_model.specs.Signals.{drain_timeout};
 ghost use Rattle.ev_model.specs.Connections.{accept, close, settle};
 ghost use Rattle.ev_model.specs.Step.{of_worker};
-ghost use Rattle.ev_pictures.specs.Pictures.{published_answer};
+ghost use Rattle.ev_retirement.specs.Pictures.{published_answer};
 ghost use Rattle.ev_proxy.specs.Proxies.{AreRowsOf, IsAt, IsKnown, Notes};
 
 use crate::Proxy;
 use crate::changed::Changed;
 use crate::changing::changes;
 use crate::noting::{note_each, remove_each};
-use ev_generations::Steps;
+use ev_indexes::Steps;
 use ev_managers::Moved;
 use ev_types::{Actor, Answer, Ask, Format, Name, Seq};
 use std::alloc::{AllocError, Global};
 use std::sync::ledger::Ledger;
 
 impl Proxy {
-    /// Notes what a step of the managers moved: the generations that it retired among those that drain, and those of which it changed
-    /// what is to be shown among those that changed. Answers what the step answered.
+    /// Notes what a step of the managers moved: the generations that it retired among those that drain, and those of
+    /// which it changed what is to be shown among those that changed. Answers what the step answered.
     pub(crate) fn note(
         &mut self,
         alloc: Global,
@@ -39,7 +39,8 @@ impl Proxy {
         Ok(answer)
     }
 
-    /// The drain timeout of a listener's old generations; where there is none for which it hadn't come, nothing is done.
+    /// The drain timeout of a listener's old generations; where there is none for which it hadn't come, nothing is
+    /// done.
     pub(crate) fn drain_timeout<L: Ledger>(
         &mut self,
         alloc: Global,
@@ -61,8 +62,8 @@ impl Proxy {
         Ok(answer)
     }
 
-    /// What workers may serve now is published, where it isn't what the last picture shows. Only the generations are looked at of
-    /// which it may show something else.
+    /// What workers may serve now is published, where it isn't what the last picture shows. Only the generations are
+    /// looked at of which it may show something else.
     pub(crate) fn publish(&mut self, alloc: Global) -> Result<Answer, AllocError>
         ghost here: { World }
         requires at { IsAt self.old here }
@@ -92,7 +93,8 @@ impl Proxy {
         Ok(Answer::Reaped(Seq::from_vec(dead)))
     }
 
-    /// A connection comes to a worker, and is answered as the worker's snapshot here says; of another actor nothing is done.
+    /// A connection comes to a worker, and is answered as the worker's snapshot here says; of another actor nothing
+    /// is done.
     pub(crate) fn accept(
         &mut self,
         alloc: Global,
@@ -140,6 +142,7 @@ impl Proxy {
                 let settled = self.settle(alloc, worker)?;
                 Ok(Answer::Settled {
                     closed: settled.closed,
+                    moved: settled.moved,
                     version: settled.version,
                 })
             }

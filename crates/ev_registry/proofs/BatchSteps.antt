@@ -81,30 +81,30 @@ settles_in picture proxy parts worker at n run stepped works below latest led =
     (subst (IsAt proxy) (sym more) led)
 
 -- the settle that was reported is the machine's
-pub is_entered : (parts given : JournalParts) (pushed : List Entry) (worker : WorkerParts) (at n : ℕ) (closed : List ℕ) (version : ℕ) → given ≡ parts
-    → pushed ≡ parts.journal ++ (entries_made worker ++ settle_told worker.number at n closed version ∷ [])
-    → (settle worker.number (world_behind worker given)).1 ≡ Settled closed version
+pub is_entered : (parts given : JournalParts) (pushed : List Entry) (worker : WorkerParts) (at n : ℕ) (closed moved : List ℕ) (version : ℕ) → given ≡ parts
+    → pushed ≡ parts.journal ++ (entries_made worker ++ settle_told worker.number at n closed moved version ∷ [])
+    → (settle worker.number (world_behind worker given)).1 ≡ Settled closed moved version
     → pushed ≡ (with_settled worker at n parts).journal
-is_entered parts given pushed worker at n closed version same pushes answered =
-    let machine : (settle worker.number (world_behind worker parts)).1 ≡ Settled closed version =
-    subst (λ (p : JournalParts). (settle worker.number (world_behind worker p)).1 ≡ Settled closed version) same answered in
+is_entered parts given pushed worker at n closed moved version same pushes answered =
+    let machine : (settle worker.number (world_behind worker parts)).1 ≡ Settled closed moved version =
+    subst (λ (p : JournalParts). (settle worker.number (world_behind worker p)).1 ≡ Settled closed moved version) same answered in
     pushes
     ∙ ap (λ (answer : Answer). parts.journal ++ (entries_made worker ++ record { actor = Worker worker.number; at = at; step = n; event = Settle; answer = answer } ∷ [])) (sym machine)
 
 -- a batch and a settle that were made on what is known
-pub enters_batch : (latest : Picture) (proxy : Proxy) (parts now given : JournalParts) (pushed : List Entry) (worker : WorkerParts) (at n : ℕ) (closed : List ℕ) (version : ℕ)
+pub enters_batch : (latest : Picture) (proxy : Proxy) (parts now given : JournalParts) (pushed : List Entry) (worker : WorkerParts) (at n : ℕ) (closed moved : List ℕ) (version : ℕ)
     → IsRun parts.format parts.workers parts.node parts.journal
     → HaveStepped parts.format parts.workers (opening parts.workers parts.node) parts.journal
     → parts ≡ now → given ≡ parts
-    → pushed ≡ parts.journal ++ (entries_made worker ++ settle_told worker.number at n closed version ∷ [])
+    → pushed ≡ parts.journal ++ (entries_made worker ++ settle_told worker.number at n closed moved version ∷ [])
     → WorksIn worker (world_now now) → worker.number < now.workers
-    → (settle worker.number (world_behind worker given)).1 ≡ Settled closed version
+    → (settle worker.number (world_behind worker given)).1 ≡ Settled closed moved version
     → latest ≡ last_picture (settle worker.number (world_behind worker given)).0
     → IsAt proxy (settle worker.number (world_behind worker given)).0
     → FollowsJournal false latest proxy (record parts { journal = pushed })
-enters_batch latest proxy parts now given pushed worker at n closed version run stepped view same pushes works below answered last led =
+enters_batch latest proxy parts now given pushed worker at n closed moved version run stepped view same pushes works below answered last led =
     subst (λ (es : List Entry). FollowsJournal false latest proxy (record parts { journal = es }))
-    (sym (is_entered parts given pushed worker at n closed version same pushes answered))
+    (sym (is_entered parts given pushed worker at n closed moved version same pushes answered))
     (settles_in latest proxy parts worker at n run stepped
     (subst (λ (p : JournalParts). WorksIn worker (world_now p)) (sym view) works)
     (subst (λ (p : JournalParts). worker.number < p.workers) (sym view) below)
@@ -112,13 +112,13 @@ enters_batch latest proxy parts now given pushed worker at n closed version run 
     (subst (λ (p : JournalParts). IsAt proxy (settle worker.number (world_behind worker p)).0) same led))
 
 -- so the journal has them
-pub shows_batch : (parts now given : JournalParts) (pushed : List Entry) (worker : WorkerParts) (at n : ℕ) (closed : List ℕ) (version : ℕ)
+pub shows_batch : (parts now given : JournalParts) (pushed : List Entry) (worker : WorkerParts) (at n : ℕ) (closed moved : List ℕ) (version : ℕ)
     → parts ≡ now → given ≡ parts
-    → pushed ≡ parts.journal ++ (entries_made worker ++ settle_told worker.number at n closed version ∷ [])
-    → (settle worker.number (world_behind worker given)).1 ≡ Settled closed version
+    → pushed ≡ parts.journal ++ (entries_made worker ++ settle_told worker.number at n closed moved version ∷ [])
+    → (settle worker.number (world_behind worker given)).1 ≡ Settled closed moved version
     → record parts { journal = pushed } ≡ with_settled worker at n now
-shows_batch parts now given pushed worker at n closed version view same pushes answered =
-    ap (λ (es : List Entry). record parts { journal = es }) (is_entered parts given pushed worker at n closed version same pushes answered)
+shows_batch parts now given pushed worker at n closed moved version view same pushes answered =
+    ap (λ (es : List Entry). record parts { journal = es }) (is_entered parts given pushed worker at n closed moved version same pushes answered)
     ∙ ap (with_settled worker at n) view
 
 -- in the world after more entries there are as many workers as the journal's

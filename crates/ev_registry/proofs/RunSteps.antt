@@ -19,7 +19,7 @@ use Rattle.ev_actors.specs.Journals.{JournalParts, SufficeFor, answer_now, entry
 use Rattle.ev_actors.proofs.WorldLemmas.{after_append}
 use Rattle.ev_proxy.specs.Proxies.{AreRowsOf, IsAt, numbers_reaped}
 use Rattle.ev_proxy.specs.declared.proxy.Proxy.{Proxy}
-use Rattle.ev_run_laws.proofs.NumberLemmas.{entry_draws}
+use Rattle.ev_model_laws.proofs.RunNumberLemmas.{entry_draws}
 use Rattle.ev_registry.proofs.EventLemmas.{main_alone}
 use Rattle.ev_registry.specs.Registries.{DefersReaped, MayStep, HaveStepped, FollowsJournal}
 

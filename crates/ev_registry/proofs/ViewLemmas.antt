@@ -9,7 +9,7 @@ use Rattle.ev_model_laws.proofs.NumberLemmas.{draws_in_order}
 use Rattle.ev_actors.specs.Journals.{JournalParts, world_now}
 use Rattle.ev_types.specs.declared.rows.Phase.{Phase}
 use Rattle.ev_model.specs.declared.pictures.Picture.{Picture}
-use Rattle.ev_run_laws.specs.ByNumber.{row_numbered, rows_numbered}
+use Rattle.ev_model_laws.specs.ByNumber.{row_numbered, rows_numbered}
 use Rattle.ev_registry.specs.declared.views.ViewRow.{ViewRow}
 use Rattle.ev_registry.specs.Views.{view_of, view_row}
 

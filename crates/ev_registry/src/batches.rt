@@ -20,7 +20,7 @@ pub(crate) fn enter_batch(
     settled: &Settled,
 ) -> Result<(), AllocError>
     ensures ok { OnOk result (journal.new.items ≡ journal.old.items ++ (entries_made worker.now
-        ++ settle_told worker.now.number at step settled.now.closed settled.now.version ∷ [])) }
+        ++ settle_told worker.now.number at step settled.now.closed settled.now.moved settled.now.version ∷ [])) }
     ensures err { OnErr result (journal.new.items ≡ journal.old.items) }
 {
     let mut entries = Vec::new(alloc);
@@ -41,7 +41,7 @@ fn enter_through(
 ) -> Result<(), AllocError>
     requires { entries.old.items ≡ [] }
     ensures ok { OnOk result (journal.new.items ≡ journal.old.items ++ (entries_made worker.now
-        ++ settle_told worker.now.number at step settled.now.closed settled.now.version ∷ [])) }
+        ++ settle_told worker.now.number at step settled.now.closed settled.now.moved settled.now.version ∷ [])) }
     ensures err { OnErr result (journal.new.items ≡ journal.old.items) }
 {
     enter_lines(entries, alloc, worker)?;
@@ -90,7 +90,7 @@ fn settle_entry(
     step: u32,
     settled: &Settled,
 ) -> Result<Entry, AllocError>
-    ensures { IfOk result (λ entry. entry ≡ settle_told worker at step settled.now.closed settled.now.version) }
+    ensures { IfOk result (λ entry. entry ≡ settle_told worker at step settled.now.closed settled.now.moved settled.now.version) }
 {
     Ok(Entry {
         actor: Actor::Worker(worker),
@@ -99,6 +99,7 @@ fn settle_entry(
         event: Event::Settle,
         answer: Answer::Settled {
             closed: settled.closed.copy(alloc)?,
+            moved: settled.moved.copy(alloc)?,
             version: settled.version,
         },
     })

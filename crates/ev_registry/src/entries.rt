@@ -25,7 +25,8 @@ pub(crate) fn entry_of(
     })
 }
 
-// Appends what was done to a journal, and puts the rows that it reaped after those that wait. Out of memory, both stay as they were.
+// Appends what was done to a journal, and puts the rows that it reaped after those that wait.
+// Out of memory, both stay as they were.
 pub(crate) fn enter(
     journal: &mut Vec<Entry>,
     deferred: &mut Deferred,

@@ -25,9 +25,10 @@ use std::marker::Model;
 use std::mem::{drop, replace};
 use std::sync::Arc;
 
-/// What is known, and the journal of what was done: a run of the machine. Where an event ran out of memory, what is known counts as
-/// lost, and is made anew out of the journal with the next event; the last picture and the rows that wait to be dropped are kept beside it,
-/// and stay.
+/// What is known, and the journal of what was done: a run of the machine.
+/// Where an event ran out of memory, what is known counts as lost,
+/// and is made anew out of the journal with the next event;
+/// the last picture and the rows that wait to be dropped are kept beside it, and stay.
 #[derive(Drop)]
 pub struct Registry {
     alloc: Global,
@@ -59,8 +60,8 @@ impl Model for Registry {
 }
 
 impl Registry {
-    /// A registry in which nothing was done yet, for 1 to 16 workers, by the rules of a format. The tables by what an input names
-    /// hash by these keys.
+    /// A registry in which nothing was done yet, for 1 to 16 workers, by the rules of a format.
+    /// The tables by what an input names hash by these keys.
     pub fn new(
         alloc: Global,
         keys: Keys,
@@ -79,7 +80,8 @@ impl Registry {
         Ok(registry)
     }
 
-    /// The registry in which these entries were done, which are a run: each event once more, in order. No row waits to be dropped.
+    /// The registry in which these entries were done, which are a run: each event once more, in order.
+    /// No row waits to be dropped.
     pub fn of_journal(
         alloc: Global,
         keys: Keys,
@@ -125,8 +127,9 @@ impl Registry {
         })
     }
 
-    /// What is known, as it is shown: the generations by number, each with how many connections are open on it. There is none where the
-    /// last event ran out of memory, and otherwise there is one. It costs look-ups of each number that was drawn.
+    /// What is known, as it is shown: the generations by number,
+    /// each with how many connections are open on it. There is none where the last event ran out of memory,
+    /// and otherwise there is one. It costs look-ups of each number that was allocated.
     pub fn view(&self, alloc: Global) -> Result<Option<View>, AllocError>
         ensures shown { IfOk result (λ view. IfSome view (λ v. v ≡ view_of (world_now self.now.journaled))) }
         ensures lost { IfOk result (λ view. is_none view ≡ self.now.is_lost) }
@@ -156,7 +159,8 @@ impl Journaled for Registry {
             ≡ with_entry (entry_made actor at step event.now self.old.journaled) self.old.journaled) }
         ensures drawn { OnOk result ((world_now self.new.journaled).made ≤
             (world_now self.old.journaled).made + items_in event.now) }
-        // What a reaping names waits after the rows that waited, each row as the world had it; no other event puts a row there.
+        // What a reaping names waits after the rows that waited, each row as the world had it;
+        // no other event puts a row there.
         ensures deferred { OnOk result (DefersReaped event.now self.old.journaled self.old.deferred self.new.deferred) }
         ensures err { OnErr result (self.new.journaled ≡ self.old.journaled) }
         ensures kept { OnErr result (self.new.deferred ≡ self.old.deferred) }
@@ -191,7 +195,7 @@ impl Journaled for Registry {
         requires within { worker.now.number < self.old.journaled.workers }
         requires works { WorksIn worker.now (world_now self.old.journaled) }
         ensures entries { OnOk result (self.new.journaled ≡ with_settled worker.now at step self.old.journaled) }
-        ensures told { IfOk result (λ settled. IsToldBehind worker.now settled.closed
+        ensures told { IfOk result (λ settled. IsToldBehind worker.now settled.closed settled.moved
             (arc_value settled.snapshot) self.old.journaled) }
         ensures err { OnErr result (self.new.journaled ≡ self.old.journaled) }
         // The rows that wait go on waiting.

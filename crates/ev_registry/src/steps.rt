@@ -5,7 +5,7 @@ ghost use Rattle.ev_types.specs.declared.events.Answer.TheVariants.{Settled as s
 ghost use Rattle.ev_model.specs.Connections.{settle};
 ghost use Rattle.ev_model.specs.World.{World, opening};
 ghost use Rattle.ev_model.specs.Step.{step};
-ghost use Rattle.ev_run_laws.specs.Drawing.{NumbersSuffice};
+ghost use Rattle.ev_model_laws.specs.Drawing.{NumbersSuffice};
 ghost use Rattle.ev_worker.specs.Workers.{IsToldBy};
 ghost use Rattle.ev_actors.specs.Journals.{WorksIn, world_behind, world_now};
 ghost use Rattle.ev_proxy.specs.Proxies.{AreRowsOf, IsAt, numbers_reaped};
@@ -110,8 +110,8 @@ pub(crate) fn settle_after(
     requires known { worker.now.number < past.workers }
     ensures at { OnOk result (IsAt proxy.new (settle worker.now.number worlds.1).0) }
     ensures answer { IfOk result (λ settled. (settle worker.now.number worlds.1).1
-        ≡ settled_answer settled.closed settled.version) }
-    ensures told { IfOk result (λ settled. IsToldBy worker.now.number settled.closed
+        ≡ settled_answer settled.closed settled.moved settled.version) }
+    ensures told { IfOk result (λ settled. IsToldBy worker.now.number settled.closed settled.moved
         (arc_value settled.snapshot) worlds.1) }
 {
     proxy.take_batch(worker.batch())?;

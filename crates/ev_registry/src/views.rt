@@ -1,6 +1,6 @@
 ghost use Rattle.std.specs.Prelude.{◌≡◌, ◌≤◌, ◌++◌, map, option_map, option_to_list, IfOk, OnOk};
 ghost use Rattle.ev_model.specs.World.{World};
-ghost use Rattle.ev_generations.specs.Tables.{row_in};
+ghost use Rattle.ev_indexes.specs.Tables.{row_in};
 ghost use Rattle.ev_model_laws.specs.Numbers.{IsNumbered};
 ghost use Rattle.ev_proxy.specs.Proxies.{IsAt};
 ghost use Rattle.ev_registry.specs.Views.{view_row};
@@ -20,7 +20,8 @@ pub struct ViewRow {
     pub connections: u64,
 }
 
-/// What is known, as it is shown: the generations by number, how far the proxy has booted, and the version of the last picture.
+/// What is known, as it is shown: the generations by number, how far the proxy has booted,
+/// and the version of the last picture.
 #[derive(Drop)]
 pub struct View {
     pub rows: Seq<ViewRow>,
@@ -28,7 +29,7 @@ pub struct View {
     pub version: u64,
 }
 
-// The generations by number. It costs look-ups of each number that was drawn.
+// The generations by number. It costs look-ups of each number that was allocated.
 pub(crate) fn rows_of(alloc: Global, proxy: &Proxy) -> Result<Seq<ViewRow>, AllocError>
     ensures { IfOk result (λ rows. (world : World) → IsAt proxy.now world → IsNumbered world
         → rows ≡ map (view_row world) world.rows) }

@@ -14,7 +14,7 @@ use Rattle.ev_model.specs.World.{OpenMember}
 use Rattle.ev_model.specs.Sorted.{put_by}
 use Rattle.ev_model.specs.Picture.{has_number, shown_same}
 use Rattle.ev_model.specs.Dead.{is_dead_at, is_open_on, waits_for_timer}
-use Rattle.ev_pictures.specs.Pictures.{PicturesParts, in_use, is_shown_by, is_shown_in, version_showing, with_settled, with_shown}
+use Rattle.ev_retirement.specs.Pictures.{PicturesParts, in_use, is_shown_by, is_shown_in, version_showing, with_settled, with_shown}
 use Rattle.ev_drain.specs.Retired.{Retired, has_row, is_dead_row, is_draining_listener, is_numbered, is_waiting, marked, numbers_waiting, row_before}
 use Rattle.ev_retirement.specs.declared.asking.Asking.{Asking}
 use Rattle.ev_retirement.specs.Asking.{AreAsked, AreAskedInOrder, AsksMore, Forgets, LetsGo, MayLeave, is_aside, is_asked, is_dead_now, is_let_go, is_set_aside}

@@ -1,4 +1,4 @@
--- A settle closes in the ledger what the machine closes.
+-- Numbers of a worker's connections in the ledger, and in the machine.
 use Rattle.std.proofs.Common.{◌≡◌, ℕ, Bool, true, false, not, ◌&&◌, ◌||◌, ◌==◌, cond, nat_le, List, [], ◌∷◌, ◌++◌, filter, map, refl, sym, ap, ◌∙◌, subst, arith}
 use Rattle.std.specs.List.{list_any, AllByRecursion}
 use Rattle.std.proofs.lemmas.Bool.{true≢false, false≢true, or_parts}
@@ -6,19 +6,15 @@ use Rattle.std.proofs.lemmas.Bool.Decides.{nat_tests}
 use Rattle.std.proofs.lemmas.List.Folds.{list_any-append}
 use Rattle.std.specs.Ordering.{is_le, nat_cmp, ordering_then}
 use Rattle.ev_types.specs.declared.rows.GenRow.{GenRow}
-use Rattle.ev_model.specs.World.{World, OpenMember}
+use Rattle.ev_model.specs.World.{OpenMember}
 use Rattle.ev_model.specs.Sorted.{put_by, sorted_by}
 use Rattle.ev_model.specs.Picture.{has_number}
 use Rattle.ev_model.specs.Publishing.{ascending}
-use Rattle.ev_model.specs.Connections.{closed, closed_by, is_closing, is_member, is_open, left_open, settle}
-use Rattle.ev_model.specs.declared.pictures.Picture.{Picture}
-use Rattle.ev_pictures.specs.Pictures.{HasPictures, PicturesParts, settled_on}
-use Rattle.ev_ledger.specs.Members.{AreApart, connection_of, HasOpened, held_of, in_order, is_of_worker, member_before}
+use Rattle.ev_model.specs.Connections.{closed, connections_where, is_member, is_open}
+use Rattle.ev_ledger.specs.Members.{AreApart, HasOpened, in_order, member_before}
 use Rattle.ev_ledger.proofs.PlaceLemmas.{closed_leaves, filter_in_order}
 use Rattle.ev_drain.specs.Retired.{Retired, row_before, has_row, is_expired, is_numbered, is_retired, retired_in, HasRetired}
-use Rattle.ev_worker.specs.Workers.{IsToldBy}
-use Rattle.ev_retirement.specs.Closing.{closed_all, is_member_among, numbers_closing}
-use Rattle.ev_retirement.specs.Holders.{HoldersParts, HoldsFor}
+use Rattle.ev_retirement.specs.Closing.{closed_all, is_member_among}
 use Rattle.ev_retirement.proofs.HoldLemmas.{unmarked}
 
 -- what holds of all holds of the sorted ones
@@ -72,24 +68,8 @@ module _ (expired : List ℕ) where
       by true has = found_mark drain n all has
       by false none = no_mark drain n none ∙ sym (unmarked drain n expired none marked)
 
--- the numbers of a worker's closing connections
-module _ (worker : ℕ) (expired : List ℕ) where
-  closing_numbers : (drain : List Retired) (opened : List OpenMember) → ((n : ℕ) → is_expired drain n ≡ has_number n expired)
-      → numbers_closing drain (held_of worker opened) ≡ map (λ (m : OpenMember). m.connection) (filter (is_closing expired worker) opened)
-  closing_numbers drain [] same = refl
-  closing_numbers drain (m ∷ opened) same =
-      by (m.worker == worker) (is_expired drain m.listener) (has_number m.listener expired) (same m.listener) refl (closing_numbers drain opened same)
-    where
-      by : (a s t : Bool) → s ≡ t → is_expired drain m.listener ≡ s
-          → numbers_closing drain (held_of worker opened) ≡ map (λ (x : OpenMember). x.connection) (filter (is_closing expired worker) opened)
-          → numbers_closing drain (map connection_of (cond a (m ∷ filter (is_of_worker worker) opened) (filter (is_of_worker worker) opened)))
-          ≡ map (λ (x : OpenMember). x.connection) (cond (a && t) (m ∷ filter (is_closing expired worker) opened) (filter (is_closing expired worker) opened))
-      by true true true h is rest = simp is (ap (λ ns. m.connection ∷ ns) rest)
-      by true true false h is rest = absurd (true≢false h)
-      by true false true h is rest = absurd (false≢true h)
-      by true false false h is rest = simp is rest
-      by false s t h is rest = rest
-
+-- the numbers of a worker's connections that pass a test
+module _ (worker : ℕ) (test : OpenMember → Bool) (of : (m : OpenMember) → test m ≡ true → (m.worker == worker) ≡ true) where
   -- connections of one worker are in the order of their numbers
   abbrev IsOf : OpenMember → Type 0
   IsOf m = (m.worker == worker) ≡ true
@@ -117,116 +97,99 @@ module _ (worker : ℕ) (expired : List ℕ) where
   sorted_numbers (m ∷ ms) all =
       put_numbers m (in_order ms) all.0 (all_sorted member_before IsOf ms all.1) ∙ ap (put_by nat_le m.connection) (sorted_numbers ms all.1)
 
-  and_first : (a b : Bool) → (a && b) ≡ true → a ≡ true
-  and_first true b h = refl
-  and_first false b h = h
-
-  closing_of : (ms : List OpenMember) → AllByRecursion IsOf (filter (is_closing expired worker) ms)
-  closing_of [] = tt
-  closing_of (m ∷ ms) = by (is_closing expired worker m) refl (closing_of ms)
+  passing_of : (ms : List OpenMember) → AllByRecursion IsOf (filter test ms)
+  passing_of [] = tt
+  passing_of (m ∷ ms) = by (test m) refl (passing_of ms)
     where
-      by : (t : Bool) → is_closing expired worker m ≡ t → AllByRecursion IsOf (filter (is_closing expired worker) ms)
-          → AllByRecursion IsOf (cond t (m ∷ filter (is_closing expired worker) ms) (filter (is_closing expired worker) ms))
-      by true is rest = (and_first (m.worker == worker) (has_number m.listener expired) is, rest)
+      by : (t : Bool) → test m ≡ t → AllByRecursion IsOf (filter test ms) → AllByRecursion IsOf (cond t (m ∷ filter test ms) (filter test ms))
+      by true is rest = (of m is, rest)
       by false is rest = rest
 
-  in_ledger : (ledger opened : List OpenMember) → HasOpened ledger opened
-      → map (λ (m : OpenMember). m.connection) (filter (is_closing expired worker) ledger) ≡ closed_by expired worker opened
+  pub in_ledger : (ledger opened : List OpenMember) → HasOpened ledger opened
+      → map (λ (m : OpenMember). m.connection) (filter test ledger) ≡ connections_where test opened
   in_ledger ledger opened has =
-      ap (λ ms. map (λ (m : OpenMember). m.connection) (filter (is_closing expired worker) ms)) has
-      ∙ ap (map (λ (m : OpenMember). m.connection)) (filter_in_order (is_closing expired worker) opened)
-      ∙ sorted_numbers (filter (is_closing expired worker) opened) (closing_of opened)
+      ap (λ ms. map (λ (m : OpenMember). m.connection) (filter test ms)) has
+      ∙ ap (map (λ (m : OpenMember). m.connection)) (filter_in_order test opened)
+      ∙ sorted_numbers (filter test opened) (passing_of opened)
 
-  pub numbers_closed : (drain : List Retired) (ledger opened : List OpenMember) → ((n : ℕ) → is_expired drain n ≡ has_number n expired) → HasOpened ledger opened
-      → numbers_closing drain (held_of worker ledger) ≡ closed_by expired worker opened
-  numbers_closed drain ledger opened same has = closing_numbers drain ledger same ∙ in_ledger ledger opened has
-
-  -- where no two are of one worker and number, a connection closes exactly where its number is among those that close
+  -- where no two are of one worker and number, a connection passes exactly where its number is among those that pass
   number_own : (a : ℕ) → (a == a) ≡ true
   number_own a = grind (arith, nat_tests)
-
-  has_closing : List OpenMember → ℕ → Bool
-  has_closing ms number = list_any (λ (y : OpenMember). y.connection == number) (filter (is_closing expired worker) ms)
 
   test_apart : (mw mc zw zc : ℕ) (a : Bool) → (mw == worker) ≡ true → ((zw == mw) && (zc == mc)) ≡ false
       → ((zw == worker) && ((mc == zc) || a)) ≡ ((zw == worker) && a)
   test_apart mw mc zw zc true own apart = grind (arith, nat_tests)
   test_apart mw mc zw zc false own apart = grind (arith, nat_tests)
 
-  abbrev Closes : List OpenMember → OpenMember → Type 0
-  Closes ms m = ((m.worker == worker) && list_any (λ (y : OpenMember). y.connection == m.connection) (filter (is_closing expired worker) ms)) ≡ is_closing expired worker m
+  abbrev Passes : List OpenMember → OpenMember → Type 0
+  Passes ms m = ((m.worker == worker) && list_any (λ (y : OpenMember). y.connection == m.connection) (filter test ms)) ≡ test m
 
-  closes_later : (m : OpenMember) (ms zs : List OpenMember) → is_open zs m.worker m.connection ≡ false → AllByRecursion (Closes ms) zs → AllByRecursion (Closes (m ∷ ms)) zs
-  closes_later m ms [] none all = tt
-  closes_later m ms (z ∷ zs) none all =
+  passes_later : (m : OpenMember) (ms zs : List OpenMember) → is_open zs m.worker m.connection ≡ false → AllByRecursion (Passes ms) zs → AllByRecursion (Passes (m ∷ ms)) zs
+  passes_later m ms [] none all = tt
+  passes_later m ms (z ∷ zs) none all =
       let parts = or_parts (is_member m.worker m.connection z) (is_open zs m.worker m.connection) none in
-      (by (is_closing expired worker m) refl parts.0 all.0, closes_later m ms zs parts.1 all.1)
+      (by (test m) refl parts.0 all.0, passes_later m ms zs parts.1 all.1)
     where
-      by : (t : Bool) → is_closing expired worker m ≡ t → is_member m.worker m.connection z ≡ false → Closes ms z
-          → ((z.worker == worker) && list_any (λ (y : OpenMember). y.connection == z.connection) (cond t (m ∷ filter (is_closing expired worker) ms) (filter (is_closing expired worker) ms)))
-          ≡ is_closing expired worker z
+      by : (t : Bool) → test m ≡ t → is_member m.worker m.connection z ≡ false → Passes ms z
+          → ((z.worker == worker) && list_any (λ (y : OpenMember). y.connection == z.connection) (cond t (m ∷ filter test ms) (filter test ms))) ≡ test z
       by true is apart rest =
-          test_apart m.worker m.connection z.worker z.connection (list_any (λ (y : OpenMember). y.connection == z.connection) (filter (is_closing expired worker) ms))
-          (and_first (m.worker == worker) (has_number m.listener expired) is) apart ∙ rest
+          test_apart m.worker m.connection z.worker z.connection (list_any (λ (y : OpenMember). y.connection == z.connection) (filter test ms)) (of m is) apart ∙ rest
       by false is apart rest = rest
 
   other_place : (mw mc yw yc : ℕ) → (mw == worker) ≡ true → (yw == worker) ≡ true → ((yw == mw) && (yc == mc)) ≡ false → (yc == mc) ≡ false
   other_place mw mc yw yc first second apart = grind (arith, nat_tests)
 
-  none_closing : (m : OpenMember) (ms : List OpenMember) → (m.worker == worker) ≡ true → is_open ms m.worker m.connection ≡ false
-      → list_any (λ (y : OpenMember). y.connection == m.connection) (filter (is_closing expired worker) ms) ≡ false
-  none_closing m [] own none = refl
-  none_closing m (y ∷ ms) own none =
+  none_passing : (m : OpenMember) (ms : List OpenMember) → (m.worker == worker) ≡ true → is_open ms m.worker m.connection ≡ false
+      → list_any (λ (y : OpenMember). y.connection == m.connection) (filter test ms) ≡ false
+  none_passing m [] own none = refl
+  none_passing m (y ∷ ms) own none =
       let parts = or_parts (is_member m.worker m.connection y) (is_open ms m.worker m.connection) none in
-      by (is_closing expired worker y) refl parts.0 (none_closing m ms own parts.1)
+      by (test y) refl parts.0 (none_passing m ms own parts.1)
     where
-      by : (t : Bool) → is_closing expired worker y ≡ t → is_member m.worker m.connection y ≡ false
-          → list_any (λ (x : OpenMember). x.connection == m.connection) (filter (is_closing expired worker) ms) ≡ false
-          → list_any (λ (x : OpenMember). x.connection == m.connection) (cond t (y ∷ filter (is_closing expired worker) ms) (filter (is_closing expired worker) ms)) ≡ false
+      by : (t : Bool) → test y ≡ t → is_member m.worker m.connection y ≡ false
+          → list_any (λ (x : OpenMember). x.connection == m.connection) (filter test ms) ≡ false
+          → list_any (λ (x : OpenMember). x.connection == m.connection) (cond t (y ∷ filter test ms) (filter test ms)) ≡ false
       by true is apart rest =
-          ap (λ b. b || list_any (λ (x : OpenMember). x.connection == m.connection) (filter (is_closing expired worker) ms))
-          (other_place m.worker m.connection y.worker y.connection own (and_first (y.worker == worker) (has_number y.listener expired) is) apart) ∙ rest
+          ap (λ b. b || list_any (λ (x : OpenMember). x.connection == m.connection) (filter test ms))
+          (other_place m.worker m.connection y.worker y.connection own (of y is) apart) ∙ rest
       by false is apart rest = rest
 
-  closes_own : (ms : List OpenMember) → AreApart ms → AllByRecursion (Closes ms) ms
-  closes_own [] apart = tt
-  closes_own (m ∷ ms) apart = (by (m.worker == worker) (has_number m.listener expired) refl, closes_later m ms ms apart.0 (closes_own ms apart.1))
+  passes_own : (ms : List OpenMember) → AreApart ms → AllByRecursion (Passes ms) ms
+  passes_own [] apart = tt
+  passes_own (m ∷ ms) apart = (by (m.worker == worker) (test m) refl refl, passes_later m ms ms apart.0 (passes_own ms apart.1))
     where
-      by : (a b : Bool) → (m.worker == worker) ≡ a
-          → (a && list_any (λ (y : OpenMember). y.connection == m.connection) (cond (a && b) (m ∷ filter (is_closing expired worker) ms) (filter (is_closing expired worker) ms))) ≡ (a && b)
-      by true true own = ap (λ t. t || list_any (λ (y : OpenMember). y.connection == m.connection) (filter (is_closing expired worker) ms)) (number_own m.connection)
-      by true false own = none_closing m ms own apart.0
-      by false b own = refl
+      by : (a b : Bool) → (m.worker == worker) ≡ a → test m ≡ b
+          → (a && list_any (λ (y : OpenMember). y.connection == m.connection) (cond b (m ∷ filter test ms) (filter test ms))) ≡ b
+      by true true own is = ap (λ t. t || list_any (λ (y : OpenMember). y.connection == m.connection) (filter test ms)) (number_own m.connection)
+      by true false own is = none_passing m ms own apart.0
+      by false true own is = absurd (false≢true (sym own ∙ of m is))
+      by false false own is = refl
 
   any_mapped : (ms : List OpenMember) (number : ℕ) → has_number number (map (λ (m : OpenMember). m.connection) ms) ≡ list_any (λ (y : OpenMember). y.connection == number) ms
   any_mapped [] number = refl
   any_mapped (m ∷ ms) number = ap (λ b. (m.connection == number) || b) (any_mapped ms number)
 
-  filter_same : (p q : OpenMember → Bool) (ms : List OpenMember) → AllByRecursion (λ m. p m ≡ q m) ms → filter (λ m. not (p m)) ms ≡ filter (λ m. not (q m)) ms
-  filter_same p q [] all = refl
-  filter_same p q (m ∷ ms) all = by (p m) (q m) all.0 (filter_same p q ms all.1)
-    where
-      by : (s t : Bool) → s ≡ t → filter (λ x. not (p x)) ms ≡ filter (λ x. not (q x)) ms
-          → cond (not s) (m ∷ filter (λ x. not (p x)) ms) (filter (λ x. not (p x)) ms) ≡ cond (not t) (m ∷ filter (λ x. not (q x)) ms) (filter (λ x. not (q x)) ms)
-      by true true h rest = rest
-      by true false h rest = absurd (true≢false h)
-      by false true h rest = absurd (false≢true h)
-      by false false h rest = ap (λ l. m ∷ l) rest
-
-  all_same : (ms zs : List OpenMember) → AllByRecursion (Closes ms) zs
-      → AllByRecursion (λ m. is_member_among worker (map (λ (x : OpenMember). x.connection) (filter (is_closing expired worker) ms)) m ≡ is_closing expired worker m) zs
+  all_same : (ms zs : List OpenMember) → AllByRecursion (Passes ms) zs
+      → AllByRecursion (λ m. is_member_among worker (map (λ (x : OpenMember). x.connection) (filter test ms)) m ≡ test m) zs
   all_same ms [] all = tt
   all_same ms (z ∷ zs) all =
-      (ap (λ b. (z.worker == worker) && b) (any_mapped (filter (is_closing expired worker) ms) z.connection) ∙ all.0, all_same ms zs all.1)
+      (ap (λ b. (z.worker == worker) && b) (any_mapped (filter test ms) z.connection) ∙ all.0, all_same ms zs all.1)
 
-  pub closed_in_ledger : (drain : List Retired) (ledger opened : List OpenMember) → ((n : ℕ) → is_expired drain n ≡ has_number n expired) → HasOpened ledger opened → AreApart ledger
-      → HasOpened (closed_all worker (numbers_closing drain (held_of worker ledger)) ledger) (left_open expired worker opened)
-  closed_in_ledger drain ledger opened same has apart =
-      ap (λ numbers. closed_all worker numbers ledger) (closing_numbers drain ledger same)
-      ∙ filter_same (is_member_among worker (map (λ (x : OpenMember). x.connection) (filter (is_closing expired worker) ledger))) (is_closing expired worker) ledger
-      (all_same ledger ledger (closes_own ledger apart))
-      ∙ ap (filter (λ m. not (is_closing expired worker m))) has
-      ∙ filter_in_order (λ m. not (is_closing expired worker m)) opened
+  pub among_passing : (ms : List OpenMember) → AreApart ms
+      → AllByRecursion (λ m. is_member_among worker (map (λ (x : OpenMember). x.connection) (filter test ms)) m ≡ test m) ms
+  among_passing ms apart = all_same ms ms (passes_own ms apart)
+
+-- a filter by what passes nowhere more
+pub filter_same : (p q : OpenMember → Bool) (ms : List OpenMember) → AllByRecursion (λ m. p m ≡ q m) ms → filter (λ m. not (p m)) ms ≡ filter (λ m. not (q m)) ms
+filter_same p q [] all = refl
+filter_same p q (m ∷ ms) all = by (p m) (q m) all.0 (filter_same p q ms all.1)
+  where
+    by : (s t : Bool) → s ≡ t → filter (λ x. not (p x)) ms ≡ filter (λ x. not (q x)) ms
+        → cond (not s) (m ∷ filter (λ x. not (p x)) ms) (filter (λ x. not (p x)) ms) ≡ cond (not t) (m ∷ filter (λ x. not (q x)) ms) (filter (λ x. not (q x)) ms)
+    by true true h rest = rest
+    by true false h rest = absurd (true≢false h)
+    by false true h rest = absurd (false≢true h)
+    by false false h rest = ap (λ l. m ∷ l) rest
 
 -- closing one number after another
 pub none_gone : (worker : ℕ) (opened : List OpenMember) → opened ≡ closed_all worker [] opened
@@ -274,23 +237,3 @@ one_more_gone worker number numbers opened = closed_leaves worker number (closed
             ∙ rest
         by false t true h is rest = absurd (false≢true h)
         by false t false h is rest = rest
-
--- a settle
-pub settle_told : (worker : ℕ) (holders : HoldersParts) (picture : Picture) (closed : List ℕ) (world : World) → HoldsFor holders world
-    → closed ≡ numbers_closing holders.drain (held_of worker holders.ledger) → picture ≡ holders.pictures.last → IsToldBy worker closed picture world
-settle_told worker holders picture closed world stands is shows = record {
-  closes = is ∙ numbers_closed worker world.expired holders.drain holders.ledger world.opened (marks world.expired holders.drain world.rows stands.retired stands.marked) stands.opened;
-  shows = shows ∙ stands.pictures.last;
-}
-
-pub settle_stands : (worker : ℕ) (holders : HoldersParts) (pictures : PicturesParts) (ledger : List OpenMember) (closed : List ℕ) (world : World) → HoldsFor holders world → AreApart holders.ledger
-    → closed ≡ numbers_closing holders.drain (held_of worker holders.ledger) → ledger ≡ closed_all worker closed holders.ledger → HasPictures pictures (settled_on worker world)
-    → HoldsFor (record holders { pictures = pictures; ledger = ledger }) (settle worker world).0
-settle_stands worker holders pictures ledger closed world stands apart is left has = record {
-  pictures = record { published = has.published; last = has.last; held = has.held; known = has.known };
-  opened =
-      left ∙ ap (λ numbers. closed_all worker numbers holders.ledger) is
-      ∙ closed_in_ledger worker world.expired holders.drain holders.ledger world.opened (marks world.expired holders.drain world.rows stands.retired stands.marked) stands.opened apart;
-  retired = stands.retired;
-  marked = stands.marked;
-}

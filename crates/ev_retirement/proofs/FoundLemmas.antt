@@ -1,5 +1,5 @@
 -- What keeps each connection that a settle closes among those that it looks at.
-use Rattle.std.proofs.Common.{◌≡◌, ℕ, Bool, true, false, not, ◌&&◌, ◌||◌, ◌==◌, cond, Result, Ok, Err, OnOk, OnErr, List, [], ◌∷◌, ◌++◌, filter, map, find, length, take, get_or, ◌+◌, ◌<◌, Some, refl, sym, ap, ◌∙◌, subst, arith}
+use Rattle.std.proofs.Common.{◌≡◌, ℕ, Bool, true, false, not, ◌&&◌, ◌||◌, ◌==◌, cond, Result, Ok, Err, OnOk, OnErr, List, [], ◌∷◌, filter, map, find, length, take, get_or, ◌+◌, ◌<◌, Some, refl, sym, ap, ◌∙◌, subst, arith}
 use Rattle.std.specs.List.{AllByRecursion}
 use Rattle.std.specs.Option.{option_map, unwrap_or}
 use Rattle.std.specs.BTreeMap.{is_at}
@@ -8,6 +8,7 @@ use Rattle.std.proofs.lemmas.Bool.Decides.{nat_tests}
 use Rattle.std.proofs.lemmas.List.{take_more}
 use Rattle.std.proofs.lemmas.List.Folds.{list_any-append}
 use Rattle.ev_model.specs.World.{OpenMember}
+use Rattle.ev_model.specs.declared.pictures.Shown.{Shown}
 use Rattle.ev_model.specs.Sorted.{put_by}
 use Rattle.ev_model.specs.Picture.{has_number}
 use Rattle.ev_model.specs.Connections.{is_member}
@@ -16,8 +17,8 @@ use Rattle.ev_ledger.specs.Members.{has_place, is_open_at, member_before}
 use Rattle.ev_ledger.proofs.PlaceLemmas.{same_place}
 use Rattle.ev_drain.specs.Retired.{Retired, is_draining_listener, is_expired, is_numbered, is_waiting, marked, numbers_waiting, row_before}
 use Rattle.ev_retirement.specs.declared.closing.Closing.{Closing}
-use Rattle.ev_retirement.specs.Closing.{AreFound, FindsMore, Leaves, is_found}
-use Rattle.ev_retirement.proofs.MoreLemmas.{or_first, or_second, same_number}
+use Rattle.ev_retirement.specs.Closing.{AreFound, FindsMore, is_due, is_found, moves}
+use Rattle.ev_retirement.proofs.MoreLemmas.{or_first, or_more, or_second, same_number}
 use Rattle.ev_retirement.proofs.AskLemmas.{all_put, all_so, all_two}
 
 -- nothing changes, or more and more
@@ -27,35 +28,56 @@ same_finds closing = record { stays = λ worker connection h. h }
 pub finds_after : (first second third : Closing) → FindsMore first second → FindsMore second third → FindsMore first third
 finds_after first second third more again = record { stays = λ worker connection h. again.stays worker connection (more.stays worker connection h) }
 
+-- fewer drain timeouts came: what is so now was so before
+due_more : (drain other : List Retired) (shown : Shown) (m : OpenMember) → ((n : ℕ) → is_expired other n ≡ true → is_expired drain n ≡ true)
+    → is_due other shown m ≡ true → is_due drain shown m ≡ true
+due_more drain other shown m so due = or_more (is_expired other m.listener) (moves shown m) (is_expired drain m.listener) (so m.listener) due
+
 -- more is looked at, or fewer drain timeouts came
-pub found_more : (before after : Closing) (drain other : List Retired) (opened : List OpenMember) → FindsMore before after
-    → ((n : ℕ) → is_expired other n ≡ true → is_expired drain n ≡ true) → AreFound before drain opened → AreFound after other opened
-found_more before after drain other opened more so found =
-    all_so (λ (m : OpenMember). is_expired drain m.listener ≡ true → is_found before m.worker m.connection ≡ true)
-    (λ (m : OpenMember). is_expired other m.listener ≡ true → is_found after m.worker m.connection ≡ true)
-    (λ m was is. more.stays m.worker m.connection (was (so m.listener is))) opened found
+pub found_more : (before after : Closing) (drain other : List Retired) (shown : Shown) (opened : List OpenMember) → FindsMore before after
+    → ((n : ℕ) → is_expired other n ≡ true → is_expired drain n ≡ true) → AreFound before drain shown opened → AreFound after other shown opened
+found_more before after drain other shown opened more so found =
+    all_so (λ (m : OpenMember). is_due drain shown m ≡ true → is_found before m.worker m.connection ≡ true)
+    (λ (m : OpenMember). is_due other shown m ≡ true → is_found after m.worker m.connection ≡ true)
+    (λ m was is. more.stays m.worker m.connection (was (due_more drain other shown m so is))) opened found
 
 -- a connection opens, or doesn't
-pub open_found : {T E : Type 0} (result : Result T E) (before after : Closing) (drain : List Retired) (member : OpenMember) (opened left : List OpenMember)
-    → FindsMore before after → (is_expired drain member.listener ≡ true → is_found after member.worker member.connection ≡ true)
-    → OnOk result (left ≡ put_by member_before member opened) → OnErr result (left ≡ opened) → AreFound before drain opened → AreFound after drain left
-open_found (Ok value) before after drain member opened left more here is same found =
-    subst (AreFound after drain) (sym is)
-    (all_put member_before (λ (m : OpenMember). is_expired drain m.listener ≡ true → is_found after m.worker m.connection ≡ true) member opened here
-    (found_more before after drain drain opened more (λ n h. h) found))
-open_found (Err error) before after drain member opened left more here is same found =
-    subst (AreFound after drain) (sym same) (found_more before after drain drain opened more (λ n h. h) found)
+pub open_found : {T E : Type 0} (result : Result T E) (before after : Closing) (drain : List Retired) (shown : Shown) (member : OpenMember) (opened left : List OpenMember)
+    → FindsMore before after → (is_due drain shown member ≡ true → is_found after member.worker member.connection ≡ true)
+    → OnOk result (left ≡ put_by member_before member opened) → OnErr result (left ≡ opened) → AreFound before drain shown opened → AreFound after drain shown left
+open_found (Ok value) before after drain shown member opened left more here is same found =
+    subst (AreFound after drain shown) (sym is)
+    (all_put member_before (λ (m : OpenMember). is_due drain shown m ≡ true → is_found after m.worker m.connection ≡ true) member opened here
+    (found_more before after drain drain shown opened more (λ n h. h) found))
+open_found (Err error) before after drain shown member opened left more here is same found =
+    subst (AreFound after drain shown) (sym same) (found_more before after drain drain shown opened more (λ n h. h) found)
 
 -- connections close, and are no longer looked at
-pub found_left : (q : OpenMember → Bool) (before after : Closing) (drain : List Retired)
+pub found_left : (q : OpenMember → Bool) (before after : Closing) (drain : List Retired) (shown : Shown)
     → ((m : OpenMember) → is_found after m.worker m.connection ≡ (q m && is_found before m.worker m.connection))
-    → (opened : List OpenMember) → AreFound before drain opened → AreFound after drain (filter q opened)
-found_left q before after drain is [] found = tt
-found_left q before after drain is (m ∷ opened) found = by (q m) refl (found_left q before after drain is opened found.1)
+    → (opened : List OpenMember) → AreFound before drain shown opened → AreFound after drain shown (filter q opened)
+found_left q before after drain shown is [] found = tt
+found_left q before after drain shown is (m ∷ opened) found = by (q m) refl (found_left q before after drain shown is opened found.1)
   where
-    by : (t : Bool) → q m ≡ t → AreFound after drain (filter q opened) → AreFound after drain (cond t (m ∷ filter q opened) (filter q opened))
-    by true at rest = (λ expired. is m ∙ ap (λ b. b && is_found before m.worker m.connection) at ∙ found.0 expired, rest)
+    by : (t : Bool) → q m ≡ t → AreFound after drain shown (filter q opened) → AreFound after drain shown (cond t (m ∷ filter q opened) (filter q opened))
+    by true at rest = (λ due. is m ∙ ap (λ b. b && is_found before m.worker m.connection) at ∙ found.0 due, rest)
     by false at rest = rest
+
+-- a connection that isn't due is no longer looked at
+pub found_done : (worker connection : ℕ) (before after : Closing) (drain : List Retired) (shown : Shown)
+    → ((w n : ℕ) → is_found after w n ≡ (not ((w == worker) && (n == connection)) && is_found before w n))
+    → (opened : List OpenMember) → AllByRecursion (λ (m : OpenMember). is_member worker connection m ≡ true → is_due drain shown m ≡ false) opened
+    → AreFound before drain shown opened → AreFound after drain shown opened
+found_done worker connection before after drain shown is opened done found =
+    all_two (λ (m : OpenMember). is_member worker connection m ≡ true → is_due drain shown m ≡ false)
+    (λ (m : OpenMember). is_due drain shown m ≡ true → is_found before m.worker m.connection ≡ true)
+    (λ (m : OpenMember). is_due drain shown m ≡ true → is_found after m.worker m.connection ≡ true)
+    (λ m none was due. by m (is_member worker connection m) refl none due (was due)) opened done found
+  where
+    by : (m : OpenMember) (t : Bool) → is_member worker connection m ≡ t → (is_member worker connection m ≡ true → is_due drain shown m ≡ false)
+        → is_due drain shown m ≡ true → is_found before m.worker m.connection ≡ true → is_found after m.worker m.connection ≡ true
+    by m true at none due here = absurd (false≢true (sym (none at) ∙ due))
+    by m false at none due here = is m.worker m.connection ∙ ap (λ b. not b && is_found before m.worker m.connection) at ∙ here
 
 -- whether the drain timeout of the first row's number came
 first_expired : (n : ℕ) (row : Retired) (rows : List Retired) → is_expired (row ∷ rows) n ≡ cond (is_numbered n row) row.expired (is_expired rows n)
@@ -87,12 +109,12 @@ put_expired one (row ∷ rows) n none h = by (row_before one row) h (put_expired
         inner true h = h
         inner false h = rest h
 
-pub retire_found : {T E : Type 0} (result : Result T E) (closing : Closing) (drain other : List Retired) (one : Retired) (opened : List OpenMember) → one.expired ≡ false
-    → OnOk result (other ≡ put_by row_before one drain) → OnErr result (other ≡ drain) → AreFound closing drain opened → AreFound closing other opened
-retire_found (Ok value) closing drain other one opened none is same found =
-    found_more closing closing drain other opened (same_finds closing)
+pub retire_found : {T E : Type 0} (result : Result T E) (closing : Closing) (drain other : List Retired) (shown : Shown) (one : Retired) (opened : List OpenMember)
+    → one.expired ≡ false → OnOk result (other ≡ put_by row_before one drain) → OnErr result (other ≡ drain) → AreFound closing drain shown opened → AreFound closing other shown opened
+retire_found (Ok value) closing drain other shown one opened none is same found =
+    found_more closing closing drain other shown opened (same_finds closing)
     (λ n h. put_expired one drain n none (sym (ap (λ rows. is_expired rows n) is) ∙ h)) found
-retire_found (Err error) closing drain other one opened none is same found = subst (λ rows. AreFound closing rows opened) (sym same) found
+retire_found (Err error) closing drain other shown one opened none is same found = subst (λ rows. AreFound closing rows shown opened) (sym same) found
 
 -- a generation goes
 none_expired : (number : ℕ) (rows : List Retired) → is_expired (filter (λ row. not (is_numbered number row)) rows) number ≡ false
@@ -127,10 +149,10 @@ left_expired number (row ∷ rows) n h = by (is_numbered number row) refl h (lef
         inner true h = h
         inner false h = rest h
 
-pub removed_found : (number : ℕ) (closing : Closing) (drain other : List Retired) (opened : List OpenMember)
-    → other ≡ filter (λ row. not (is_numbered number row)) drain → AreFound closing drain opened → AreFound closing other opened
-removed_found number closing drain other opened is found =
-    found_more closing closing drain other opened (same_finds closing)
+pub removed_found : (number : ℕ) (closing : Closing) (drain other : List Retired) (shown : Shown) (opened : List OpenMember)
+    → other ≡ filter (λ row. not (is_numbered number row)) drain → AreFound closing drain shown opened → AreFound closing other shown opened
+removed_found number closing drain other shown opened is found =
+    found_more closing closing drain other shown opened (same_finds closing)
     (λ n h. left_expired number drain n (sym (ap (λ rows. is_expired rows n) is) ∙ h)) found
 
 -- a drain timeout comes
@@ -161,7 +183,7 @@ marked_expired name (row ∷ rows) n h =
     by true at false false h rest = absurd (false≢true h)
     by false at e d h rest = later (is_expired rows n) (d && not e) (rest h)
 
-own_open : (members : List OpenMember) → AllByRecursion (λ (m : OpenMember). is_open_at m.listener m.worker m.connection members ≡ true) members
+pub own_open : (members : List OpenMember) → AllByRecursion (λ (m : OpenMember). is_open_at m.listener m.worker m.connection members ≡ true) members
 own_open [] = tt
 own_open (m ∷ members) = (
   or_first (is_member m.worker m.connection m && (m.listener == m.listener)) (is_open_at m.listener m.worker m.connection members) (own m.worker m.connection m.listener),
@@ -172,19 +194,24 @@ own_open (m ∷ members) = (
     own : (a b d : ℕ) → (((a == a) && (b == b)) && (d == d)) ≡ true
     own a b d = grind (arith, nat_tests)
 
-pub timeout_found : (name : List ℕ) (before after : Closing) (drain : List Retired) (opened : List OpenMember) → FindsMore before after
+pub timeout_found : (name : List ℕ) (before after : Closing) (drain : List Retired) (shown : Shown) (opened : List OpenMember) → FindsMore before after
     → ((n : ℕ) → has_number n (numbers_waiting name drain) ≡ true → (worker connection : ℕ) → is_open_at n worker connection opened ≡ true → is_found after worker connection ≡ true)
-    → AreFound before drain opened → AreFound after (map (marked name) drain) opened
-timeout_found name before after drain opened more entered found =
+    → AreFound before drain shown opened → AreFound after (map (marked name) drain) shown opened
+timeout_found name before after drain shown opened more entered found =
     all_two (λ (m : OpenMember). is_open_at m.listener m.worker m.connection opened ≡ true)
-    (λ (m : OpenMember). is_expired drain m.listener ≡ true → is_found before m.worker m.connection ≡ true)
-    (λ (m : OpenMember). is_expired (map (marked name) drain) m.listener ≡ true → is_found after m.worker m.connection ≡ true)
-    (λ m here was is. by m here was (is_expired drain m.listener) refl (marked_expired name drain m.listener is)) opened (own_open opened) found
+    (λ (m : OpenMember). is_due drain shown m ≡ true → is_found before m.worker m.connection ≡ true)
+    (λ (m : OpenMember). is_due (map (marked name) drain) shown m ≡ true → is_found after m.worker m.connection ≡ true)
+    (λ m here was is. by m here was (is_expired (map (marked name) drain) m.listener) refl is) opened (own_open opened) found
   where
-    by : (m : OpenMember) → is_open_at m.listener m.worker m.connection opened ≡ true → (is_expired drain m.listener ≡ true → is_found before m.worker m.connection ≡ true)
+    waits : (m : OpenMember) → is_open_at m.listener m.worker m.connection opened ≡ true → (is_due drain shown m ≡ true → is_found before m.worker m.connection ≡ true)
         → (t : Bool) → is_expired drain m.listener ≡ t → (t || has_number m.listener (numbers_waiting name drain)) ≡ true → is_found after m.worker m.connection ≡ true
-    by m here was true is h = more.stays m.worker m.connection (was is)
-    by m here was false is h = entered m.listener h m.worker m.connection here
+    waits m here was true is h = more.stays m.worker m.connection (was (or_first (is_expired drain m.listener) (moves shown m) is))
+    waits m here was false is h = entered m.listener h m.worker m.connection here
+
+    by : (m : OpenMember) → is_open_at m.listener m.worker m.connection opened ≡ true → (is_due drain shown m ≡ true → is_found before m.worker m.connection ≡ true)
+        → (t : Bool) → is_expired (map (marked name) drain) m.listener ≡ t → (t || moves shown m) ≡ true → is_found after m.worker m.connection ≡ true
+    by m here was true is h = waits m here was (is_expired drain m.listener) refl (marked_expired name drain m.listener is)
+    by m here was false is h = more.stays m.worker m.connection (was (or_second (is_expired drain m.listener) (moves shown m) h))
 
 -- a place is entered, or leaves
 pub entered_here : (worker connection : ℕ) → is_at (key_order (worker, connection)) (worker, connection) ≡ true
@@ -220,29 +247,3 @@ one_more_entered places at d before after below more here was w n h =
     by : (t : Bool) → has_place w n (take at places) ≡ t → (t || (((place.0 == w) && (place.1 == n)) || false)) ≡ true → is_found after w n ≡ true
     by true is h = more.stays w n (was w n is)
     by false is h = own (place.0 == w) (place.1 == n) refl refl h
-
-none_leave : (t b : Bool) → b ≡ (not (t && false) && b)
-none_leave true b = refl
-none_leave false b = refl
-
-pub none_left : (worker : ℕ) (closing : Closing) → Leaves worker [] closing closing
-none_left worker closing w connection = none_leave (w == worker) (is_found closing w connection)
-
-turned : (a b : ℕ) → (a == b) ≡ (b == a)
-turned a b = grind (arith, nat_tests)
-
-pub one_left : (worker number : ℕ) (numbers : List ℕ) (before between after : Closing) → Leaves worker numbers before between
-    → ((w connection : ℕ) → is_found after w connection ≡ (not ((w == worker) && (connection == number)) && is_found between w connection))
-    → Leaves worker (numbers ++ number ∷ []) before after
-one_left worker number numbers before between after was is w connection =
-    is w connection ∙ ap (λ b. not ((w == worker) && (connection == number)) && b) (was w connection)
-    ∙ by (w == worker) (connection == number) (has_number connection numbers) (is_found before w connection)
-    ∙ ap (λ b. not ((w == worker) && (has_number connection numbers || (b || false))) && is_found before w connection) (turned connection number)
-    ∙ ap (λ b. not ((w == worker) && b) && is_found before w connection) (sym (list_any-append (λ n. n == connection) numbers (number ∷ [])))
-  where
-    by : (own is had here : Bool) → (not (own && is) && (not (own && had) && here)) ≡ (not (own && (had || (is || false))) && here)
-    by true true true here = refl
-    by true true false here = refl
-    by true false true here = refl
-    by true false false here = refl
-    by false is had here = refl

@@ -1,21 +1,17 @@
 -- What a closing connection is open on is asked about.
-use Rattle.std.proofs.Common.{◌≡◌, ℕ, ◌<◌, ◌+◌, Bool, true, false, not, ◌&&◌, ◌||◌, ◌==◌, cond, List, [], ◌∷◌, filter, Option, None, Some, find, length, take, get_or, refl, sym, ap, ◌∙◌, arith}
+use Rattle.std.proofs.Common.{◌≡◌, ℕ, Bool, true, false, not, ◌&&◌, ◌||◌, ◌==◌, cond, List, [], ◌∷◌, filter, None, Some, find, refl, sym, ap, ◌∙◌}
 use Rattle.std.specs.List.{list_any}
 use Rattle.std.specs.Option.{option_map}
 use Rattle.std.proofs.lemmas.Bool.{true≢false, false≢true, or_parts}
-use Rattle.std.proofs.lemmas.Bool.Decides.{nat_tests}
-use Rattle.std.proofs.lemmas.List.{take_more}
-use Rattle.std.proofs.lemmas.List.Folds.{list_any-append}
 use Rattle.ev_model.specs.World.{OpenMember}
-use Rattle.ev_model.specs.Picture.{has_number}
 use Rattle.ev_model.specs.Connections.{is_member, is_open}
 use Rattle.ev_model.specs.Dead.{is_forwarded_to, is_open_on}
-use Rattle.ev_ledger.specs.Members.{AreApart, on_in}
+use Rattle.ev_ledger.specs.Members.{AreApart, on_in, on_of}
+use Rattle.ev_ledger.specs.declared.open_on.On.{On}
 use Rattle.ev_drain.specs.Retired.{Retired, has_row}
 use Rattle.ev_retirement.specs.declared.asking.Asking.{Asking}
-use Rattle.ev_retirement.specs.Asking.{AreAskedOn, AsksMore, IsAskedOn, LetsGo, is_asked}
-use Rattle.ev_retirement.specs.Closing.{is_member_among}
-use Rattle.ev_retirement.proofs.MoreLemmas.{or_first, or_second, same_number}
+use Rattle.ev_retirement.specs.Asking.{AreAskedOn, AsksMore, LetsGo, is_asked}
+use Rattle.ev_retirement.proofs.MoreLemmas.{more_after, or_first, or_second, same_more, same_number}
 
 and_parts : (a b : Bool) → (a && b) ≡ true → (a ≡ true) × (b ≡ true)
 and_parts true b h = (refl, h)
@@ -42,7 +38,7 @@ module _ (worker connection : ℕ) (asking : Asking) (drain : List Retired) wher
   none_there [] none = refl
   none_there (m ∷ opened) none = by (is_member worker connection m) none (none_there opened)
     where
-      by : (t : Bool) → option_map {U = ℕ × Option ℕ} (λ (x : OpenMember). (x.listener, x.cluster)) (cond t (Some m) (find (is_member worker connection) opened)) ≡ None
+      by : (t : Bool) → option_map on_of (cond t (Some m) (find (is_member worker connection) opened)) ≡ None
           → (on_in worker connection opened ≡ None → is_open opened worker connection ≡ false) → (t || is_open opened worker connection) ≡ false
       by true none rest = absurd (cc none)
       by false none rest = rest none
@@ -50,20 +46,20 @@ module _ (worker connection : ℕ) (asking : Asking) (drain : List Retired) wher
   pub asked_none : (opened : List OpenMember) → on_in worker connection opened ≡ None → AreAskedOn (is_member worker connection) asking drain opened
   asked_none opened none = none_on opened (none_there opened none)
 
-  pub asked_found : (opened : List OpenMember) (on : ℕ × Option ℕ) → AreApart opened → on_in worker connection opened ≡ Some on
-      → ((number : ℕ) → ((on.0 == number) || is_forwarded_to number on.1) ≡ true → has_row drain number ≡ true → is_asked asking number ≡ true)
+  pub asked_found : (opened : List OpenMember) (on : On) → AreApart opened → on_in worker connection opened ≡ Some on
+      → ((number : ℕ) → ((on.listener == number) || is_forwarded_to number on.cluster) ≡ true → has_row drain number ≡ true → is_asked asking number ≡ true)
       → AreAskedOn (is_member worker connection) asking drain opened
   asked_found [] on apart found asked = tt
   asked_found (m ∷ opened) on apart found asked = by (is_member worker connection m) refl found (λ later. asked_found opened on apart.1 later asked)
     where
-      same_on : Some (m.listener, m.cluster) ≡ Some on → (m.listener, m.cluster) ≡ on
+      same_on : Some (on_of m) ≡ Some on → on_of m ≡ on
       same_on same = cc same
 
-      by : (t : Bool) → is_member worker connection m ≡ t → option_map {U = ℕ × Option ℕ} (λ (x : OpenMember). (x.listener, x.cluster)) (cond t (Some m) (find (is_member worker connection) opened)) ≡ Some on
+      by : (t : Bool) → is_member worker connection m ≡ t → option_map on_of (cond t (Some m) (find (is_member worker connection) opened)) ≡ Some on
           → (on_in worker connection opened ≡ Some on → AreAskedOn (is_member worker connection) asking drain opened) → AreAskedOn (is_member worker connection) asking drain (m ∷ opened)
       by true is found rest =
           let parts = and_parts (m.worker == worker) (m.connection == connection) is in (
-            λ own number open_on there. asked number (sym (ap (λ (o : ℕ × Option ℕ). (o.0 == number) || is_forwarded_to number o.1) (same_on found)) ∙ open_on) there,
+            λ own number open_on there. asked number (sym (ap (λ (o : On). (o.listener == number) || is_forwarded_to number o.cluster) (same_on found)) ∙ open_on) there,
             none_on opened
                 (ap (is_open opened worker) (sym (same_number m.connection connection parts.1))
                 ∙ ap (λ w. is_open opened w m.connection) (sym (same_number m.worker worker parts.0)) ∙ apart.0),
@@ -100,30 +96,28 @@ asked_go gone drain before after opened more all = record {
   held = λ number there on. asked_left gone drain after number there opened all on;
 }
 
--- the connections of one more number
-one_turned : (a b c : Bool) → (a && (b || (c || false))) ≡ true → (a && b) ≡ false → (a && c) ≡ true
-one_turned true true c h none = absurd (true≢false none)
-one_turned true false true h none = refl
-one_turned true false false h none = h
-one_turned false b c h none = h
+-- nothing is let go, or more and more, or something opens then
+pub same_go : (drain : List Retired) (asking : Asking) (opened : List OpenMember) → LetsGo drain asking asking opened opened
+same_go drain asking opened = record {
+  more = same_more asking;
+  held = λ number there on. or_second (is_asked asking number) (list_any (is_open_on number) opened) on;
+}
 
-turned : (a b : ℕ) → (a == b) ≡ (b == a)
-turned a b = grind (arith, nat_tests)
-
-pub one_more_on : (worker : ℕ) (numbers : List ℕ) (place : ℕ) (before after : Asking) (drain : List Retired) (opened : List OpenMember) → place < length numbers
-    → AsksMore before after → AreAskedOn (is_member_among worker (take place numbers)) before drain opened → AreAskedOn (is_member worker (get_or numbers place 0)) after drain opened
-    → AreAskedOn (is_member_among worker (take (place + 1) numbers)) after drain opened
-one_more_on worker numbers place before after drain [] below more all here = tt
-one_more_on worker numbers place before after drain (m ∷ opened) below more all here = (
-  λ passes. by (is_member_among worker (take place numbers) m) refl passes,
-  one_more_on worker numbers place before after drain opened below more all.1 here.1,
-)
+pub go_after : (drain : List Retired) (first second third : Asking) (opened between left : List OpenMember) → LetsGo drain first second opened between
+    → LetsGo drain second third between left → LetsGo drain first third opened left
+go_after drain first second third opened between left go again = record {
+  more = more_after first second third go.more again.more;
+  held = λ number there on. by number there (is_asked second number) refl (go.held number there on);
+}
   where
-    by : (t : Bool) → is_member_among worker (take place numbers) m ≡ t → is_member_among worker (take (place + 1) numbers) m ≡ true → IsAskedOn after drain m
-    by true is passes = λ n on there. more.asked n (all.0 is n on there)
-    by false is passes =
-        let number : ℕ = get_or numbers place 0 in
-        here.0 (ap (λ b. (m.worker == worker) && b) (turned m.connection number)
-        ∙ one_turned (m.worker == worker) (has_number m.connection (take place numbers)) (number == m.connection)
-        (ap (λ b. (m.worker == worker) && b) (sym (list_any-append (λ n. n == m.connection) (take place numbers) (number ∷ [])))
-        ∙ ap (λ ns. is_member_among worker ns m) (sym (take_more numbers place 0 below)) ∙ passes) is)
+    by : (number : ℕ) → has_row drain number ≡ true → (t : Bool) → is_asked second number ≡ t → (t || list_any (is_open_on number) between) ≡ true
+        → (is_asked third number || list_any (is_open_on number) left) ≡ true
+    by number there true is h = or_first (is_asked third number) (list_any (is_open_on number) left) (again.more.asked number is)
+    by number there false is h = again.held number there h
+
+pub kept_go : (drain : List Retired) (asking : Asking) (opened left : List OpenMember)
+    → ((number : ℕ) → list_any (is_open_on number) opened ≡ true → list_any (is_open_on number) left ≡ true) → LetsGo drain asking asking opened left
+kept_go drain asking opened left kept = record {
+  more = same_more asking;
+  held = λ number there on. or_second (is_asked asking number) (list_any (is_open_on number) left) (kept number on);
+}

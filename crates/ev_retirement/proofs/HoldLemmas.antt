@@ -1,4 +1,4 @@
--- Holders and the world that they stand for.
+-- Holders and the world that they represent.
 use Rattle.std.proofs.Common.{◌≡◌, ℕ, Bool, true, false, not, ◌&&◌, ◌||◌, ◌==◌, cond, Result, Ok, Err, OnOk, Some, List, [], ◌∷◌, ◌++◌, filter, map, length, refl, sym, ap, ◌∙◌, subst, arith}
 use Rattle.std.specs.List.{list_any, find, AllByRecursion}
 use Rattle.std.specs.Option.{is_some, option_map}
@@ -19,7 +19,7 @@ use Rattle.ev_model.specs.Dead.{shown_at}
 use Rattle.ev_model.specs.Publishing.{publish}
 use Rattle.ev_model.specs.Signals.{drain_timeout, expire, is_draining, is_unexpired, unexpired}
 use Rattle.ev_model.specs.Tidy.{tidy}
-use Rattle.ev_pictures.specs.Pictures.{HasPictures, PicturesParts}
+use Rattle.ev_retirement.specs.Pictures.{HasPictures, PicturesParts}
 use Rattle.ev_ledger.proofs.OrderLemmas.{any_sorted, any_put}
 use Rattle.ev_drain.specs.Retired.{Retired, row_before, has_row, is_numbered, is_retired, kind_of_row, marked, retired_in, retired_status, HasRetired}
 use Rattle.ev_retirement.specs.Holders.{HoldersParts, HoldsFor, timed_out, timeout_answer, with_expired, with_retired, without_generation}

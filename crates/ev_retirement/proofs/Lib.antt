@@ -1,3 +1,5 @@
+pub mod WorldLemmas
+pub mod UseLemmas
 pub mod DeadLemmas
 pub mod GoLemmas
 pub mod MoreLemmas
@@ -9,3 +11,5 @@ pub mod ReapLemmas
 pub mod RetireLemmas
 pub mod FoundLemmas
 pub mod SettleLemmas
+pub mod TouchLemmas
+pub mod MoveLemmas

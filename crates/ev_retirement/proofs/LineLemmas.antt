@@ -18,7 +18,7 @@ use Rattle.ev_model.specs.Connections.{accept, accepted, close, closed, cluster_
 use Rattle.ev_model.specs.declared.pictures.Picture.{Picture}
 use Rattle.ev_model.specs.declared.pictures.ServedCluster.{ServedCluster}
 use Rattle.ev_model.specs.declared.pictures.Choice.{Choice}
-use Rattle.ev_model.specs.declared.pictures.Choice.TheVariants.{NoListener, NoChain, Undecided, Elsewhere, NoRoute, Local, Redirect, NoCluster, NoEndpoint, Served}
+use Rattle.ev_model.specs.declared.pictures.Choice.TheVariants.{NoListener, NoChain, On}
 use Rattle.ev_snapshot.specs.Chosen.{host_of, placed_host}
 use Rattle.ev_ledger.specs.Members.{HasOpened, in_order, member_before}
 use Rattle.ev_ledger.proofs.OrderLemmas.{any_put}
@@ -45,14 +45,7 @@ chosen_opens : (worker connection : ℕ) (choice : Choice) (opened : List OpenMe
     → opened ++ members_of worker connection choice ≡ opened_on worker connection (chosen_on choice) opened
 chosen_opens worker connection NoListener opened none = append-nil opened
 chosen_opens worker connection NoChain opened none = append-nil opened
-chosen_opens worker connection (Undecided listener) opened none = simp none refl
-chosen_opens worker connection (Elsewhere listener cluster) opened none = simp none refl
-chosen_opens worker connection (NoRoute listener) opened none = simp none refl
-chosen_opens worker connection (Local listener status) opened none = simp none refl
-chosen_opens worker connection (Redirect listener) opened none = simp none refl
-chosen_opens worker connection (NoCluster listener) opened none = simp none refl
-chosen_opens worker connection (NoEndpoint listener) opened none = simp none refl
-chosen_opens worker connection (Served listener cluster place) opened none = simp none refl
+chosen_opens worker connection (On listener chain origin course) opened none = simp none refl
 
 accept_opens : (picture : Picture) (ask : Ask) (worker : ℕ) (opened : List OpenMember)
     → (accepted picture ask worker opened).opened ≡ opened_on worker ask.conn (on_of (accepted_as picture ask (is_open opened worker ask.conn))) opened

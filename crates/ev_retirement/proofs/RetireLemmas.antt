@@ -13,9 +13,9 @@ use Rattle.ev_model.specs.Sorted.{put_by, sorted_by}
 use Rattle.ev_model.specs.Picture.{has_number}
 use Rattle.ev_model.specs.World.{World, OpenMember}
 use Rattle.ev_model.specs.declared.pictures.Shown.{Shown}
-use Rattle.ev_pictures.specs.Pictures.{HasPictures}
+use Rattle.ev_retirement.specs.Pictures.{HasPictures}
 use Rattle.ev_ledger.specs.Members.{HasOpened}
-use Rattle.ev_generations.specs.Tables.{row_in}
+use Rattle.ev_indexes.specs.Tables.{row_in}
 use Rattle.ev_drain.specs.Retired.{Retired, row_before, has_row, is_numbered, is_retired, newly_retired, retired_in, retired_of, retired_status, HasRetired}
 use Rattle.ev_retirement.specs.Holders.{HoldersParts, AreNumbered, HoldsFor}
 use Rattle.ev_retirement.specs.Retiring.{AreInOrder, is_dropped, has_ceased, noted, noted_where, noted_all, CeasedBetween, HoldTheSame}

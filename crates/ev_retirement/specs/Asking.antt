@@ -1,16 +1,18 @@
--- Which generations a reaping asks about. A generation that no longer serves is asked about when it ceases to serve, when its drain
--- timeout comes, when a connection on it closes, and when a picture is let go under which it was set aside. This project's own.
-use Rattle.std.specs.Prelude.{◌≡◌, ℕ, Bool, true, false, not, ◌&&◌, ◌||◌, ◌==◌, nat_eq, List, Option, None, Some, slice_get}
+-- Which generations a reaping asks about. A generation that no longer serves is asked about when it ceases to serve,
+-- when its drain timeout comes, when a connection on it closes, and when a picture is let go under which it was set
+-- aside. This project's own.
+use Rattle.std.specs.Prelude.{◌≡◌, ℕ, Bool, true, false, not, ◌&&◌, ◌||◌, ◌==◌, List, Some, slice_get}
 use Rattle.std.specs.List.{list_any, AllByRecursion}
 use Rattle.std.specs.Ordering.{nat_cmp}
-use Rattle.std.specs.BTreeSet.{BTreeSet, contains}
+use Rattle.std.specs.BTreeSet.{contains}
 use Rattle.ev_retirement.specs.Aside.{is_under}
 use Rattle.ev_types.specs.declared.journals.Format.TheVariants.{Two}
 use Rattle.ev_model.specs.declared.pictures.Picture.{Picture}
 use Rattle.ev_model.specs.World.{OpenMember}
 use Rattle.ev_model.specs.Picture.{has_number}
 use Rattle.ev_model.specs.Dead.{is_forwarded_to, is_open_on}
-use Rattle.ev_pictures.specs.Pictures.{PicturesParts, in_use, is_shown_by, is_shown_in}
+use Rattle.ev_retirement.specs.Pictures.{PicturesParts, in_use, is_shown_by, is_shown_in}
+use Rattle.ev_ledger.specs.declared.open_on.On.{On}
 use Rattle.ev_drain.specs.Retired.{Retired, dead_of, has_row, is_dead_in, is_dead_row}
 use Rattle.ev_retirement.specs.declared.asking.Asking.{Asking}
 use Rattle.ev_retirement.specs.Holders.{HoldersParts}
@@ -62,9 +64,9 @@ IsKeptAside number asking pictures opened =
     list_any (is_open_on number) opened ≡ false → is_shown_by number pictures ≡ true → is_set_aside asking pictures number ≡ true
 
 -- a listener and a cluster that were retired are to be asked about
-abbrev pub AreBothAsked : Asking → List Retired → ℕ × Option ℕ → Type 0
+abbrev pub AreBothAsked : Asking → List Retired → On → Type 0
 AreBothAsked asking drain on =
-    (number : ℕ) → ((on.0 == number) || is_forwarded_to number on.1) ≡ true → has_row drain number ≡ true → is_asked asking number ≡ true
+    (number : ℕ) → ((on.listener == number) || is_forwarded_to number on.cluster) ≡ true → has_row drain number ≡ true → is_asked asking number ≡ true
 
 -- the retired generations that a connection is open on are to be asked about
 abbrev pub IsAskedOn : Asking → List Retired → OpenMember → Type 0

@@ -8,7 +8,7 @@ use Rattle.ev_model.specs.World.{World, OpenMember}
 use Rattle.ev_model.specs.Picture.{has_number}
 use Rattle.ev_model.specs.Signals.{unexpired}
 use Rattle.ev_model.specs.Tidy.{tidy}
-use Rattle.ev_pictures.specs.Pictures.{HasPictures, PicturesParts}
+use Rattle.ev_retirement.specs.Pictures.{HasPictures, PicturesParts}
 use Rattle.ev_ledger.specs.Members.{HasOpened}
 use Rattle.ev_drain.specs.Retired.{Retired, has_row, retired_status, HasRetired}
 
@@ -18,8 +18,8 @@ pub record HoldersParts : Type 0 where
   pub ledger : List OpenMember
   pub drain : List Retired
 
--- They are those of the world: the pictures, the open connections, and the rows that no longer serve, with their marks; and no
--- other row is marked.
+-- They are those of the world: the pictures, the open connections, and the rows that no longer serve, with their
+-- marks; and no other row is marked.
 pub record HoldsFor (holders : HoldersParts) (world : World) : Type 0 where
   pub pictures : HasPictures holders.pictures world
   pub opened : HasOpened holders.ledger world.opened

@@ -1,3 +1,4 @@
+pub mod Pictures
 pub mod Aside
 pub mod Asking
 pub mod Closing

@@ -5,29 +5,31 @@ use Rattle.ev_types.specs.declared.events.Ask.{Ask}
 use Rattle.ev_types.specs.declared.events.Event.{Event}
 use Rattle.ev_types.specs.declared.events.Event.TheVariants.{Accept, Close}
 use Rattle.ev_model.specs.World.{World, OpenMember}
-use Rattle.ev_model.specs.Connections.{closed, is_open, member_on}
+use Rattle.ev_model.specs.Connections.{closed, is_open}
 use Rattle.ev_model.specs.Dead.{is_open_on, picture_held}
-use Rattle.ev_ledger.specs.Members.{HasOpened}
-use Rattle.ev_pictures.specs.Pictures.{HasPictures, PicturesParts}
+use Rattle.ev_ledger.specs.Members.{HasOpened, member_on}
+use Rattle.ev_ledger.specs.declared.open_on.On.{On}
+use Rattle.ev_retirement.specs.Pictures.{HasPictures, PicturesParts}
 use Rattle.ev_worker.specs.Batches.{accepted_as}
 use Rattle.ev_worker.specs.Members.{on_of}
 use Rattle.ev_worker.specs.declared.lines.Outcome.{Outcome}
 use Rattle.ev_worker.specs.declared.lines.Outcome.TheVariants.{Accepted as accepted, Closed as was_closed}
 use Rattle.ev_worker.specs.declared.lines.BatchLine.{BatchLine}
 
--- the connections with one more on a listener and, where it is forwarded, on a cluster; where one of this number is open, or there
--- is no listener, they stay as they are
-abbrev pub opened_on : ℕ → ℕ → Option (ℕ × Option ℕ) → List OpenMember → List OpenMember
+-- the connections with one more on a listener and, where it is forwarded, on a cluster; where one of this number is
+-- open, or there is no listener, they stay as they are
+abbrev pub opened_on : ℕ → ℕ → Option On → List OpenMember → List OpenMember
 opened_on worker connection None opened = opened
 opened_on worker connection (Some on) opened =
-    if is_open opened worker connection then opened else opened ++ member_on worker connection on.0 on.1 ∷ []
+    if is_open opened worker connection then opened else opened ++ member_on worker connection on ∷ []
 
 -- what an accept opens, by how it was answered
 abbrev pub accept_leaves : ℕ → ℕ → Outcome → List OpenMember → List OpenMember
 accept_leaves worker connection (accepted outcome) opened = opened_on worker connection (on_of outcome) opened
 accept_leaves worker connection (was_closed outcome) opened = opened
 
--- at whatever world these pictures and this ledger stand for, the worker's accept is answered so, by the picture that it holds there
+-- at whatever world these pictures and this ledger represent, the worker's accept is answered so, by the picture that
+-- it holds there
 abbrev pub IsAccepted : PicturesParts → List OpenMember → ℕ → Ask → Outcome → Type 0
 IsAccepted pictures ledger worker ask outcome = (world : World) → HasPictures pictures world → HasOpened ledger world.opened
     → outcome ≡ accepted (accepted_as (picture_held world worker) ask (is_open world.opened worker ask.conn))

@@ -7,7 +7,7 @@ use Rattle.ev_types.specs.declared.rows.RowStatus.{RowStatus}
 use Rattle.ev_types.specs.declared.rows.RowStatus.TheVariants.{Warming, Active, Draining, Dropped}
 use Rattle.ev_model.specs.Sorted.{put_by}
 use Rattle.ev_model.specs.Picture.{has_number}
-use Rattle.ev_generations.specs.Tables.{row_in}
+use Rattle.ev_indexes.specs.Tables.{row_in}
 use Rattle.ev_drain.specs.Retired.{Retired, has_row, retired_in, row_before}
 use Rattle.ev_model.specs.World.{World}
 use Rattle.ev_retirement.specs.Holders.{HoldersParts, AreNumbered, HoldsFor}
@@ -43,7 +43,8 @@ abbrev pub noted_all : List GenRow → List ℕ → List Retired → List Retire
 noted_all rows [] drain = drain
 noted_all rows (number ∷ numbers) drain = noted_all rows numbers (noted_where drain (row_in number rows))
 
--- exactly the generations of these numbers ceased to be live between the rows, and one that was over before is as it was
+-- exactly the generations of these numbers ceased to be live between the rows, and one that was over before is as it
+-- was
 pub record CeasedBetween (numbers : List ℕ) (before after : List GenRow) : Type 0 where
   pub told : (number : ℕ) → has_number number numbers ≡ (has_ceased (row_in number after) && not (has_ceased (row_in number before)))
   pub stays : (number : ℕ) (row : GenRow) → row_in number before ≡ Some row → is_live row.status ≡ false → row_in number after ≡ Some row
@@ -55,8 +56,8 @@ pub record HoldTheSame (before after : World) : Type 0 where
   pub opened : after.opened ≡ before.opened
   pub expired : after.expired ≡ before.expired
 
--- Where exactly the generations of these numbers ceased to be live between two worlds, which hold the same, what holds generations
--- stands for the second one once these are noted.
+-- Where exactly the generations of these numbers ceased to be live between two worlds, which hold the same, what
+-- holds generations represents the second one once these are noted.
 abbrev pub RetirementsStand : Type 0
 RetirementsStand = (holders : HoldersParts) (numbers : List ℕ) (before after : World)
     → HoldsFor holders before → AreNumbered before.rows → AreNumbered after.rows → HoldTheSame before after → CeasedBetween numbers before.rows after.rows

@@ -47,8 +47,8 @@ impl Asking {
         Ok(())
     }
 
-    /// The generations that are set aside under the picture of this version are no longer, and are to be asked about. Out of memory,
-    /// all stay set aside, and some are to be asked about too.
+    /// The generations that are set aside under the picture of this version are no longer, and are to be asked about.
+    /// Out of memory, all stay set aside, and some are to be asked about too.
     pub(crate) fn recall(&mut self, alloc: Global, version: u64) -> Result<(), AllocError>
         ensures none { OnOk result ((number : ℕ) → is_aside self.new version number ≡ false) }
         ensures more { AsksMore self.old self.new }

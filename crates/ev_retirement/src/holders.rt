@@ -12,21 +12,21 @@ ghost use Rattle.ev_retirement.specs.Retiring.{noted};
 ghost use Rattle.ev_retirement.specs.Holders.{HoldsFor, with_expired, without_generation, without_generations};
 ghost use Rattle.ev_retirement.specs.Worlds.{AnswersPublication, AnswersTimeout, IsAnswerOf, LeavesTimeout, Publishes, Reaps, Retires, StandsAfter};
 
+use crate::Pictures;
 use crate::asking::Asking;
-use crate::closing::{Closing, enter_on_each};
+use crate::closing::{Closing, enter_on_each, enter_touched};
 use crate::retiring::is_dropped;
 use ev_drain::Drain;
 use ev_keys::Keys;
 use ev_ledger::Ledger;
-use ev_pictures::Pictures;
 use ev_snapshot::{Changes, Snapshot};
 use ev_types::{Format, Gen, GenRow, Name};
 use std::alloc::{AllocError, Global};
 use std::marker::Model;
 use std::sync::Arc;
 
-/// What holds generations: the pictures that workers serve from, their open connections, and the generations that drain or were
-/// dropped, until nothing holds them any more.
+/// What holds generations: the pictures that workers serve from, their open connections, and the generations that
+/// drain or were dropped, until nothing holds them any more.
 #[derive(Drop)]
 pub struct Holders {
     pub(crate) pictures: Pictures,
@@ -34,7 +34,7 @@ pub struct Holders {
     pub(crate) drain: Drain,
     // Each generation that nothing holds is among those to be asked about.
     pub(crate) asking: Asking,
-    // Each connection that the next settle of its worker closes is among those that it looks at.
+    // Each connection that the next settle of its worker closes or moves is among those that it looks at.
     pub(crate) closing: Closing,
 }
 
@@ -50,8 +50,8 @@ impl Model for Holders {
 }
 
 impl Holders {
-    /// Nothing was published, no connection is open, and no generation drains; each of this many workers holds the empty picture.
-    /// Names and addresses hash by these keys.
+    /// Nothing was published, no connection is open, and no generation drains; each of this many workers holds the
+    /// empty picture. Names and addresses hash by these keys.
     pub fn new(alloc: Global, keys: Keys, workers: u32) -> Result<Holders, AllocError>
         ensures world { IfOk result (λ holders. (node : List ℕ) → HoldsFor holders (opening workers node)) }
     {
@@ -65,9 +65,9 @@ impl Holders {
         })
     }
 
-    /// Publishes what the last picture shows after these changes, under the next version, which it answers; where that is what the
-    /// last picture shows, nothing is published, and there is no version. It costs what changes. Out of memory, all stays as it
-    /// was; so where versions are used up.
+    /// Publishes what the last picture shows after these changes, under the next version, which it returns; where
+    /// that is what the last picture shows, nothing is published, and there is no version. It costs what changes. Out
+    /// of memory, all stays as it was; so where versions are used up.
     pub fn publish(&mut self, alloc: Global, changes: &Changes) -> Result<Option<u64>, AllocError>
         ensures ordered { OnOk result (IsOrdered self.old.pictures.last.shown) }
         ensures answer { IfOk result (AnswersPublication changes.now self.old) }
@@ -78,12 +78,29 @@ impl Holders {
         let Ok(_) = self.asking.recall(alloc, self.pictures.version()) else {
             return Err(AllocError);
         };
-        self.pictures.publish(alloc, changes)
+        let Ok(next) = self.pictures.next(alloc, changes) else {
+            return Err(AllocError);
+        };
+        let Some(next) = next else {
+            return Ok(None);
+        };
+        let last = self.pictures.last();
+        let Ok(_) = enter_touched(
+            alloc,
+            &mut self.closing,
+            &self.ledger,
+            last,
+            &*next,
+            changes,
+        ) else {
+            return Err(AllocError);
+        };
+        Ok(Some(self.pictures.publish(changes, next)))
     }
 
-    /// The drain timeout of a listener's old generations: it came for those of this name that drain. It answers whether there
-    /// was one for which it hadn't come; where there was none, the machine ignores it, and otherwise the world is to be tidied. Out
-    /// of memory, all stays as it was.
+    /// The drain timeout of a listener's old generations: it came for those of this name that drain. It answers
+    /// whether there was one for which it hadn't come; where there was none, the machine ignores it, and otherwise
+    /// the world is to be tidied. Out of memory, all stays as it was.
     pub fn drain_timeout(&mut self, alloc: Global, name: &Name) -> Result<bool, AllocError>
         ensures answer { IfOk result (AnswersTimeout name.now self.old) }
         ensures machine { IfOk result (LeavesTimeout name.now self.old) }
@@ -100,7 +117,8 @@ impl Holders {
         Ok(self.drain.expire(name))
     }
 
-    /// Notes a generation that drains or was dropped; one that was noted before stays as it is. Out of memory, all stays as it was.
+    /// Notes a generation that drains or was dropped; one that was noted before stays as it is. Out of memory, all
+    /// stays as it was.
     #[tactic(auto, using(crate::proofs::RetireLemmas::noted_same))]
     pub fn note(&mut self, alloc: Global, row: &GenRow) -> Result<(), AllocError>
         requires over { is_live row.now.status ≡ false }
@@ -118,9 +136,10 @@ impl Holders {
             .retire(alloc, row.kind, row.number, &row.name, dropped)
     }
 
-    /// The numbers of the generations that nothing holds any more, from the least, by a journal's format. By the rules of format 2 it
-    /// asks only about those that were retired since the last time, or of whose holders one let go since then; by those of format 1
-    /// it asks about all that drain. It goes through no picture and no connection.
+    /// The numbers of the generations that nothing holds any more, from the least, by a journal's format. By the
+    /// rules of format 2 it asks only about those that were retired since the last time, or of whose holders one let
+    /// go since then; by those of format 1 it asks about all that drain. It goes through no picture and no
+    /// connection.
     pub fn dead(&mut self, alloc: Global, format: Format) -> Result<Vec<Gen>, AllocError>
         ensures world { IfOk result (λ dead. IsAnswerOf (dead_numbers format) self.old dead.items) }
         ensures same { self.new ≡ self.old }
@@ -180,7 +199,8 @@ impl Holders {
         self.ledger.count(number)
     }
 
-    /// The last snapshot, for a worker that begins. It takes no memory; it is refused where 2^63 - 1 owners hold it already.
+    /// The last snapshot, for a worker that begins. It takes no memory; it is refused where 2^63 - 1 owners hold it
+    /// already.
     pub fn snapshot(&self) -> Result<Arc<Snapshot>, AllocError>
         ensures last { IfOk result (λ snapshot. arc_value snapshot ≡ self.now.pictures.last) }
     {

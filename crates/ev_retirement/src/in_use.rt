@@ -1,7 +1,7 @@
 ghost use Rattle.std.specs.Prelude.{◌≡◌};
 
+use crate::Pictures;
 use ev_drain::Shows;
-use ev_pictures::Pictures;
 use ev_types::Gen;
 
 /// What the pictures in use show, for the drain.
@@ -11,7 +11,7 @@ pub(crate) struct InUse<'a> {
 }
 
 impl<'a> Shows for InUse<'a> {
-    ghost use Rattle.ev_pictures.specs.Pictures.{is_shown_by};
+    ghost use Rattle.ev_retirement.specs.Pictures.{is_shown_by};
 
     ghost has = { λ shown number. is_shown_by number shown.pictures.now };
 

@@ -4,17 +4,16 @@ ghost use Rattle.ev_model.specs.Publishing.{dead_numbers};
 ghost use Rattle.ev_retirement.specs.Asking.{AsksMore, IsKeptAside, is_dead_now, numbers_dead};
 ghost use Rattle.ev_retirement.specs.Worlds.{IsAnswerOf};
 
-use crate::Holders;
 use crate::asking::Asking;
 use crate::in_use::InUse;
+use crate::{Holders, Pictures};
 use ev_ledger::Ledger;
-use ev_pictures::Pictures;
 use ev_types::{Format, Gen};
 use std::alloc::{AllocError, Global};
 
 impl Holders {
-    /// The numbers of the generations that nothing holds any more, from the least, by the rules of format 1. It asks about all that
-    /// drain.
+    /// The numbers of the generations that nothing holds any more, from the least, by the rules of format 1. It asks
+    /// about all that drain.
     pub(crate) fn dead_of_all(&self, alloc: Global) -> Result<Vec<Gen>, AllocError>
         ensures world { IfOk result (λ dead. IsAnswerOf (dead_numbers One) self.now dead.items) }
     {
@@ -24,8 +23,8 @@ impl Holders {
         self.drain.dead(alloc, Format::One, &self.ledger, &shown)
     }
 
-    /// The numbers of the generations that nothing holds any more, from the least, by the rules of format 2. It asks only about those
-    /// that are to be asked about; each other one of them is set aside under what holds it.
+    /// The numbers of the generations that nothing holds any more, from the least, by the rules of format 2. It asks
+    /// only about those that are to be asked about; each other one of them is set aside under what holds it.
     pub(crate) fn dead_asked(&mut self, alloc: Global) -> Result<Vec<Gen>, AllocError>
         ensures dead { IfOk result (λ dead. dead.items ≡ numbers_dead self.old) }
         ensures same { self.new ≡ self.old }
@@ -39,8 +38,8 @@ impl Holders {
         Ok(dead)
     }
 
-    // Whether a generation was retired and nothing holds it any more. Else it is no longer to be asked about, and is set aside under
-    // what holds it. Out of memory, it is still to be asked about.
+    // Whether a generation was retired and nothing holds it any more. Else it is no longer to be asked about, and is
+    // set aside under what holds it. Out of memory, it is still to be asked about.
     fn ask(&mut self, alloc: Global, number: Gen) -> Result<bool, AllocError>
         ensures dead { IfOk result (λ dead. dead ≡ is_dead_now self.old number) }
         ensures same { self.new ≡ self.old }
@@ -66,8 +65,8 @@ impl Holders {
     }
 }
 
-// Sets a generation aside under the version of a picture in use that shows it, unless a connection is open on it or there is none.
-// Out of memory, all stays as it was.
+// Sets a generation aside under the version of a picture in use that shows it, unless a connection is open on it or
+// there is none. Out of memory, all stays as it was.
 fn set_aside(
     alloc: Global,
     asking: &mut Asking,

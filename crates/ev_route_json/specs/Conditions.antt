@@ -321,7 +321,8 @@ path_specifier_broken tree = record none_broken {
 unfoldable pub route_match_of : Data → RouteMatch
 route_match_of tree = record { path = path_specifier_of tree; conditions = conditions_of tree }
 
--- what a match breaks: what its path and its conditions break. One that is missing has no kind of path, so it breaks V21.
+-- what a match breaks: what its path and its conditions break.
+-- One that is missing has no kind of path, so it breaks V21.
 unfoldable pub route_match_broken : Data → BrokenRules
 route_match_broken tree = either_broken (path_specifier_broken tree) (conditions_broken tree)
 

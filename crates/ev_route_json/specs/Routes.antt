@@ -1,5 +1,5 @@
--- Routes of a virtual host (`envoy.config.route.v3.Route`): a match and an action, by this project's own rules and as Envoy reads
--- them.
+-- Routes of a virtual host (`envoy.config.route.v3.Route`):
+-- a match and an action, by this project's own rules and as Envoy reads them.
 use Rattle.std.specs.Prelude.{ℕ, ◌||◌, ◌&&◌, List, [], ◌∷◌, Bool, not, nat_le, if◌then◌else◌, codes}
 use Rattle.serde_json.specs.Data.{Data}
 use Rattle.ev_types.specs.declared.events.Profile.{Profile}

@@ -1,5 +1,5 @@
--- Where requests go, by this project's own rules and as Envoy reads it: `cluster` or `weighted_clusters`, as a route action
--- (`envoy.config.route.v3.RouteAction`) and a TCP proxy
+-- Where requests go, by this project's own rules and as Envoy reads it:
+-- `cluster` or `weighted_clusters`, as a route action (`envoy.config.route.v3.RouteAction`) and a TCP proxy
 -- (`envoy.extensions.filters.network.tcp_proxy.v3.TcpProxy`) have them.
 use Rattle.std.specs.Prelude.{ℕ, ◌||◌, ◌&&◌, ◌==◌, List, [], ◌∷◌, length, map, Bool, false, not, nat_le, if◌then◌else◌, Result, codes}
 use Rattle.std.specs.List.{list_any}
@@ -125,8 +125,8 @@ specifiers_given tree =
     ∷ is_given (object_of (codes "inline_cluster_specifier_plugin") tree)
     ∷ []
 
--- What a route's target breaks. V22: not exactly one specifier. V23: `cluster` is empty. V24: weights are given that no pick can be
--- taken of.
+-- What a route's target breaks. V22: not exactly one specifier. V23: `cluster` is empty. V24:
+-- weights are given that no pick can be taken of.
 unfoldable pub envoy_target_broken : Data → BrokenRules
 envoy_target_broken tree = either_broken (any_broken envoy_entry_broken (entries_of tree)) (record none_broken {
   v6 =

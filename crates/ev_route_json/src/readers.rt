@@ -17,7 +17,7 @@ use std::alloc::Global;
 /// judged, but by its form.
 ///
 /// # Errors
-/// `Rule` with the least rule that it breaks, of V6 and V19 to V24, and `OutOfMemory`.
+/// `Rule` with the lowest-numbered rule that it breaks, of V6 and V19 to V24, and `OutOfMemory`.
 pub fn read_routes(alloc: Global, profile: Profile, value: &Value) -> Result<RouteTable, ReadError>
     ensures { ReadsAs result (table_reading profile (view value.now)) }
 {
@@ -31,7 +31,7 @@ pub fn read_routes(alloc: Global, profile: Profile, value: &Value) -> Result<Rou
 /// Where a route action sends requests to.
 ///
 /// # Errors
-/// `Rule` with the least rule that it breaks, of V6 and V22 to V24, and `OutOfMemory`.
+/// `Rule` with the lowest-numbered rule that it breaks, of V6 and V22 to V24, and `OutOfMemory`.
 pub fn read_target(alloc: Global, profile: Profile, value: &Value) -> Result<Target, ReadError>
     ensures { ReadsAs result (target_reading profile (view value.now)) }
 {

@@ -30,12 +30,12 @@ use Rattle.ev_commits.specs.Seen.{IsSound, began_as, journal_with}
 use Rattle.ev_commits.specs.declared.kept.Began.{Began}
 use Rattle.ev_commits.specs.declared.kept.Kept.{Kept}
 use Rattle.ev_commits.proofs.TurnLemmas.{turned}
-use Rattle.ev_fits.specs.Left.{AreOwn, deeds_in}
-use Rattle.ev_fits.specs.Acting.{HasEnded}
+use Rattle.ev_run.specs.Left.{AreOwn, deeds_in}
+use Rattle.ev_run.specs.Acting.{HasEnded}
 use Rattle.ev_run.specs.Playing.{EachAt, HasRun, IsGateFor, IsOverAt}
-use Rattle.ev_fits.proofs.FitLemmas.{deeds_stay, not_same, own_deeds}
-use Rattle.ev_fits.proofs.NewsLemmas.{news_stays}
-use Rattle.ev_fits.proofs.OwnLemmas.{all_own}
+use Rattle.ev_run.proofs.FitLemmas.{deeds_stay, not_same, own_deeds}
+use Rattle.ev_run.proofs.NewsLemmas.{news_stays}
+use Rattle.ev_run.proofs.OwnLemmas.{all_own}
 
 no_more : {X : Type 0} (xs ys : List X) → xs ++ ys ≡ xs → ys ≡ []
 no_more xs [] is = refl

@@ -1,3 +1,9 @@
+pub mod FitLemmas
+pub mod ActLemmas
+pub mod NewsLemmas
+pub mod WorkLemmas
+pub mod OwnLemmas
+pub mod BeginLemmas
 pub mod CloseLemmas
 pub mod PlaceLemmas
 pub mod WorkerLemmas

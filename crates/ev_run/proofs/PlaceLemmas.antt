@@ -6,7 +6,7 @@ use Rattle.ev_model.specs.Dead.{last_picture}
 use Rattle.ev_worker.specs.Workers.{WorkerParts}
 use Rattle.ev_actors.specs.Journals.{JournalParts, nothing_done, world_now}
 use Rattle.ev_actors.specs.Taken.{HasBegun}
-use Rattle.ev_fits.proofs.BeginLemmas.{next_of}
+use Rattle.ev_run.proofs.BeginLemmas.{next_of}
 use Rattle.ev_run.specs.Playing.{EachAt, IsTask}
 use Rattle.ev_run.specs.declared.player.Task.TheVariants.{Worker}
 

@@ -15,8 +15,8 @@ use Rattle.ev_actors.specs.Taken.{HasJoined}
 use Rattle.ev_actors.specs.Working.{operations_made}
 use Rattle.ev_actors.proofs.LineLemmas.{settle_is, worker_settles}
 use Rattle.ev_commits.specs.Seen.{HasCommitted, IsLeftOut, LearnsAtRest}
-use Rattle.ev_fits.specs.Acting.{GoesThrough, settle_of}
-use Rattle.ev_fits.proofs.WorkLemmas.{commits, joins, leaves_out}
+use Rattle.ev_run.specs.Acting.{GoesThrough, settle_of}
+use Rattle.ev_run.proofs.WorkLemmas.{commits, joins, leaves_out}
 
 -- a settle is made or left out
 module _ (script : ScriptParts) (at n : ℕ) (before after heard : JournalParts) (old new : WorkerParts) where

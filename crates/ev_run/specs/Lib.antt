@@ -1,1 +1,4 @@
+pub mod Left
+pub mod Acting
+pub mod Laws
 pub mod Playing

@@ -1,4 +1,5 @@
--- The actors of a threaded run: what each begins with, what it knows when it is over, and the whole. This project's own.
+-- The actors of a threaded run: what each begins with, what it knows when it is over,
+-- and the whole. This project's own.
 use Rattle.std.specs.Prelude.{ℕ, ◌≡◌, ◌<◌, Bool, true, List, [], length, get_or, Option, IsSomeAnd}
 use Rattle.ev_types.specs.Events.{IsMainSide}
 use Rattle.ev_types.specs.Scripts.{ScriptParts}
@@ -20,7 +21,7 @@ use Rattle.ev_commits.specs.Commits.{seat_of}
 use Rattle.ev_commits.specs.Seen.{HasHeard, heard_by, seen_by}
 use Rattle.ev_commits.specs.declared.kept.Began.{Began}
 use Rattle.ev_commits.specs.declared.kept.Kept.{Kept}
-use Rattle.ev_fits.specs.Acting.{HasEnded}
+use Rattle.ev_run.specs.Acting.{HasEnded}
 use Rattle.ev_run.specs.declared.player.Task.{Task}
 use Rattle.ev_run.specs.declared.player.Task.TheVariants.{MainSide, Worker}
 
@@ -66,8 +67,9 @@ module _ {J : Type 0} (shows : J → JournalParts) where
     abbrev pub IsOver : ScriptParts → Gate (Kept J) Began (List Entry) → ℕ → Bool → Option (Pass (Kept J) Began (List Entry) g) → Type 0
     IsOver script gate seat ended pass = IsSomeAnd pass (IsOverAt script gate ended seat)
 
--- it has the script's workers and node, and its journal is a run of format 2 that holds each actor's operations of the script, and has
--- the laws; where a worker rests it has settled only on a newer picture, so the journal need be no replay's
+-- it has the script's workers and node, and its journal is a run of format 2
+-- that holds each actor's operations of the script, and has the laws;
+-- where a worker rests it has settled only on a newer picture, so the journal need be no replay's
 pub record HasRun (script : ScriptParts) (parts : JournalParts) : Type 0 where
   pub format : parts.format ≡ Two
   pub workers : parts.workers ≡ script.workers

@@ -4,7 +4,7 @@ ghost use Rattle.ev_actors.specs.Journals.{SufficeFor};
 ghost use Rattle.ev_types.specs.Events.{MayMake};
 ghost use Rattle.ev_commits.specs.Commits.{seat_of};
 ghost use Rattle.ev_commits.specs.Seen.{HasActed, began_at, seen_by};
-ghost use Rattle.ev_fits.specs.Acting.{HasDone, HasEnded, IsActingOn, IsNextAct};
+ghost use Rattle.ev_run.specs.Acting.{HasDone, HasEnded, IsActingOn, IsNextAct};
 ghost use Rattle.ev_run.specs.Playing.{IsGateFor, IsNewPass, IsPassAt};
 
 use crate::pace::Pace;
@@ -91,7 +91,7 @@ fn act<R: Threads + Wait + Sync, J: Journaled, P: Pace>(
     }
 }
 
-// An actor of the main side does what is due, in order, until it has no memory, and answers whether it came to the end.
+// An actor of the main side does what is due, in order, until it has no memory, and returns whether it came to the end.
 fn act_all<R: Threads + Wait + Sync, J: Journaled, P: Pace>(
     rt: &R,
     gate: &Gate<Kept<J>>,
@@ -118,7 +118,7 @@ fn act_all<R: Threads + Wait + Sync, J: Journaled, P: Pace>(
     (pass, true)
 }
 
-/// An actor of the main side does all its operations, and answers whether it came to the end.
+/// An actor of the main side does all its operations, and returns whether it came to the end.
 pub(crate) fn act_main<R: Threads + Wait + Sync, J: Journaled, P: Pace>(
     rt: &R,
     gate: &Gate<Kept<J>>,

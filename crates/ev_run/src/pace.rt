@@ -4,9 +4,9 @@ use std::sync::Wait;
 
 /// What is called before each turn of an actor of the threaded run.
 pub trait Pace {
-    /// Called before the turn in which an actor makes its operation of this line, after its earlier turns and never inside
-    /// one. A worker's batch has all lines that the turn will enter; other actors have none. A call that waits holds its
-    /// actor up, and nothing else.
+    /// Called before the turn in which an actor makes its operation of this line,
+    /// after its earlier turns and never inside one. A worker's batch has all lines that the turn will enter;
+    /// other actors have none. A call that waits holds its actor up, and nothing else.
     fn step<R: Wait>(&self, rt: &R, actor: Actor, at: u32, batch: Option<&Batch>);
 }
 

@@ -21,10 +21,12 @@ use std::alloc::{AllocError, Global};
 use std::sync::Wait;
 use std::thread::Threads;
 
-/// Takes the whole script with a thread for each actor: what comes back shows a run of the script by the rules of format 2, which
-/// holds each actor's operations in order, but for settles that are left out while a worker rests. What is passed has done nothing
-/// yet. Which run it is, the threads decide; `pace` is called before each turn. Where an actor has no memory the others go on to
-/// their end, and the answer is that error. The workers' tables hash by these keys.
+/// Takes the whole script with a thread for each actor:
+/// what comes back shows a run of the script by the rules of format 2, which holds each actor's operations in order,
+/// but for settles that are left out while a worker rests. What is passed has done nothing yet.
+/// Which run it is, the threads decide; `pace` is called before each turn.
+/// Where an actor has no memory the others go on to their end, and the answer is that error.
+/// The workers' tables hash by these keys.
 pub fn run<R: Threads + Wait + Sync, J: Journaled + Send + Drop, P: Pace + Sync>(
     rt: &R,
     alloc: Global,

@@ -8,7 +8,7 @@ ghost use Rattle.ev_actors.specs.Journals.{WorksIn, nothing_done, world_now};
 ghost use Rattle.ev_actors.specs.Taken.{HasBegun};
 ghost use Rattle.ev_commits.specs.Commits.{seat_of};
 ghost use Rattle.ev_commits.specs.Seen.{seen_by};
-ghost use Rattle.ev_fits.specs.Acting.{GoesThrough, HasEnded, HasGoneThrough, IsNextWork, IsWorkingOn, settle_of};
+ghost use Rattle.ev_run.specs.Acting.{GoesThrough, HasEnded, HasGoneThrough, IsNextWork, IsWorkingOn, settle_of};
 ghost use Rattle.ev_run.specs.Playing.{IsGateFor, IsNewPass, IsPassAt};
 
 use crate::main_side::line_at;
@@ -24,7 +24,8 @@ use std::alloc::{AllocError, Global};
 use std::sync::Wait;
 use std::thread::Threads;
 
-// A worker settles, after a call of the pace with its batch: in a turn, or, where it rests and nothing newer was published, in none.
+// A worker settles, after a call of the pace with its batch:
+// in a turn, or, where it rests and nothing newer was published, in none.
 fn settle_at<R: Threads + Wait + Sync, J: Journaled, P: Pace>(
     rt: &R,
     gate: &Gate<Kept<J>>,
@@ -116,7 +117,7 @@ fn work<R: Threads + Wait + Sync, J: Journaled, P: Pace>(
     }
 }
 
-// A worker does what is due, in order, until it has no memory, and answers whether it came to the end.
+// A worker does what is due, in order, until it has no memory, and returns whether it came to the end.
 fn work_all<R: Threads + Wait + Sync, J: Journaled, P: Pace>(
     rt: &R,
     gate: &Gate<Kept<J>>,
@@ -145,7 +146,7 @@ fn work_all<R: Threads + Wait + Sync, J: Journaled, P: Pace>(
     (pass, true)
 }
 
-/// A worker that has done nothing yet does all its operations, and answers whether it came to the end.
+/// A worker that has done nothing yet does all its operations, and returns whether it came to the end.
 pub(crate) fn act_worker<R: Threads + Wait + Sync, J: Journaled, P: Pace>(
     rt: &R,
     gate: &Gate<Kept<J>>,

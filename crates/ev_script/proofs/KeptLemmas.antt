@@ -6,7 +6,7 @@ use Rattle.serde_json.specs.Data.{Data}
 use Rattle.serde_json.specs.Find.{as_str, as_bool}
 use Rattle.ev_types.specs.Events.{MayMake}
 use Rattle.ev_types.specs.declared.contents.Kind.{Kind}
-use Rattle.ev_types.specs.declared.contents.Kind.TheVariants.{Cds, Eds, Lds, Rds}
+use Rattle.ev_types.specs.Kinds.{is_by_name}
 use Rattle.ev_types.specs.declared.events.Actor.{Actor}
 use Rattle.ev_types.specs.declared.events.Actor.TheVariants.{Stream, Health as health, Timer, Main, Worker}
 use Rattle.ev_types.specs.declared.events.Event.{Event}
@@ -72,21 +72,20 @@ health_kept at tree =
     mapped (MayMakeIn health) (λ healthy. Health cluster host healthy) (member_of as_bool (codes "healthy") tree) (λ healthy workers h. tt)))))
 
 timeout_kept : (kind : Kind) (tree : Data) → IfSome (timeout_of kind tree) (MayMakeIn Timer)
-timeout_kept Cds tree = tested (MayMakeIn Timer) _ (Some (FetchTimeout (record { kind = Cds; name = None }))) (λ workers h. tt)
-timeout_kept Eds tree = tested (MayMakeIn Timer) _ _ (mapped (MayMakeIn Timer) (λ name. FetchTimeout (record { kind = Eds; name = Some name })) (member_of name_of (codes "name") tree) (λ name workers h. tt))
-timeout_kept Lds tree = tested (MayMakeIn Timer) _ (Some (FetchTimeout (record { kind = Lds; name = None }))) (λ workers h. tt)
-timeout_kept Rds tree = tested (MayMakeIn Timer) _ _ (mapped (MayMakeIn Timer) (λ name. FetchTimeout (record { kind = Rds; name = Some name })) (member_of name_of (codes "name") tree) (λ name workers h. tt))
+timeout_kept kind tree = either (MayMakeIn Timer) (is_by_name kind) _ _
+    (tested (MayMakeIn Timer) _ _ (mapped (MayMakeIn Timer) (λ name. FetchTimeout (record { kind = kind; name = Some name })) (member_of name_of (codes "name") tree) (λ name workers h. tt)))
+    (tested (MayMakeIn Timer) _ (Some (FetchTimeout (record { kind = kind; name = None }))) (λ workers h. tt))
 
-timeouts_kept : (at : ℕ) (tree : Data) → IfSome (timeout_line at tree) (IsLineAt at)
-timeouts_kept at tree = kept_at at Timer _ (chained (MayMakeIn Timer) (λ kind. timeout_of kind tree) (kind_in tree) (λ kind. timeout_kept kind tree))
+timeouts_kept : (profile : Profile) (at : ℕ) (tree : Data) → IfSome (timeout_line profile at tree) (IsLineAt at)
+timeouts_kept profile at tree = kept_at at Timer _ (chained (MayMakeIn Timer) (λ kind. timeout_of kind tree) (kind_in profile tree) (λ kind. timeout_kept kind tree))
 
 drain_kept : (at : ℕ) (tree : Data) → IfSome (drain_line at tree) (IsLineAt at)
 drain_kept at tree = tested (IsLineAt at) _ _ (kept_at at Timer _ (mapped (MayMakeIn Timer) (λ name. DrainTimeout name) (member_of name_of (codes "listener") tree) (λ name workers h. tt)))
 
-expired_kept : (at : ℕ) (tree : Data) → IfSome (expired_line at tree) (IsLineAt at)
-expired_kept at tree =
+expired_kept : (profile : Profile) (at : ℕ) (tree : Data) → IfSome (expired_line profile at tree) (IsLineAt at)
+expired_kept profile at tree =
     tested (IsLineAt at) _ _ (kept_at at Timer _
-    (chained (MayMakeIn Timer) _ (kind_in tree) (λ kind. mapped (MayMakeIn Timer) (λ name. TtlExpired kind name) (member_of name_of (codes "name") tree) (λ name workers h. tt))))
+    (chained (MayMakeIn Timer) _ (kind_in profile tree) (λ kind. mapped (MayMakeIn Timer) (λ name. TtlExpired kind name) (member_of name_of (codes "name") tree) (λ name workers h. tt))))
 
 publish_kept : (at : ℕ) (tree : Data) → IfSome (publish_line at tree) (IsLineAt at)
 publish_kept at tree = tested (IsLineAt at) (has_only (codes "op" ∷ []) tree) (line_at at Main (Some Publish)) (kept_at at Main (Some Publish) (λ workers h. tt))
@@ -112,9 +111,9 @@ main_side_kept profile op at tree =
     (either (IsLineAt at) (bytes_eq op (codes "disconnect")) _ _ (disconnect_kept at tree)
     (either (IsLineAt at) (bytes_eq op (codes "response")) _ _ (response_kept profile at tree)
     (either (IsLineAt at) (bytes_eq op (codes "health")) _ _ (health_kept at tree)
-    (either (IsLineAt at) (bytes_eq op (codes "fetchTimeout")) _ _ (timeouts_kept at tree)
+    (either (IsLineAt at) (bytes_eq op (codes "fetchTimeout")) _ _ (timeouts_kept profile at tree)
     (either (IsLineAt at) (bytes_eq op (codes "drainTimeout")) _ _ (drain_kept at tree)
-    (either (IsLineAt at) (bytes_eq op (codes "ttlExpired")) _ _ (expired_kept at tree)
+    (either (IsLineAt at) (bytes_eq op (codes "ttlExpired")) _ _ (expired_kept profile at tree)
     (either (IsLineAt at) (bytes_eq op (codes "publish")) _ _ (publish_kept at tree)
     (tested (IsLineAt at) (bytes_eq op (codes "reap")) _ (reap_kept at tree)))))))))
 

@@ -1,4 +1,5 @@
--- The first fault of the limits, after lines that were read, is the first of the input; and where the last line given ends.
+-- The first fault of the limits, after lines that were read, is the first of the input;
+-- and where the last line given ends.
 use Rattle.std.proofs.Common.{◌≡◌, ℕ, zero, suc, ◌+◌, ◌-◌, ◌<◌, ◌≤◌, Bool, true, false, cond, List, [], ◌∷◌, ◌++◌, length, take, get_or, eqb, eq-eqb, IsTrue, refl, sym, ap, subst, ◌∙◌, ◌⊎◌, inl, inr, arith, append-nil, length-append}
 use Rattle.std.proofs.Math.ListN.{get_or-append}
 use Rattle.std.proofs.lemmas.List.{take_all, take-append-le}

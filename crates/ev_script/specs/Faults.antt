@@ -47,8 +47,8 @@ fault_order NotJournal = 8
 -- ---- forms of lines
 
 -- What a tree is as a line of an input. `heads`: as the first line, what it sets for the others, or none where it is no
--- header. `lines`: as another one, by the profile that the first sets and its line's number, the worker that it names, where
--- it names one, or none where it is no line.
+-- header. `lines`: as another one, by the profile that the first sets and its line's number,
+-- the worker that it names, where it names one, or none where it is no line.
 pub record LineForms : Type 0 where
   pub heads : Data → Option Settings
   pub lines : Profile → ℕ → Data → Option (Option ℕ)
@@ -87,7 +87,8 @@ profile_by settings = unwrap_or (option_map (λ (s : Settings). s.profile) setti
 abbrev pub profile_in : LineForms → List (List ℕ) → Profile
 profile_in forms texts = profile_by (settings_in forms texts)
 
--- what the line that ends there is by the forms: the worker that it names, where it names one, or none where it is no line
+-- what the line that ends there is by the forms: the worker that it names, where it names one,
+-- or none where it is no line
 abbrev pub named_at : LineForms → Input → ℕ → Option (Option ℕ)
 named_at forms input place = option_and_then (forms.lines (profile_in forms (lines_of input.bytes)) (index_at input place + 1)) (tree_at input place)
 
@@ -97,7 +98,8 @@ named_at forms input place = option_and_then (forms.lines (profile_in forms (lin
 abbrev pub has_format : Data → Bool
 has_format tree = is_some (get (codes "format") tree)
 
--- the line that ends at the place begins the journal: in an audit's input it isn't the first line, and has a member `format`
+-- the line that ends at the place begins the journal: in an audit's input it isn't the first line,
+-- and has a member `format`
 pub record BeginsJournal (input : Input) (place : ℕ) : Type 0 where
   pub audit : IsTrue input.audit
   pub ends : EndsLine input place
@@ -154,7 +156,8 @@ pub record IsFirstFault (forms : LineForms) (input : Input) (place : ℕ) (kind 
   pub stands : Stands forms input place kind
   pub first : (other : ℕ) (kind_there : FaultKind) → Stands forms input other kind_there → (place < other) ⊎ ((place ≡ other) × (fault_order kind ≤ fault_order kind_there))
 
--- the line that a fault is reported with, counted from 1: its own, and for a journal that is missing the one above the last
+-- the line that a fault is reported with, counted from 1:
+-- its own, and for a journal that is missing the one above the last
 abbrev pub fault_line : Input → ℕ → FaultKind → ℕ
 fault_line input place TooLong = index_at input place + 1
 fault_line input place TooMany = index_at input place + 1

@@ -19,9 +19,9 @@ profile_with word = if bytes_eq word (codes "envoy") then Some Envoy else None
 abbrev pub profile_of : Data → Option Profile
 profile_of tree = option_and_then profile_with (as_str tree)
 
--- `workers` is 1 to 16; `auto` is a boolean, false where it isn't given; `profile` is the text `envoy`, and where it isn't
--- given the profile is the project's own; `node` is a text of 1 to 512 bytes, `warmgate` where it isn't given. There is no
--- other member.
+-- `workers` is 1 to 16; `auto` is a boolean, false where it isn't given;
+-- `profile` is the text `envoy`, and where it isn't given the profile is the project's own;
+-- `node` is a text of 1 to 512 bytes, `warmgate` where it isn't given. There is no other member.
 abbrev pub header_of : Data → Option Header
 header_of tree =
     if has_only (codes "workers" ∷ codes "auto" ∷ codes "node" ∷ codes "profile" ∷ []) tree

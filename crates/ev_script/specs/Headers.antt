@@ -1,4 +1,5 @@
--- The headers that a connection brings. Source: HTTP's names of fields, in which the case of ASCII letters doesn't count.
+-- The headers that a connection brings. Source: HTTP's names of fields,
+-- in which the case of ASCII letters doesn't count.
 use Rattle.std.specs.Prelude.{ℕ, ◌||◌, List, [], Bool, if◌then◌else◌, codes, Option, Some, option_and_then}
 use Rattle.std.specs.declared.cmp.Ordering.{Ordering}
 use Rattle.std.specs.Ordering.{nat_cmp}

@@ -6,11 +6,13 @@ use Rattle.std.specs.Str.{bytes_eq}
 use Rattle.serde_json.specs.Data.{Data}
 use Rattle.serde_json.specs.Find.{as_str}
 use Rattle.ev_types.specs.declared.contents.Kind.{Kind}
-use Rattle.ev_types.specs.declared.contents.Kind.TheVariants.{Cds, Eds, Lds, Rds}
+use Rattle.ev_types.specs.declared.contents.Kind.TheVariants.{Cds, Eds, Lds, Rds, Sds, Ecds}
 use Rattle.ev_types.specs.declared.events.Actor.{Actor}
 use Rattle.ev_types.specs.declared.events.Event.{Event}
 use Rattle.ev_types.specs.declared.events.Line.{Line}
+use Rattle.ev_types.specs.declared.events.Profile.{Profile}
 use Rattle.ev_types.specs.declared.hosts.Host.{Host}
+use Rattle.ev_wire.specs.Kinds.{read_in}
 use Rattle.ev_script.specs.Members.{has_only, whole_within, name_of, member_of}
 
 -- the line of an actor's event, where the object has the event's members
@@ -34,8 +36,10 @@ kind_with word =
     else if bytes_eq word (codes "eds") then Some Eds
     else if bytes_eq word (codes "lds") then Some Lds
     else if bytes_eq word (codes "rds") then Some Rds
+    else if bytes_eq word (codes "sds") then Some Sds
+    else if bytes_eq word (codes "ecds") then Some Ecds
     else None
 
--- the member `type`
-abbrev pub kind_in : Data → Option Kind
-kind_in tree = option_and_then kind_with (member_of as_str (codes "type") tree)
+-- the member `type`: a type that the profile reads
+abbrev pub kind_in : Profile → Data → Option Kind
+kind_in profile tree = option_and_then (read_in profile) (option_and_then kind_with (member_of as_str (codes "type") tree))

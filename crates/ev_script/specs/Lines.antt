@@ -19,9 +19,9 @@ main_side_line profile op at tree =
     else if bytes_eq op (codes "disconnect") then disconnect_line at tree
     else if bytes_eq op (codes "response") then response_line profile at tree
     else if bytes_eq op (codes "health") then health_line at tree
-    else if bytes_eq op (codes "fetchTimeout") then timeout_line at tree
+    else if bytes_eq op (codes "fetchTimeout") then timeout_line profile at tree
     else if bytes_eq op (codes "drainTimeout") then drain_line at tree
-    else if bytes_eq op (codes "ttlExpired") then expired_line at tree
+    else if bytes_eq op (codes "ttlExpired") then expired_line profile at tree
     else if bytes_eq op (codes "publish") then publish_line at tree
     else if bytes_eq op (codes "reap") then reap_line at tree
     else None

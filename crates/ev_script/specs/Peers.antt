@@ -1,4 +1,5 @@
--- The ends of a connection, by the members of its line: where it is meant to go, who connects, and where it was delivered.
+-- The ends of a connection, by the members of its line:
+-- where it is meant to go, who connects, and where it was delivered.
 use Rattle.std.specs.Prelude.{ℕ, List, [], ◌∷◌, if◌then◌else◌, codes, Option, None, Some, option_map, option_and_then}
 use Rattle.serde_json.specs.Data.{Data}
 use Rattle.ev_types.specs.Ips.{ip_of}
@@ -24,8 +25,8 @@ maybe_peer_in tree = option_map (λ (peer : Peer). Some peer) (peer_in tree)
 abbrev pub peer_at : List ℕ → Data → Option (Option Peer)
 peer_at name tree = member_or None maybe_peer_in name tree
 
--- the ends of a connection; without a source it isn't said who connects, and without the last one it was delivered where it is
--- meant to go
+-- the ends of a connection; without a source it isn't said who connects,
+-- and without the last one it was delivered where it is meant to go
 abbrev pub ends_in : Data → Option Ends
 ends_in tree = option_and_then
     (λ address. option_and_then

@@ -32,8 +32,8 @@ script_fault given limit.TooLarge = Bad (given + 1) 3
 script_fault given limit.Failed = Read
 script_fault given limit.OutOfMemory = OutOfMemory
 
--- a fault is the first of the bytes taken, before any journal; a failed read is reported where they have none, and no journal
--- begins, and go on
+-- a fault is the first of the bytes taken, before any journal;
+-- a failed read is reported where they have none, and no journal begins, and go on
 abbrev pub IsTold : LineForms → Input → ScriptFault → Type 0
 IsTold forms input (Bad line kind) = IsFaultOf forms input line kind
 IsTold forms input Read = HasNoFault forms input × (¬ (IsTrue input.ended)) × ((start : ℕ) → ¬ (BeginsJournal input start))
@@ -87,8 +87,8 @@ IsAnswerUpTo forms keeps_head keeps input (Ok up_to) =
     IsReadOf forms keeps_head keeps input up_to.read × EndsBefore forms input (length up_to.read.kept.items + 1) up_to.journal
 IsAnswerUpTo forms keeps_head keeps input (Err fault) = IsTold forms input fault
 
--- what an answer about the first line means: a header was given, of which this is kept, or the first fault of the bytes taken
--- is in the first line, whether a journal has to follow or not
+-- what an answer about the first line means: a header was given, of which this is kept,
+-- or the first fault of the bytes taken is in the first line, whether a journal has to follow or not
 abbrev pub IsHeadAnswer : {H : Type 0} → LineForms → (Data → H → Type 0) → LinesState → List ℕ → Result (FormedHead H) ScriptFault → Type 0
 IsHeadAnswer forms keeps_head state bytes (Ok head) =
     (state.told ≡ None) × (state.given ≡ 1) × (first_content forms (slice_index_or (lines_of bytes) 0 []) ≡ first.Header head.settings)

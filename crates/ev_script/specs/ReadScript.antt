@@ -44,8 +44,8 @@ abbrev pub IsAuditedAnswer : Input → Result AuditedScript ScriptFault → Type
 IsAuditedAnswer input (Ok audited) = IsUpToJournal plain_lines input audited.script.count audited.journal.items × (script_of true input.bytes ≡ Some audited.script)
 IsAuditedAnswer input (Err fault) = IsTold plain_lines input fault
 
--- lines that are numbered one after another from 2 on, each with an actor that may make its event, where there are that many
--- workers
+-- lines that are numbered one after another from 2 on, each with an actor that may make its event,
+-- where there are that many workers
 pub record AreNumbered (workers : ℕ) (lines : List Line) : Type 0 where
   pub places : (k : ℕ) (line : Line) → k < length lines → (slice_index_or lines k line).at ≡ k + 2
   pub allowed : All (λ (line : Line). MayMake workers line.actor line.event) lines

@@ -17,8 +17,8 @@ connect_line at tree = with_only [] tree (line_at at Stream (Some Connect))
 abbrev pub disconnect_line : ℕ → Data → Option Line
 disconnect_line at tree = with_only [] tree (line_at at Stream (Some Disconnect))
 
--- `response`: a message comes on the stream. `message` is a response of incremental xDS, whose resources are read by the
--- profile.
+-- `response`: a message comes on the stream. `message` is a response of incremental xDS,
+-- whose resources are read by the profile.
 abbrev pub response_line : Profile → ℕ → Data → Option Line
 response_line profile at tree =
     with_only (codes "message" ∷ []) tree

@@ -21,8 +21,8 @@ worker_in tree = member_of (whole_within 0 MAX_WORKER) (codes "worker") tree
 abbrev pub worker_line : ℕ → Option Event → Data → Option Line
 worker_line at event tree = option_and_then (λ worker. line_at at (Worker worker) event) (worker_in tree)
 
--- the members of an accept, besides its operation: by the project's own profile who connects, where a connection was delivered,
--- and what the handshake and the headers say are no members
+-- the members of an accept, besides its operation: by the project's own profile who connects,
+-- where a connection was delivered, and what the handshake and the headers say are no members
 abbrev pub accept_members : Profile → List (List ℕ)
 accept_members Own = codes "worker" ∷ codes "conn" ∷ codes "address" ∷ codes "port" ∷ codes "host" ∷ codes "path" ∷ codes "pick" ∷ []
 accept_members Envoy =
@@ -34,7 +34,8 @@ abbrev pub accept_in : Data → Option Event
 accept_in tree = option_map (λ ask. Accept ask) (ask_in tree)
 
 -- `accept`: a worker accepts a connection. Its members are `worker`, `conn`, `address`, `port`, `host`,
--- `path` and `pick`, and by the profile `envoy` also `source`, `redirectedTo`, `serverName`, `tls`, `alpn` and `headers`.
+-- `path` and `pick`, and by the profile `envoy` also `source`, `redirectedTo`, `serverName`,
+-- `tls`, `alpn` and `headers`.
 abbrev pub accept_line : Profile → ℕ → Data → Option Line
 accept_line profile at tree = with_only (accept_members profile) tree (worker_line at (accept_in tree) tree)
 

@@ -52,8 +52,8 @@ pub(crate) fn ask_in(alloc: Global, tree: &Value) -> Result<Option<Ask>, AllocEr
     }))
 }
 
-/// What a connection says before it asks: the server that it names, whether it comes over TLS, and the application protocols
-/// that it offers.
+/// What a connection says before it asks: the server that it names, whether it comes over TLS,
+/// and the application protocols that it offers.
 #[derive(Drop)]
 pub(crate) struct Handshake {
     pub server_name: Text,

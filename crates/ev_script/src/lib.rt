@@ -28,22 +28,24 @@
 //! - Of an accept the profile decides which members there may be, and nothing else: where `source` and those
 //!   beside it are no members, they are as where they are absent.
 //! - Headers are taken in the order of their written names, so of `X-A` and `x-a` the second counts. `:authority` and
-//!   `:path` are left out of them, since the ask's host and path stand for these.
+//!   `:path` are left out of them, since the ask's host and path represent these.
 //! - The ask has the IP address that each of its addresses writes, so that a choice parses nothing.
 //! - The reader of an input is one loop, `read_up_to_journal`, over a type that says which lines there are and what is
 //!   kept of each (`Forms`): a script keeps a line as what it says. A command that reads other lines gives such a type
 //!   to `read_lines_with`, which reads whole inputs; the lines of a script are `ScriptLines`.
 //! - The loop ends at a journal's first line or at the end of the input, and doesn't ask whether a journal has to be
 //!   there: where it is missing, `read_audited_script` reports that.
-//! - `read_trees` is the same reader over a type that keeps a line as its tree (`LineTrees`), in the memory of the line's
-//!   text: whoever looks at the tree reads it again (`LineTree`), and as a tree a line takes some 30 times its text.
+//! - `read_trees` is the same reader over a type that keeps a line as its tree (`LineTrees`),
+//!   in the memory of the line's text: whoever looks at the tree reads it again (`LineTree`),
+//!   and as a tree a line takes some 30 times its text.
 //! - A script alone and a script with a journal after it are two calls with two types: `read_script` gives a
 //!   `Script`, and `read_audited_script` an `AuditedScript`. They take the place of one call `read_script` with a
 //!   flag and an answer that has both cases, of which each caller would have to rule out one. Trees are read of whole
 //!   inputs alone, since no command asks for those before a journal.
 //! - An audit's input is looked at up to the end of the journal's first line: a limit that is passed after it is
-//!   reported by whoever reads the journal, with the same reader of lines. So `read_audited_script` says that there is no
-//!   fault up to there, and that one that it reports comes before any journal; `read_script` that there is none at all.
+//!   reported by whoever reads the journal, with the same reader of lines.
+//! So `read_audited_script` says that there is no fault up to there,
+//! and that one that it reports comes before any journal; `read_script` that there is none at all.
 //! - A fault is in the bytes taken, and more bytes don't take it away (proved). So what is reported is also a fault
 //!   of the whole input, however much of it was taken.
 //! - The reader asks that the reader of lines is fresh: the definition speaks of all bytes of the input, and none of

@@ -3,7 +3,8 @@ ghost use Rattle.serde_json.specs.View.{view};
 ghost use Rattle.ev_script.specs.LineForms.{line_at, host_in, kind_with, kind_in};
 
 use crate::members::{name_at, number_at, word_at};
-use ev_types::{Actor, Event, Host, Kind, Line};
+use ev_types::{Actor, Event, Host, Kind, Line, Profile};
+use ev_wire::read_in;
 use serde_json::Value;
 use std::alloc::{AllocError, Global};
 
@@ -33,11 +34,12 @@ pub(crate) fn host_in(alloc: Global, tree: &Value) -> Result<Option<Host>, Alloc
     }))
 }
 
-// The member `type`.
-pub(crate) fn kind_in(tree: &Value) -> Option<Kind>
-    ensures { result ≡ kind_in (view tree.now) }
+// The member `type`: a type that the profile reads.
+pub(crate) fn kind_in(profile: Profile, tree: &Value) -> Option<Kind>
+    ensures { result ≡ kind_in profile (view tree.now) }
 {
-    kind_with(word_at(tree, "type")?)
+    let kind = kind_with(word_at(tree, "type")?)?;
+    read_in(profile, kind)
 }
 
 // A type of resource, by its word.
@@ -49,6 +51,8 @@ fn kind_with(word: &str) -> Option<Kind>
         "eds" => Some(Kind::Eds),
         "lds" => Some(Kind::Lds),
         "rds" => Some(Kind::Rds),
+        "sds" => Some(Kind::Sds),
+        "ecds" => Some(Kind::Ecds),
         _ => None,
     }
 }

@@ -7,7 +7,8 @@ use serde_json::Value;
 use std::alloc::{AllocError, Global};
 use std::marker::Model;
 
-/// The tree of a line, kept as the line's text: as a tree it takes some thirty times the memory. Contracts see the text.
+/// The tree of a line, kept as the line's text: as a tree it takes some thirty times the
+/// memory. Contracts see the text.
 #[derive(Drop)]
 pub struct LineTree {
     text: Vec<u8>,

@@ -8,7 +8,8 @@ use ev_types::{Host, Ip, Peer};
 use serde_json::Value;
 use std::alloc::{AllocError, Global};
 
-/// The ends of a connection: where it is meant to go, who connects, and where it was delivered, the last two if that is said.
+/// The ends of a connection: where it is meant to go, who connects, and where it was delivered,
+/// the last two if that is said.
 #[derive(Drop)]
 pub(crate) struct Ends {
     pub address: Host,

@@ -31,12 +31,14 @@ pub(crate) struct UpToJournal<H, T> {
     pub(crate) journal: Option<Vec<u8>>,
 }
 
-/// Reads an input's header and the lines after it, by these forms, to the end of the input. The reader of lines is a fresh one.
+/// Reads an input's header and the lines after it, by these forms, to the end of the input.
+/// The reader of lines is a fresh one.
 ///
 /// # Errors
-/// `Bad` with the line and the kind of the first fault of the bytes taken, those at the end of the input only where the source
-/// gave its end; `Read` where a read failed and the bytes taken have no fault. `OutOfMemory` where there is no memory for the
-/// lines; the bytes taken are those of the reader of lines, and no read failed.
+/// `Bad` with the line and the kind of the first fault of the bytes taken,
+/// those at the end of the input only where the source gave its end;
+/// `Read` where a read failed and the bytes taken have no fault. `OutOfMemory` where there is no memory for the lines;
+/// the bytes taken are those of the reader of lines, and no read failed.
 pub fn read_lines_with<S: Source, F: Forms>(
     alloc: Global,
     forms: &F,
@@ -61,8 +63,8 @@ pub fn read_lines_with<S: Source, F: Forms>(
     Ok(read)
 }
 
-// Reads an input's header and the lines after it to the end of the input or, in an audit's input, to the first line of the
-// journal; whether there is one is left to the caller.
+// Reads an input's header and the lines after it to the end of the input or, in an audit's input,
+// to the first line of the journal; whether there is one is left to the caller.
 pub(crate) fn read_up_to_journal<S: Source, F: Forms>(
     alloc: Global,
     forms: &F,

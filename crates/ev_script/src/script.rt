@@ -55,12 +55,12 @@ pub struct AuditedScript {
     pub journal: Vec<u8>,
 }
 
-/// Reads a script that comes before a journal, and the journal's first line. The reader of lines is a fresh one, and goes on
-/// with the journal's second line.
+/// Reads a script that comes before a journal, and the journal's first line.
+/// The reader of lines is a fresh one, and goes on with the journal's second line.
 ///
 /// # Errors
-/// As of `read_script`; a journal that is missing is one of kind 9. No journal begins before the fault, nor in the bytes taken
-/// where a read failed.
+/// As of `read_script`; a journal that is missing is one of kind 9.
+/// No journal begins before the fault, nor in the bytes taken where a read failed.
 pub fn read_audited_script<S: Source>(
     alloc: Global,
     lines: &mut Lines,

@@ -8,6 +8,8 @@ use Rattle.ev_types.specs.Kinds.{kind_same}
 use Rattle.ev_types.specs.Statuses.{is_active}
 use Rattle.ev_types.specs.declared.contents.Kind.TheVariants.{Cds}
 use Rattle.ev_types.specs.declared.rows.GenRow.{GenRow}
+use Rattle.ev_types.specs.declared.ways.Way.TheVariants.{Undecided, Elsewhere, NoRoute, Local, Redirect, NoCluster, NoEndpoint, NoSecret, Served}
+use Rattle.ev_model.specs.Choice.{Course}
 use Rattle.ev_model.specs.World.{World}
 use Rattle.ev_model.specs.Sorted.{put_by, sorted_by}
 use Rattle.ev_model.specs.Versions.{is_before}
@@ -16,8 +18,8 @@ use Rattle.ev_model.specs.Warming.{assignment_of, is_eligible}
 use Rattle.ev_model.specs.declared.pictures.Shown.{Shown}
 use Rattle.ev_model.specs.declared.pictures.ServedCluster.{ServedCluster}
 use Rattle.ev_model.specs.declared.pictures.Choice.{Choice}
-use Rattle.ev_model.specs.declared.pictures.Choice.TheVariants.{NoListener, NoChain, Undecided, Elsewhere, NoRoute, Local, Redirect, NoCluster, NoEndpoint, Served}
-use Rattle.ev_snapshot.specs.Chosen.{IsLowestAt, TakesEligible, TakesLowest}
+use Rattle.ev_model.specs.declared.pictures.Choice.TheVariants.{NoListener, NoChain, On}
+use Rattle.ev_snapshot.specs.Chosen.{GoesEligible, GoesLowest, IsLowestAt, TakesEligible, TakesLowest}
 
 -- what holds of an element and of a list holds of the list with the element in its place
 all_put : {X : Type 0} (P : X → Type 0) (le : X → X → Bool) (x : X) (ys : List X) → P x → AllByRecursion P ys → AllByRecursion P (put_by le x ys)
@@ -68,10 +70,10 @@ all_serve world =
     (all_sorted (IsServing world) (λ (row other : GenRow). is_before row.name other.name) (filter test world.rows) (recursion_from_All (IsServing world) (filter test world.rows) both))
 
 -- a host of a cluster that is shown is an eligible one of its generation
-shown_is_eligible : (world : World) (listener number place : ℕ) (cluster : ServedCluster) (host : HostRowParts) (row : GenRow)
+shown_is_eligible : (world : World) (number place : ℕ) (cluster : ServedCluster) (host : HostRowParts) (row : GenRow)
     → Contains (active_rows world.rows Cds) row → served_cluster world.arrivals world.results row ≡ cluster → cluster.number ≡ number
-    → IsLowestAt cluster.hosts place host → TakesEligible world (Served listener number place)
-shown_is_eligible world listener number place cluster host row here same numbered lowest =
+    → IsLowestAt cluster.hosts place host → GoesEligible world (Served number place)
+shown_is_eligible world number place cluster host row here same numbered lowest =
     let serving : IsServing world row = All-contains (IsServing world) (active_rows world.rows Cds) row (all_serve world) here in
     let Lowest : ServedCluster → Type 0 = λ (c : ServedCluster). IsLowestAt c.hosts place host in
     let Eligible : HostRowParts → Type 0 = λ (h : HostRowParts). is_eligible world row h ≡ true in
@@ -89,19 +91,23 @@ shown_is_eligible world listener number place cluster host row here same numbere
       },
     )
 
-pub takes_eligible : (world : World) (shown : Shown) (choice : Choice) → shown ≡ shown_of world → TakesLowest shown choice → TakesEligible world choice
-takes_eligible world shown NoListener is lowest = tt
-takes_eligible world shown NoChain is lowest = tt
-takes_eligible world shown (Undecided listener) is lowest = tt
-takes_eligible world shown (Elsewhere listener cluster) is lowest = tt
-takes_eligible world shown (NoRoute listener) is lowest = tt
-takes_eligible world shown (Local listener status) is lowest = tt
-takes_eligible world shown (Redirect listener) is lowest = tt
-takes_eligible world shown (NoCluster listener) is lowest = tt
-takes_eligible world shown (NoEndpoint listener) is lowest = tt
-takes_eligible world shown (Served listener number place) is lowest =
+goes_eligible : (world : World) (shown : Shown) (course : Course) → shown ≡ shown_of world → GoesLowest shown course → GoesEligible world course
+goes_eligible world shown Undecided is lowest = tt
+goes_eligible world shown (Elsewhere cluster) is lowest = tt
+goes_eligible world shown NoRoute is lowest = tt
+goes_eligible world shown (Local status) is lowest = tt
+goes_eligible world shown Redirect is lowest = tt
+goes_eligible world shown NoCluster is lowest = tt
+goes_eligible world shown NoEndpoint is lowest = tt
+goes_eligible world shown (NoSecret cluster) is lowest = tt
+goes_eligible world shown (Served number place) is lowest =
     let served : GenRow → ServedCluster = served_cluster world.arrivals world.results in
     let Among : Shown → Type 0 = λ (s : Shown). Contains s.clusters lowest.0 in
     let from : (row : GenRow) × Contains (active_rows world.rows Cds) row × (served row ≡ lowest.0) =
     comes_from served (active_rows world.rows Cds) lowest.0 (subst Among is lowest.2) in
-    shown_is_eligible world listener number place lowest.0 lowest.1 from.0 from.1 from.2 lowest.3 lowest.4
+    shown_is_eligible world number place lowest.0 lowest.1 from.0 from.1 from.2 lowest.3 lowest.4
+
+pub takes_eligible : (world : World) (shown : Shown) (choice : Choice) → shown ≡ shown_of world → TakesLowest shown choice → TakesEligible world choice
+takes_eligible world shown NoListener is lowest = tt
+takes_eligible world shown NoChain is lowest = tt
+takes_eligible world shown (On listener chain origin course) is lowest = goes_eligible world shown course is lowest

@@ -4,6 +4,7 @@ use Rattle.std.proofs.lemmas.Bool.{cases_lt}
 use Rattle.std.proofs.lemmas.Bool.Decides.{nat_tests}
 use Rattle.std.proofs.lemmas.List.Elements.{All-cons, All-nil, All-weaker}
 use Rattle.std.proofs.lemmas.Option.{slice_get-get_or}
+use Rattle.std.specs.Str.{bytes_eq}
 use Rattle.ev_types.specs.Hosts.{HostRowParts}
 use Rattle.ev_types.specs.Weights.{weight_sum}
 use Rattle.ev_types.specs.declared.events.Ask.{Ask}
@@ -13,21 +14,23 @@ use Rattle.ev_types.specs.declared.routes.Route.{Route}
 use Rattle.ev_types.specs.declared.routes.Target.{Target}
 use Rattle.ev_types.specs.declared.routes.Target.TheVariants.{One, Weighted, Elsewhere as elsewhere}
 use Rattle.ev_types.specs.declared.routes.VirtualHost.{VirtualHost}
-use Rattle.std.specs.Str.{bytes_eq}
-use Rattle.ev_model.specs.Choice.{Reached, acted, by_chain, by_chains, by_host, by_listener, by_reached, by_route, by_routing, by_word, choice_in, choice_of, cluster_named, counted_weights, delivered_of, forwarded, host_place, in_cluster, incoming_of, listener_for, lowest_priority, name_picked, reached_by, requested_of, route_for, routing_left, served_at, virtual_host_for, weight_at}
+use Rattle.ev_types.specs.declared.ways.Way.TheVariants.{Undecided, Elsewhere, NoEndpoint, NoSecret}
+use Rattle.ev_model.specs.Choice.{Reached, acted, by_chain, by_chains, by_host, by_listener, by_reached, by_route, by_routing, by_secrets, by_word, chain_left, choice_of, cluster_named, counted_weights, course_in, course_of, delivered_of, forwarded, has_no_host, host_place, in_cluster, incoming_of, listener_for, lowest_priority, name_picked, reached_by, requested_of, route_for, served_at, to_host, virtual_host_for, weight_at}
 use Rattle.ev_model.specs.Conditions.{match_says}
 use Rattle.ev_model.specs.Narrowing.{Incoming, chains_left, lacks_source}
-use Rattle.ev_model.specs.declared.pictures.Choice.TheVariants.{Elsewhere, Undecided}
+use Rattle.ev_model.specs.declared.pictures.Choice.TheVariants.{On}
 use Rattle.ev_model.specs.declared.pictures.Picture.{Picture}
 use Rattle.ev_model.specs.declared.pictures.Shown.{Shown}
 use Rattle.ev_model.specs.declared.pictures.Routing.{Routing}
 use Rattle.ev_model.specs.declared.pictures.Routing.TheVariants.{Table, Tcp, Other}
+use Rattle.ev_model.specs.declared.pictures.Secrets.{Secrets}
+use Rattle.ev_model.specs.declared.pictures.Secrets.TheVariants.{There, Missing, Unknown}
 use Rattle.ev_model.specs.declared.pictures.ServedChain.{ServedChain}
 use Rattle.ev_model.specs.declared.pictures.Taken.{Taken}
 use Rattle.ev_model.specs.declared.pictures.Taken.TheVariants.{No, Yes, Undecided as undecided}
 use Rattle.ev_model.specs.declared.pictures.ServedCluster.{ServedCluster}
 use Rattle.ev_model.specs.declared.pictures.ServedListener.{ServedListener}
-use Rattle.ev_snapshot.specs.Chosen.{IsLowestAt, TakesLowest}
+use Rattle.ev_snapshot.specs.Chosen.{GoesLowest, IsLowestAt, TakesLowest}
 use Rattle.ev_snapshot.proofs.Places.{place_from, from_start, passed, reached, none_left, sum_more}
 
 -- what is at the place that a search by running sums finds has some weight
@@ -95,74 +98,93 @@ found_contained {X} p (y ∷ ys) x found = by (p y) found (found_contained p ys 
     by true here rest = let same : y ≡ x = cc in (0, omega arith, same)
     by false later rest = let among : Contains ys x = rest later in (suc among.0, omega (arith, among.1), among.2)
 
-served_takes : (shown : Shown) (listener : ℕ) (cluster : ServedCluster) (pick : ℕ) (place : Option ℕ) → Contains shown.clusters cluster
-    → host_place cluster.hosts pick ≡ place → TakesLowest shown (served_at listener cluster.number place)
-served_takes shown listener cluster pick None among is = tt
-served_takes shown listener cluster pick (Some place) among is =
+served_takes : (shown : Shown) (cluster : ServedCluster) (pick : ℕ) (place : Option ℕ) → Contains shown.clusters cluster
+    → host_place cluster.hosts pick ≡ place → GoesLowest shown (served_at cluster.number place)
+served_takes shown cluster pick None among is = tt
+served_takes shown cluster pick (Some place) among is =
     let chosen : (host : HostRowParts) × IsLowestAt cluster.hosts place host = chosen_lowest cluster.hosts pick place is in
     (cluster, chosen.0, among, refl, chosen.1)
 
-in_cluster_takes : (shown : Shown) (listener : ℕ) (cluster : ServedCluster) (pick : ℕ) → Contains shown.clusters cluster
-    → TakesLowest shown (in_cluster listener cluster pick)
-in_cluster_takes shown listener cluster pick among = by cluster.elsewhere
+to_host_takes : (shown : Shown) (cluster : ServedCluster) (pick : ℕ) → Contains shown.clusters cluster → GoesLowest shown (to_host cluster pick)
+to_host_takes shown cluster pick among = by cluster.elsewhere
   where
-    by : (b : Bool) → TakesLowest shown (cond b (Elsewhere listener (Some cluster.number)) (served_at listener cluster.number (host_place cluster.hosts pick)))
+    by : (b : Bool) → GoesLowest shown (cond b (Elsewhere (Some cluster.number)) (served_at cluster.number (host_place cluster.hosts pick)))
     by true = tt
-    by false = served_takes shown listener cluster pick (host_place cluster.hosts pick) among refl
+    by false = served_takes shown cluster pick (host_place cluster.hosts pick) among refl
 
-choice_in_takes : (shown : Shown) (listener : ℕ) (found : Option ServedCluster) (pick : ℕ)
-    → ((c : ServedCluster) → found ≡ Some c → Contains shown.clusters c) → TakesLowest shown (choice_in listener found pick)
-choice_in_takes shown listener None pick among = tt
-choice_in_takes shown listener (Some cluster) pick among = in_cluster_takes shown listener cluster pick (among cluster refl)
+by_secrets_takes : (shown : Shown) (secrets : Secrets) (cluster : ServedCluster) (pick : ℕ) → Contains shown.clusters cluster
+    → GoesLowest shown (by_secrets secrets cluster pick)
+by_secrets_takes shown There cluster pick among = to_host_takes shown cluster pick among
+by_secrets_takes shown Missing cluster pick among = tt
+by_secrets_takes shown Unknown cluster pick among = tt
 
-named_takes : (picture : Picture) (pick listener : ℕ) (name : List ℕ) → TakesLowest picture.shown (choice_in listener (cluster_named picture.shown.clusters name) pick)
-named_takes picture pick listener name =
-    choice_in_takes picture.shown listener (cluster_named picture.shown.clusters name) pick
+in_cluster_takes : (shown : Shown) (cluster : ServedCluster) (pick : ℕ) → Contains shown.clusters cluster → GoesLowest shown (in_cluster cluster pick)
+in_cluster_takes shown cluster pick among = by (has_no_host cluster)
+  where
+    by : (b : Bool) → GoesLowest shown (cond b NoEndpoint (by_secrets cluster.secrets cluster pick))
+    by true = tt
+    by false = by_secrets_takes shown cluster.secrets cluster pick among
+
+course_in_takes : (shown : Shown) (found : Option ServedCluster) (pick : ℕ)
+    → ((c : ServedCluster) → found ≡ Some c → Contains shown.clusters c) → GoesLowest shown (course_in found pick)
+course_in_takes shown None pick among = tt
+course_in_takes shown (Some cluster) pick among = in_cluster_takes shown cluster pick (among cluster refl)
+
+named_takes : (picture : Picture) (pick : ℕ) (name : List ℕ) → GoesLowest picture.shown (course_in (cluster_named picture.shown.clusters name) pick)
+named_takes picture pick name =
+    course_in_takes picture.shown (cluster_named picture.shown.clusters name) pick
     (found_contained (λ (c : ServedCluster). bytes_eq c.name name) picture.shown.clusters)
 
-forwarded_takes : (picture : Picture) (pick listener : ℕ) (target : Target) → TakesLowest picture.shown (forwarded picture pick listener target)
-forwarded_takes picture pick listener (One name) = named_takes picture pick listener name
-forwarded_takes picture pick listener (Weighted clusters) = named_takes picture (pick / weight_sum clusters) listener (name_picked clusters pick)
-forwarded_takes picture pick listener elsewhere = tt
+forwarded_takes : (picture : Picture) (pick : ℕ) (target : Target) → GoesLowest picture.shown (forwarded picture pick target)
+forwarded_takes picture pick (One name) = named_takes picture pick name
+forwarded_takes picture pick (Weighted clusters) = named_takes picture (pick / weight_sum clusters) (name_picked clusters pick)
+forwarded_takes picture pick elsewhere = tt
 
-acted_takes : (picture : Picture) (pick listener : ℕ) (action : Action) → TakesLowest picture.shown (acted picture pick listener action)
-acted_takes picture pick listener (Forward target) = forwarded_takes picture pick listener target
-acted_takes picture pick listener redirect = tt
-acted_takes picture pick listener (local status) = tt
-acted_takes picture pick listener by_filter = tt
+acted_takes : (picture : Picture) (pick : ℕ) (action : Action) → GoesLowest picture.shown (acted picture pick action)
+acted_takes picture pick (Forward target) = forwarded_takes picture pick target
+acted_takes picture pick redirect = tt
+acted_takes picture pick (local status) = tt
+acted_takes picture pick by_filter = tt
 
-by_word_takes : (picture : Picture) (pick listener : ℕ) (action : Action) (said : Taken) → TakesLowest picture.shown (by_word picture pick listener action said)
-by_word_takes picture pick listener action No = tt
-by_word_takes picture pick listener action Yes = acted_takes picture pick listener action
-by_word_takes picture pick listener action undecided = tt
+by_word_takes : (picture : Picture) (pick : ℕ) (action : Action) (said : Taken) → GoesLowest picture.shown (by_word picture pick action said)
+by_word_takes picture pick action No = tt
+by_word_takes picture pick action Yes = acted_takes picture pick action
+by_word_takes picture pick action undecided = tt
 
-by_route_takes : (picture : Picture) (ask : Ask) (listener : ℕ) (route : Option Route) → TakesLowest picture.shown (by_route picture ask listener route)
-by_route_takes picture ask listener None = tt
-by_route_takes picture ask listener (Some route) = by_word_takes picture ask.pick listener route.action (match_says (requested_of ask) route.route_match)
+by_route_takes : (picture : Picture) (ask : Ask) (route : Option Route) → GoesLowest picture.shown (by_route picture ask route)
+by_route_takes picture ask None = tt
+by_route_takes picture ask (Some route) = by_word_takes picture ask.pick route.action (match_says (requested_of ask) route.route_match)
 
-by_host_takes : (picture : Picture) (ask : Ask) (listener : ℕ) (host : Option VirtualHost) → TakesLowest picture.shown (by_host picture ask listener host)
-by_host_takes picture ask listener None = tt
-by_host_takes picture ask listener (Some host) = by_route_takes picture ask listener (route_for host (requested_of ask))
+by_host_takes : (picture : Picture) (ask : Ask) (host : Option VirtualHost) → GoesLowest picture.shown (by_host picture ask host)
+by_host_takes picture ask None = tt
+by_host_takes picture ask (Some host) = by_route_takes picture ask (route_for host (requested_of ask))
 
-by_routing_takes : (picture : Picture) (ask : Ask) (listener : ℕ) (routing : Routing) → TakesLowest picture.shown (by_routing picture ask listener routing)
-by_routing_takes picture ask listener (Table table) = by_host_takes picture ask listener (virtual_host_for table ask.host)
-by_routing_takes picture ask listener (Tcp target) = forwarded_takes picture ask.pick listener target
-by_routing_takes picture ask listener Other = tt
+by_routing_takes : (picture : Picture) (ask : Ask) (routing : Routing) → GoesLowest picture.shown (by_routing picture ask routing)
+by_routing_takes picture ask (Table table) = by_host_takes picture ask (virtual_host_for table ask.host)
+by_routing_takes picture ask (Tcp target) = forwarded_takes picture ask.pick target
+by_routing_takes picture ask Other = tt
 
-by_chain_takes : (picture : Picture) (ask : Ask) (listener : ℕ) (routing : Option Routing) → TakesLowest picture.shown (by_chain picture ask listener routing)
+course_takes : (picture : Picture) (ask : Ask) (chain : ServedChain) → GoesLowest picture.shown (course_of picture ask chain)
+course_takes picture ask chain = by chain.lacks_secret
+  where
+    by : (b : Bool) → GoesLowest picture.shown (cond b (NoSecret None) (by_routing picture ask chain.routing))
+    by true = tt
+    by false = by_routing_takes picture ask chain.routing
+
+by_chain_takes : (picture : Picture) (ask : Ask) (listener : ℕ) (chain : Option ServedChain) → TakesLowest picture.shown (by_chain picture ask listener chain)
 by_chain_takes picture ask listener None = tt
-by_chain_takes picture ask listener (Some routing) = by_routing_takes picture ask listener routing
+by_chain_takes picture ask listener (Some chain) = course_takes picture ask chain
 
 by_chains_takes : (picture : Picture) (ask : Ask) (listener : ServedListener) (incoming : Incoming) (chains : List ServedChain)
     → TakesLowest picture.shown (by_chains picture ask listener incoming chains)
 by_chains_takes picture ask listener incoming chains = by (lacks_source incoming chains)
   where
-    routing : Option Routing
-    routing = routing_left chains listener.default_filter_chain
+    chain : Option ServedChain
+    chain = chain_left chains listener.default_filter_chain
 
-    by : (b : Bool) → TakesLowest picture.shown (cond b (Undecided listener.number) (by_chain picture ask listener.number routing))
+    by : (b : Bool) → TakesLowest picture.shown (cond b (On listener.number None None Undecided) (by_chain picture ask listener.number chain))
     by true = tt
-    by false = by_chain_takes picture ask listener.number routing
+    by false = by_chain_takes picture ask listener.number chain
 
 by_reached_takes : (picture : Picture) (ask : Ask) (reached : Reached) → TakesLowest picture.shown (by_reached picture ask reached)
 by_reached_takes picture ask reached =

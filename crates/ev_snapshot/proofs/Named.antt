@@ -1,9 +1,10 @@
 -- A choice names only generations that the picture shows.
-use Rattle.std.proofs.Common.{◌≡◌, ℕ, ◌&&◌, ◌||◌, ◌==◌, ◌/◌, Bool, true, false, cond, List, [], ◌∷◌, codes, Option, Some, None, filter, find, map, not, unwrap_or, refl, sym, ap, ◌∙◌, arith}
-use Rattle.std.specs.List.{list_any}
+use Rattle.std.proofs.Common.{◌≡◌, ℕ, ◌&&◌, ◌||◌, ◌==◌, ◌/◌, Bool, true, false, cond, List, [], ◌∷◌, codes, Option, Some, None, filter, find, map, not, option_to_list, unwrap_or, refl, sym, ap, ◌∙◌, arith}
+use Rattle.std.specs.List.{list_all, list_any}
 use Rattle.std.specs.Option.{option_or}
 use Rattle.std.proofs.lemmas.Grind.{common_steps}
 use Rattle.std.proofs.lemmas.List.Folds.{list_any-append}
+use Rattle.std.specs.Str.{bytes_eq}
 use Rattle.ev_types.specs.SameHosts.{host_same}
 use Rattle.ev_types.specs.Weights.{weight_sum}
 use Rattle.ev_types.specs.declared.events.Ask.{Ask}
@@ -16,18 +17,22 @@ use Rattle.ev_types.specs.declared.routes.Route.{Route}
 use Rattle.ev_types.specs.declared.routes.Target.{Target}
 use Rattle.ev_types.specs.declared.routes.Target.TheVariants.{One, Weighted, Elsewhere as elsewhere}
 use Rattle.ev_types.specs.declared.routes.VirtualHost.{VirtualHost}
-use Rattle.std.specs.Str.{bytes_eq}
-use Rattle.ev_model.specs.Choice.{Reached, acted, by_chain, by_chains, by_host, by_listener, by_reached, by_route, by_routing, by_word, choice_in, choice_of, cluster_named, delivered_of, forwarded, host_place, in_cluster, incoming_of, listener_at, listener_for, listener_for_every, listener_of_any, meant_of, name_picked, reached_by, requested_of, route_for, routing_left, served_at, streams, virtual_host_for}
+use Rattle.ev_types.specs.declared.ways.Way.TheVariants.{Undecided, Elsewhere, NoEndpoint, NoSecret}
+use Rattle.ev_model.specs.Choice.{Course, Reached, acted, by_chain, by_chains, by_host, by_listener, by_reached, by_route, by_routing, by_secrets, by_word, chain_left, choice_of, cluster_named, course_in, course_of, delivered_of, forwarded, has_no_host, host_place, in_cluster, incoming_of, listener_at, listener_for, listener_for_every, listener_of_any, meant_of, name_picked, reached_by, requested_of, route_for, served_at, streams, to_host, virtual_host_for}
 use Rattle.ev_model.specs.Conditions.{match_says}
+use Rattle.ev_model.specs.Connections.{cluster_on}
 use Rattle.ev_model.specs.Narrowing.{Incoming, chains_left, lacks_source}
 use Rattle.ev_model.specs.Picture.{is_shown}
-use Rattle.ev_model.specs.declared.pictures.Choice.TheVariants.{Elsewhere, Undecided}
+use Rattle.ev_model.specs.declared.pictures.Choice.TheVariants.{On}
 use Rattle.ev_model.specs.declared.pictures.Picture.{Picture}
 use Rattle.ev_model.specs.declared.pictures.Routing.{Routing}
 use Rattle.ev_model.specs.declared.pictures.Routing.TheVariants.{Table, Tcp, Other}
+use Rattle.ev_model.specs.declared.pictures.Secrets.{Secrets}
+use Rattle.ev_model.specs.declared.pictures.Secrets.TheVariants.{There, Missing, Unknown}
 use Rattle.ev_model.specs.declared.pictures.ServedChain.{ServedChain}
 use Rattle.ev_model.specs.declared.pictures.ServedCluster.{ServedCluster}
 use Rattle.ev_model.specs.declared.pictures.ServedListener.{ServedListener}
+use Rattle.ev_model.specs.declared.pictures.Shown.{Shown}
 use Rattle.ev_model.specs.declared.pictures.Taken.{Taken}
 use Rattle.ev_model.specs.declared.pictures.Taken.TheVariants.{No, Yes, Undecided as undecided}
 use Rattle.ev_snapshot.specs.Chosen.{names_shown}
@@ -131,82 +136,98 @@ reached_shown picture ask listener l = by listener.restores listener.hands_over
     by true false = l
     by false hands_over = l
 
-one_shown : (a : Bool) → a ≡ true → a && true ≡ true
-one_shown a t = both a true t refl
+-- the cluster that a course names, if it names one, is shown
+abbrev IsCourseShown : Shown → Course → Type 0
+IsCourseShown shown course = list_all (λ number. is_shown number shown) (option_to_list (cluster_on course)) ≡ true
 
-served_shown : (picture : Picture) (listener cluster : ℕ) (place : Option ℕ) → is_shown listener picture.shown ≡ true → is_shown cluster picture.shown ≡ true
-    → names_shown picture.shown (served_at listener cluster place) ≡ true
-served_shown picture listener cluster None l c = one_shown (is_shown listener picture.shown) l
-served_shown picture listener cluster (Some place) l c =
-    both (is_shown listener picture.shown) (is_shown cluster picture.shown && true) l (one_shown (is_shown cluster picture.shown) c)
+one_shown : (shown : Shown) (number : ℕ) → is_shown number shown ≡ true → list_all (λ n. is_shown n shown) (number ∷ []) ≡ true
+one_shown shown number so = both (is_shown number shown) true so refl
 
-in_cluster_shown : (picture : Picture) (listener : ℕ) (cluster : ServedCluster) (pick : ℕ) → is_shown listener picture.shown ≡ true
-    → is_shown cluster.number picture.shown ≡ true → names_shown picture.shown (in_cluster listener cluster pick) ≡ true
-in_cluster_shown picture listener cluster pick l c = by cluster.elsewhere
+served_shown : (shown : Shown) (cluster : ℕ) (place : Option ℕ) → is_shown cluster shown ≡ true → IsCourseShown shown (served_at cluster place)
+served_shown shown cluster None c = refl
+served_shown shown cluster (Some place) c = one_shown shown cluster c
+
+to_host_shown : (shown : Shown) (cluster : ServedCluster) (pick : ℕ) → is_shown cluster.number shown ≡ true → IsCourseShown shown (to_host cluster pick)
+to_host_shown shown cluster pick c = by cluster.elsewhere
   where
-    by : (b : Bool) → names_shown picture.shown (cond b (Elsewhere listener (Some cluster.number)) (served_at listener cluster.number (host_place cluster.hosts pick))) ≡ true
-    by true = both (is_shown listener picture.shown) (is_shown cluster.number picture.shown && true) l (one_shown (is_shown cluster.number picture.shown) c)
-    by false = served_shown picture listener cluster.number (host_place cluster.hosts pick) l c
+    by : (b : Bool) → IsCourseShown shown (cond b (Elsewhere (Some cluster.number)) (served_at cluster.number (host_place cluster.hosts pick)))
+    by true = one_shown shown cluster.number c
+    by false = served_shown shown cluster.number (host_place cluster.hosts pick) c
 
-choice_in_shown : (picture : Picture) (listener : ℕ) (found : Option ServedCluster) (pick : ℕ) → is_shown listener picture.shown ≡ true
-    → ((c : ServedCluster) → found ≡ Some c → is_shown c.number picture.shown ≡ true) → names_shown picture.shown (choice_in listener found pick) ≡ true
-choice_in_shown picture listener None pick l c = one_shown (is_shown listener picture.shown) l
-choice_in_shown picture listener (Some cluster) pick l c = in_cluster_shown picture listener cluster pick l (c cluster refl)
+by_secrets_shown : (shown : Shown) (secrets : Secrets) (cluster : ServedCluster) (pick : ℕ) → is_shown cluster.number shown ≡ true
+    → IsCourseShown shown (by_secrets secrets cluster pick)
+by_secrets_shown shown There cluster pick c = to_host_shown shown cluster pick c
+by_secrets_shown shown Missing cluster pick c = one_shown shown cluster.number c
+by_secrets_shown shown Unknown cluster pick c = one_shown shown cluster.number c
 
-forwarded_shown : (picture : Picture) (pick listener : ℕ) (target : Target) → is_shown listener picture.shown ≡ true
-    → names_shown picture.shown (forwarded picture pick listener target) ≡ true
-forwarded_shown picture pick listener (One name) l =
-    choice_in_shown picture listener (cluster_named picture.shown.clusters name) pick l (cluster_shown picture name)
-forwarded_shown picture pick listener (Weighted clusters) l =
-    choice_in_shown picture listener (cluster_named picture.shown.clusters (name_picked clusters pick)) (pick / weight_sum clusters) l
+in_cluster_shown : (shown : Shown) (cluster : ServedCluster) (pick : ℕ) → is_shown cluster.number shown ≡ true → IsCourseShown shown (in_cluster cluster pick)
+in_cluster_shown shown cluster pick c = by (has_no_host cluster)
+  where
+    by : (b : Bool) → IsCourseShown shown (cond b NoEndpoint (by_secrets cluster.secrets cluster pick))
+    by true = refl
+    by false = by_secrets_shown shown cluster.secrets cluster pick c
+
+course_in_shown : (shown : Shown) (found : Option ServedCluster) (pick : ℕ)
+    → ((c : ServedCluster) → found ≡ Some c → is_shown c.number shown ≡ true) → IsCourseShown shown (course_in found pick)
+course_in_shown shown None pick c = refl
+course_in_shown shown (Some cluster) pick c = in_cluster_shown shown cluster pick (c cluster refl)
+
+forwarded_shown : (picture : Picture) (pick : ℕ) (target : Target) → IsCourseShown picture.shown (forwarded picture pick target)
+forwarded_shown picture pick (One name) =
+    course_in_shown picture.shown (cluster_named picture.shown.clusters name) pick (cluster_shown picture name)
+forwarded_shown picture pick (Weighted clusters) =
+    course_in_shown picture.shown (cluster_named picture.shown.clusters (name_picked clusters pick)) (pick / weight_sum clusters)
     (cluster_shown picture (name_picked clusters pick))
-forwarded_shown picture pick listener elsewhere l = one_shown (is_shown listener picture.shown) l
+forwarded_shown picture pick elsewhere = refl
 
-acted_shown : (picture : Picture) (pick listener : ℕ) (action : Action) → is_shown listener picture.shown ≡ true
-    → names_shown picture.shown (acted picture pick listener action) ≡ true
-acted_shown picture pick listener (Forward target) l = forwarded_shown picture pick listener target l
-acted_shown picture pick listener redirect l = one_shown (is_shown listener picture.shown) l
-acted_shown picture pick listener (local status) l = one_shown (is_shown listener picture.shown) l
-acted_shown picture pick listener by_filter l = one_shown (is_shown listener picture.shown) l
+acted_shown : (picture : Picture) (pick : ℕ) (action : Action) → IsCourseShown picture.shown (acted picture pick action)
+acted_shown picture pick (Forward target) = forwarded_shown picture pick target
+acted_shown picture pick redirect = refl
+acted_shown picture pick (local status) = refl
+acted_shown picture pick by_filter = refl
 
-by_word_shown : (picture : Picture) (pick listener : ℕ) (action : Action) (said : Taken) → is_shown listener picture.shown ≡ true
-    → names_shown picture.shown (by_word picture pick listener action said) ≡ true
-by_word_shown picture pick listener action No l = one_shown (is_shown listener picture.shown) l
-by_word_shown picture pick listener action Yes l = acted_shown picture pick listener action l
-by_word_shown picture pick listener action undecided l = one_shown (is_shown listener picture.shown) l
+by_word_shown : (picture : Picture) (pick : ℕ) (action : Action) (said : Taken) → IsCourseShown picture.shown (by_word picture pick action said)
+by_word_shown picture pick action No = refl
+by_word_shown picture pick action Yes = acted_shown picture pick action
+by_word_shown picture pick action undecided = refl
 
-by_route_shown : (picture : Picture) (ask : Ask) (listener : ℕ) (route : Option Route) → is_shown listener picture.shown ≡ true
-    → names_shown picture.shown (by_route picture ask listener route) ≡ true
-by_route_shown picture ask listener None l = one_shown (is_shown listener picture.shown) l
-by_route_shown picture ask listener (Some route) l =
-    by_word_shown picture ask.pick listener route.action (match_says (requested_of ask) route.route_match) l
+by_route_shown : (picture : Picture) (ask : Ask) (route : Option Route) → IsCourseShown picture.shown (by_route picture ask route)
+by_route_shown picture ask None = refl
+by_route_shown picture ask (Some route) = by_word_shown picture ask.pick route.action (match_says (requested_of ask) route.route_match)
 
-by_host_shown : (picture : Picture) (ask : Ask) (listener : ℕ) (host : Option VirtualHost) → is_shown listener picture.shown ≡ true
-    → names_shown picture.shown (by_host picture ask listener host) ≡ true
-by_host_shown picture ask listener None l = one_shown (is_shown listener picture.shown) l
-by_host_shown picture ask listener (Some host) l = by_route_shown picture ask listener (route_for host (requested_of ask)) l
+by_host_shown : (picture : Picture) (ask : Ask) (host : Option VirtualHost) → IsCourseShown picture.shown (by_host picture ask host)
+by_host_shown picture ask None = refl
+by_host_shown picture ask (Some host) = by_route_shown picture ask (route_for host (requested_of ask))
 
-by_routing_shown : (picture : Picture) (ask : Ask) (listener : ℕ) (routing : Routing) → is_shown listener picture.shown ≡ true
-    → names_shown picture.shown (by_routing picture ask listener routing) ≡ true
-by_routing_shown picture ask listener (Table table) l = by_host_shown picture ask listener (virtual_host_for table ask.host) l
-by_routing_shown picture ask listener (Tcp target) l = forwarded_shown picture ask.pick listener target l
-by_routing_shown picture ask listener Other l = one_shown (is_shown listener picture.shown) l
+by_routing_shown : (picture : Picture) (ask : Ask) (routing : Routing) → IsCourseShown picture.shown (by_routing picture ask routing)
+by_routing_shown picture ask (Table table) = by_host_shown picture ask (virtual_host_for table ask.host)
+by_routing_shown picture ask (Tcp target) = forwarded_shown picture ask.pick target
+by_routing_shown picture ask Other = refl
 
-by_chain_shown : (picture : Picture) (ask : Ask) (listener : ℕ) (routing : Option Routing) → is_shown listener picture.shown ≡ true
-    → names_shown picture.shown (by_chain picture ask listener routing) ≡ true
+course_shown : (picture : Picture) (ask : Ask) (chain : ServedChain) → IsCourseShown picture.shown (course_of picture ask chain)
+course_shown picture ask chain = by chain.lacks_secret
+  where
+    by : (b : Bool) → IsCourseShown picture.shown (cond b (NoSecret None) (by_routing picture ask chain.routing))
+    by true = refl
+    by false = by_routing_shown picture ask chain.routing
+
+by_chain_shown : (picture : Picture) (ask : Ask) (listener : ℕ) (chain : Option ServedChain) → is_shown listener picture.shown ≡ true
+    → names_shown picture.shown (by_chain picture ask listener chain) ≡ true
 by_chain_shown picture ask listener None l = refl
-by_chain_shown picture ask listener (Some routing) l = by_routing_shown picture ask listener routing l
+by_chain_shown picture ask listener (Some chain) l =
+    both (is_shown listener picture.shown) (list_all (λ number. is_shown number picture.shown) (option_to_list (cluster_on (course_of picture ask chain)))) l
+    (course_shown picture ask chain)
 
 by_chains_shown : (picture : Picture) (ask : Ask) (listener : ServedListener) (incoming : Incoming) (chains : List ServedChain)
     → is_shown listener.number picture.shown ≡ true → names_shown picture.shown (by_chains picture ask listener incoming chains) ≡ true
 by_chains_shown picture ask listener incoming chains l = by (lacks_source incoming chains)
   where
-    routing : Option Routing
-    routing = routing_left chains listener.default_filter_chain
+    chain : Option ServedChain
+    chain = chain_left chains listener.default_filter_chain
 
-    by : (b : Bool) → names_shown picture.shown (cond b (Undecided listener.number) (by_chain picture ask listener.number routing)) ≡ true
-    by true = one_shown (is_shown listener.number picture.shown) l
-    by false = by_chain_shown picture ask listener.number routing l
+    by : (b : Bool) → names_shown picture.shown (cond b (On listener.number None None Undecided) (by_chain picture ask listener.number chain)) ≡ true
+    by true = one_shown picture.shown listener.number l
+    by false = by_chain_shown picture ask listener.number chain l
 
 by_reached_shown : (picture : Picture) (ask : Ask) (reached : Reached) → is_shown reached.listener.number picture.shown ≡ true
     → names_shown picture.shown (by_reached picture ask reached) ≡ true

@@ -1,10 +1,10 @@
 -- The search for the first place where a running sum is above a number, from a place on.
 use Rattle.std.proofs.Common.{◌≡◌, ℕ, ◌+◌, ◌-◌, ◌<◌, ◌≤◌, Bool, true, false, cond, List, ◌∷◌, length, map, take, sum, find, None, Some, Option, arith, nat_lt, get_or, ap, ◌∙◌, subst, suc}
 use Rattle.std.specs.List.{range_with_len}
-use Rattle.ev_model.specs.Choice.{place_above}
 use Rattle.std.proofs.lemmas.Grind.{common_steps}
 use Rattle.std.proofs.lemmas.List.{get_or-map, length-map}
 use Rattle.std.proofs.lemmas.List.Sums.{sum_by_more, sum_by_more_le}
+use Rattle.ev_model.specs.Choice.{place_above}
 
 -- the first of the places from i on where the weights up to it, and its own, sum to more than n
 abbrev pub place_from : {X : Type 0} → (X → ℕ) → List X → ℕ → ℕ → Option ℕ

@@ -8,7 +8,8 @@ use Rattle.ev_model.specs.declared.pictures.Picture.{Picture}
 use Rattle.ev_model.specs.declared.pictures.ServedCluster.{ServedCluster}
 use Rattle.ev_model.specs.declared.pictures.ServedListener.{ServedListener}
 use Rattle.ev_model.specs.declared.pictures.Shown.{Shown}
-use Rattle.ev_snapshot.specs.Changes.{IsInOrder, IsOrdered, clusters_with, listeners_with, next_picture, picture_after, put_cluster, put_clusters, put_listener, put_listeners, shown_with, without}
+use Rattle.ev_layers.specs.Rows.{IsInOrder}
+use Rattle.ev_snapshot.specs.Changes.{IsOrdered, clusters_with, listeners_with, next_picture, picture_after, put_cluster, put_clusters, put_listener, put_listeners, shown_with, without}
 use Rattle.ev_snapshot.specs.Kept.{clusters_keep, listeners_keep}
 use Rattle.ev_snapshot.specs.declared.changes.Changes.{Changes}
 use Rattle.ev_snapshot.specs.declared.changes.ClusterChange.{ClusterChange}
@@ -16,19 +17,19 @@ use Rattle.ev_snapshot.specs.declared.changes.ListenerChange.{ListenerChange}
 use Rattle.ev_snapshot.proofs.Touched.{changes_keep_order, kept_all, kept_only, put_all, put_one}
 
 -- ---- clusters
-abbrev number : ServedCluster → ℕ
+abbrev pub number : ServedCluster → ℕ
 number c = c.number
 
-abbrev name : ServedCluster → List ℕ
+abbrev pub name : ServedCluster → List ℕ
 name c = c.name
 
-abbrev changed : ClusterChange → ℕ
+abbrev pub changed : ClusterChange → ℕ
 changed change = change.number
 
-abbrev served : ClusterChange → Option ServedCluster
+abbrev pub served : ClusterChange → Option ServedCluster
 served change = change.served
 
-clusters_put : (changes : List ClusterChange) (xs : List ServedCluster) → put_clusters changes xs ≡ put_all number name changed served changes xs
+pub clusters_put : (changes : List ClusterChange) (xs : List ServedCluster) → put_clusters changes xs ≡ put_all number name changed served changes xs
 clusters_put [] xs = refl
 clusters_put (c ∷ cs) xs = clusters_put cs (put_cluster c.served xs) ∙ ap (put_all number name changed served cs) (by c.served)
   where
@@ -50,19 +51,19 @@ clusters_same changes xs ys o e =
     (e ∙ clusters_put changes (without number (map changed changes) xs)) k))
 
 -- ---- listeners
-abbrev l_number : ServedListener → ℕ
+abbrev pub l_number : ServedListener → ℕ
 l_number l = l.number
 
-abbrev l_name : ServedListener → List ℕ
+abbrev pub l_name : ServedListener → List ℕ
 l_name l = l.name
 
-abbrev l_changed : ListenerChange → ℕ
+abbrev pub l_changed : ListenerChange → ℕ
 l_changed change = change.number
 
-abbrev l_served : ListenerChange → Option ServedListener
+abbrev pub l_served : ListenerChange → Option ServedListener
 l_served change = change.served
 
-listeners_put : (changes : List ListenerChange) (xs : List ServedListener) → put_listeners changes xs ≡ put_all l_number l_name l_changed l_served changes xs
+pub listeners_put : (changes : List ListenerChange) (xs : List ServedListener) → put_listeners changes xs ≡ put_all l_number l_name l_changed l_served changes xs
 listeners_put [] xs = refl
 listeners_put (c ∷ cs) xs = listeners_put cs (put_listener c.served xs) ∙ ap (put_all l_number l_name l_changed l_served cs) (by c.served)
   where

@@ -1,17 +1,16 @@
 -- Changes that keep what each name that they touch had keep all.
-use Rattle.std.proofs.Common.{◌≡◌, ◌∙◌, ℕ, ◌==◌, ◌||◌, ◌&&◌, ◌+◌, ◌<◌, suc, not, Bool, true, false, cond, List, [], ◌∷◌, filter, find, map, drop, length, get_or, Option, Some, None, refl, sym, ap, subst, true≢false, arith}
-use Rattle.std.proofs.Math.Seq.{drop-cons}
+use Rattle.std.proofs.Common.{◌≡◌, ◌∙◌, ℕ, ◌==◌, ◌||◌, ◌&&◌, not, Bool, true, false, cond, List, [], ◌∷◌, filter, find, map, Option, Some, None, refl, sym, ap, subst, true≢false}
 use Rattle.std.specs.Bool.{Decides}
 use Rattle.std.specs.List.{AllByRecursion, list_any, list_all}
 use Rattle.std.specs.Str.{bytes_eq}
 use Rattle.ev_types.specs.Same.{bytes_decide, numbers_decide}
 use Rattle.ev_model.specs.Picture.{has_number}
 use Rattle.ev_model.specs.Versions.{is_before}
-use Rattle.ev_snapshot.specs.Changes.{IsInOrder, IsPairwise, put_in, without}
-use Rattle.ev_snapshot.specs.Kept.{found_same, keeps, keeps_name, keeps_name_of, keeps_number, keeps_served}
-use Rattle.ev_snapshot.specs.Rows.{named, numbered, without_name, without_number}
-use Rattle.ev_snapshot.proofs.Order.{found_passes, one_list, same_name}
-use Rattle.ev_snapshot.proofs.Steps.{find_put, find_without, kept_order, no_name_left, no_number_left, other_way, put_both, put_order}
+use Rattle.ev_layers.specs.Rows.{IsInOrder, IsPairwise, put_in, named, numbered, without_name, without_number}
+use Rattle.ev_layers.specs.Kept.{found_same, keeps, keeps_name, keeps_name_of, keeps_number, keeps_served}
+use Rattle.ev_layers.proofs.Order.{found_passes, one_list, same_name}
+use Rattle.ev_layers.proofs.Steps.{find_put, find_without, kept_order, no_name_left, no_number_left, other_way, put_both, put_order}
+use Rattle.ev_snapshot.specs.Changes.{without}
 
 both_true : (a b : Bool) → a && b ≡ true → (a ≡ true) × (b ≡ true)
 both_true true b h = (refl, h)
@@ -73,15 +72,15 @@ module _ {C X : Type 0} (number : X → ℕ) (name : X → List ℕ) (changed : 
   put_all (c ∷ cs) xs = put_all cs (put_one (served c) xs)
 
   -- the name of what a search finds
-  abbrev touches_of : List ℕ → Option X → Bool
+  abbrev pub touches_of : List ℕ → Option X → Bool
   touches_of m None = false
   touches_of m (Some x) = bytes_eq (name x) m
 
-  abbrev touches_served : List X → List ℕ → Option X → Bool
+  abbrev pub touches_served : List X → List ℕ → Option X → Bool
   touches_served xs m None = false
   touches_served xs m (Some x) = touches_of m (numbered number xs (number x)) || bytes_eq (name x) m
 
-  abbrev touches : List X → List ℕ → C → Bool
+  abbrev pub touches : List X → List ℕ → C → Bool
   touches xs m c = touches_of m (numbered number xs (changed c)) || touches_served xs m (served c)
 
   -- ---- under a name that no change touches
@@ -132,6 +131,11 @@ module _ {C X : Type 0} (number : X → ℕ) (name : X → List ℕ) (changed : 
       by : (s : Option X) → touches_served xs m s ≡ false → Same xs (put_one s ys) m
       by None far = same
       by (Some x) far = put_same xs ys m x o same far
+
+  -- what no change touches under its name is found there afterwards
+  pub untouched : (xs : List X) (m : List ℕ) (cs : List C) → IsInOrder number name xs → list_any (touches xs m) cs ≡ false
+      → named name (put_all cs (without number (map changed cs) xs)) m ≡ named name xs m
+  untouched xs m cs o far = all_same xs (without number (map changed cs) xs) m cs o (gone_same xs m cs o far) far
 
   -- ---- under a name that a change touches
   module _ (same : X → X → Bool) (decide : (a b : X) → Decides (same a b) (a ≡ b)) where
@@ -231,11 +235,3 @@ module _ {C X : Type 0} (number : X → ℕ) (name : X → List ℕ) (changed : 
   pub without_none : (xs : List X) → without number (map changed []) xs ≡ xs
   without_none [] = refl
   without_none (x ∷ xs) = ap (λ ys. x ∷ ys) (without_none xs)
-
--- what is at a place is the first of what is left from there on
-pub drop_at : {A : Type 0} (xs : List A) (i : ℕ) (x : A) → i < length xs → x ≡ get_or xs i x → drop i xs ≡ x ∷ drop (i + 1) xs
-drop_at xs i x within is =
-    drop-cons xs i x within ∙ ap (λ n. get_or xs i x ∷ drop n xs) (next i) ∙ ap (λ (y : _). y ∷ drop (i + 1) xs) (sym is)
-  where
-    next : (j : ℕ) → suc j ≡ j + 1
-    next j = omega arith

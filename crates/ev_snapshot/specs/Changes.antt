@@ -1,19 +1,16 @@
--- What a publication changes. It names the generations of which a picture shows something else than the last one; of all others
--- it shows the same. So a publication costs what it changes, and not what it shows.
-use Rattle.std.specs.Prelude.{ℕ, ◌≡◌, ◌+◌, ◌==◌, ◌||◌, Bool, true, not, ⊤, if◌then◌else◌, List, [], ◌∷◌, filter, map, Option, Some, None}
+-- What a publication changes. It names the generations of which a picture shows something else than the last one; of
+-- all others it shows the same. So a publication costs what it changes, and not what it shows.
+use Rattle.std.specs.Prelude.{ℕ, ◌≡◌, ◌+◌, not, if◌then◌else◌, List, [], ◌∷◌, filter, map, Option, Some, None}
 use Rattle.std.specs.Arc.{arc_value}
 use Rattle.std.specs.declared.sync.Arc.{Arc}
-use Rattle.std.specs.List.{AllByRecursion}
 use Rattle.std.specs.Option.{option_map}
-use Rattle.std.specs.Str.{bytes_eq}
 use Rattle.ev_model.specs.Picture.{has_number, shown_same}
-use Rattle.ev_model.specs.Sorted.{put_by}
-use Rattle.ev_model.specs.Versions.{is_before}
 use Rattle.ev_model.specs.World.{nothing_shown}
 use Rattle.ev_model.specs.declared.pictures.Picture.{Picture}
 use Rattle.ev_model.specs.declared.pictures.ServedCluster.{ServedCluster}
 use Rattle.ev_model.specs.declared.pictures.ServedListener.{ServedListener}
 use Rattle.ev_model.specs.declared.pictures.Shown.{Shown}
+use Rattle.ev_layers.specs.Rows.{IsInOrder, put_in}
 use Rattle.ev_snapshot.specs.declared.changes.Changes.{Changes}
 use Rattle.ev_snapshot.specs.declared.changes.ClusterChange.{ClusterChange}
 use Rattle.ev_snapshot.specs.declared.changes.ListenerChange.{ListenerChange}
@@ -21,12 +18,6 @@ use Rattle.ev_snapshot.specs.declared.changes.ListenerChange.{ListenerChange}
 -- the elements without those of these numbers
 abbrev pub without : {X : Type 0} → (X → ℕ) → List ℕ → List X → List X
 without number numbers xs = filter (λ x. not (has_number (number x) numbers)) xs
-
--- the elements with this one in the order of names, in place of those of its number or its name
-abbrev pub put_in : {X : Type 0} → (X → ℕ) → (X → List ℕ) → X → List X → List X
-put_in number name x xs =
-    put_by (λ one other. is_before (name one) (name other)) x
-    (filter (λ other. not ((number other == number x) || bytes_eq (name other) (name x))) xs)
 
 -- the clusters with this one, if there is one
 abbrev pub put_cluster : Option ServedCluster → List ServedCluster → List ServedCluster
@@ -89,16 +80,6 @@ picture_after changes picture =
 -- these changes of the picture make this next one of it, which is shared, or none
 abbrev pub IsNext : {Z : Type 0} → Changes → Picture → Option (Arc Picture Z) → Type 0
 IsNext changes picture next = option_map arc_value next ≡ picture_after changes picture
-
--- the test is true of each element and each one after it
-abbrev pub IsPairwise : {X : Type 0} → (X → X → Bool) → List X → Type 0
-IsPairwise test [] = ⊤
-IsPairwise test (x ∷ xs) = AllByRecursion (λ other. test x other ≡ true) xs × IsPairwise test xs
-
--- each name comes before the names after it, and no number occurs twice
-pub record IsInOrder {X : Type 0} (number : X → ℕ) (name : X → List ℕ) (xs : List X) : Type 0 where
-  pub names : IsPairwise (λ one other. is_before (name one) (name other)) xs
-  pub numbers : IsPairwise (λ one other. not (number one == number other)) xs
 
 -- clusters and listeners are in the order of their names, and no number occurs twice
 pub record IsOrdered (shown : Shown) : Type 0 where

@@ -3,13 +3,16 @@ use Rattle.std.specs.Prelude.{◌≡◌, ◌≤◌, ℕ, Bool, true, ⊤, All, C
 use Rattle.std.specs.List.{list_all}
 use Rattle.ev_types.specs.Statuses.{is_active}
 use Rattle.ev_types.specs.declared.rows.GenRow.{GenRow}
-use Rattle.ev_model.specs.World.{World}
-use Rattle.ev_model.specs.Warming.{assignment_of, is_eligible}
 use Rattle.ev_types.specs.Hosts.{HostRowParts}
 use Rattle.ev_types.specs.declared.hosts.Host.{Host}
+use Rattle.ev_types.specs.declared.ways.Way.TheVariants.{Undecided, Elsewhere, NoRoute, Local, Redirect, NoCluster, NoEndpoint, NoSecret, Served}
+use Rattle.ev_model.specs.Choice.{Course}
+use Rattle.ev_model.specs.Connections.{cluster_on}
+use Rattle.ev_model.specs.World.{World}
+use Rattle.ev_model.specs.Warming.{assignment_of, is_eligible}
 use Rattle.ev_model.specs.Picture.{is_shown}
 use Rattle.ev_model.specs.declared.pictures.Choice.{Choice}
-use Rattle.ev_model.specs.declared.pictures.Choice.TheVariants.{NoListener, NoChain, Undecided, Elsewhere, NoRoute, Local, Redirect, NoCluster, NoEndpoint, Served}
+use Rattle.ev_model.specs.declared.pictures.Choice.TheVariants.{NoListener, NoChain, On}
 use Rattle.ev_model.specs.declared.pictures.Picture.{Picture}
 use Rattle.ev_model.specs.declared.pictures.Shown.{Shown}
 use Rattle.ev_model.specs.declared.pictures.ServedCluster.{ServedCluster}
@@ -24,18 +27,11 @@ placed_host (Some cluster) place = option_map (λ (r : HostRowParts). r.host) (s
 abbrev pub host_of : Picture → ℕ → ℕ → Option Host
 host_of picture number place = placed_host (cluster_numbered picture.shown.clusters number) place
 
--- the numbers of the generations that a choice names
+-- the numbers of the generations that a choice names: the listener's, and the cluster's, if the connection is on one
 abbrev pub numbers_named : Choice → List ℕ
 numbers_named NoListener = []
 numbers_named NoChain = []
-numbers_named (Undecided listener) = listener ∷ []
-numbers_named (Elsewhere listener cluster) = listener ∷ option_to_list cluster
-numbers_named (NoRoute listener) = listener ∷ []
-numbers_named (Local listener status) = listener ∷ []
-numbers_named (Redirect listener) = listener ∷ []
-numbers_named (NoCluster listener) = listener ∷ []
-numbers_named (NoEndpoint listener) = listener ∷ []
-numbers_named (Served listener cluster host) = listener ∷ cluster ∷ []
+numbers_named (On listener chain origin course) = listener ∷ option_to_list (cluster_on course)
 
 -- all of them are shown
 abbrev pub names_shown : Shown → Choice → Bool
@@ -46,38 +42,51 @@ pub record IsLowestAt (hosts : List HostRowParts) (place : ℕ) (host : HostRowP
   pub there : slice_get hosts place ≡ Some host
   pub lowest : All (λ (other : HostRowParts). host.priority ≤ other.priority) hosts
 
--- where a choice goes to a host, a cluster of its number is shown with the host at its place, and with none of a lower priority
-abbrev pub TakesLowest : Shown → Choice → Type 0
-TakesLowest shown NoListener = ⊤
-TakesLowest shown NoChain = ⊤
-TakesLowest shown (Undecided listener) = ⊤
-TakesLowest shown (Elsewhere listener cluster) = ⊤
-TakesLowest shown (NoRoute listener) = ⊤
-TakesLowest shown (Local listener status) = ⊤
-TakesLowest shown (Redirect listener) = ⊤
-TakesLowest shown (NoCluster listener) = ⊤
-TakesLowest shown (NoEndpoint listener) = ⊤
-TakesLowest shown (Served listener number place) =
+-- where a course goes to a host, a cluster of its number is shown with the host at its place, and with none of a lower
+-- priority
+abbrev pub GoesLowest : Shown → Course → Type 0
+GoesLowest shown Undecided = ⊤
+GoesLowest shown (Elsewhere cluster) = ⊤
+GoesLowest shown NoRoute = ⊤
+GoesLowest shown (Local status) = ⊤
+GoesLowest shown Redirect = ⊤
+GoesLowest shown NoCluster = ⊤
+GoesLowest shown NoEndpoint = ⊤
+GoesLowest shown (NoSecret cluster) = ⊤
+GoesLowest shown (Served number place) =
     (cluster : ServedCluster) × (host : HostRowParts)
     × Contains shown.clusters cluster × (cluster.number ≡ number) × IsLowestAt cluster.hosts place host
 
--- the row serves in the world, the host at this place of its eligible ones is this one, and no eligible one has a lower priority
+-- the same of a choice
+abbrev pub TakesLowest : Shown → Choice → Type 0
+TakesLowest shown NoListener = ⊤
+TakesLowest shown NoChain = ⊤
+TakesLowest shown (On listener chain origin course) = GoesLowest shown course
+
+-- the row serves in the world, the host at this place of its eligible ones is this one, and no eligible one has a
+-- lower priority
 pub record IsBestHost (world : World) (row : GenRow) (place : ℕ) (host : HostRowParts) : Type 0 where
   pub known : Contains world.rows row
   pub serves : is_active row.status ≡ true
   pub eligible : is_eligible world row host ≡ true
   pub lowest : IsLowestAt (filter (is_eligible world row) (assignment_of world row)) place host
 
--- where a choice goes to a host, it is an eligible one of its generation in the world, of the lowest priority that has one
+-- where a course goes to a host, it is an eligible one of its generation in the world, of the lowest priority that has
+-- one
+abbrev pub GoesEligible : World → Course → Type 0
+GoesEligible world Undecided = ⊤
+GoesEligible world (Elsewhere cluster) = ⊤
+GoesEligible world NoRoute = ⊤
+GoesEligible world (Local status) = ⊤
+GoesEligible world Redirect = ⊤
+GoesEligible world NoCluster = ⊤
+GoesEligible world NoEndpoint = ⊤
+GoesEligible world (NoSecret cluster) = ⊤
+GoesEligible world (Served number place) =
+    (row : GenRow) × (host : HostRowParts) × (row.number ≡ number) × IsBestHost world row place host
+
+-- the same of a choice
 abbrev pub TakesEligible : World → Choice → Type 0
 TakesEligible world NoListener = ⊤
 TakesEligible world NoChain = ⊤
-TakesEligible world (Undecided listener) = ⊤
-TakesEligible world (Elsewhere listener cluster) = ⊤
-TakesEligible world (NoRoute listener) = ⊤
-TakesEligible world (Local listener status) = ⊤
-TakesEligible world (Redirect listener) = ⊤
-TakesEligible world (NoCluster listener) = ⊤
-TakesEligible world (NoEndpoint listener) = ⊤
-TakesEligible world (Served listener number place) =
-    (row : GenRow) × (host : HostRowParts) × (row.number ≡ number) × IsBestHost world row place host
+TakesEligible world (On listener chain origin course) = GoesEligible world course

@@ -1,14 +1,5 @@
-pub mod Domains
-pub mod Paths
-pub mod Indexed
-pub mod RangeCriteria
-pub mod Unnarrowed
-pub mod Wanted
-pub mod Requests
-pub mod Tables
-pub mod Chosen
 pub mod Changes
-pub mod Layers
-pub mod Rows
-pub mod Groups
+pub mod Chosen
+pub mod Tables
 pub mod Kept
+pub mod Touched

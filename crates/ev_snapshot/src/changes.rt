@@ -16,8 +16,8 @@ pub struct ListenerChange {
     pub served: Option<ServedListener>,
 }
 
-/// What a publication changes: the generations of which another cluster or listener is shown from now on, or none. Of all others
-/// the same is shown as before.
+/// What a publication changes: the generations of which another cluster or listener is shown from now on, or none. Of
+/// all others the same is shown as before.
 #[derive(Drop)]
 pub struct Changes {
     pub clusters: Seq<ClusterChange>,

@@ -4,11 +4,10 @@ ghost use Rattle.ev_snapshot.specs.Changes.{clusters_with, clusters_without, lis
 ghost use Rattle.ev_snapshot.specs.Kept.{all_keep, clusters_keep, listeners_keep, served_cluster_keeps, served_listener_keeps};
 
 use crate::changes::{Changes, ClusterChange, ListenerChange};
-use crate::listeners::Listeners;
-use crate::routed::RoutedListener;
-use crate::rows::Rows;
 use ev_hosts::ShownCluster;
 use ev_keys::Keys;
+use ev_layers::Rows;
+use ev_listeners::{Listeners, RoutedListener};
 use ev_model::ServedListener;
 use ev_types::{Shared, TryCopy};
 use std::alloc::{AllocError, Global};
@@ -32,7 +31,8 @@ impl Parts {
         })
     }
 
-    /// Makes layers of what lies over those of the tables, so that copies share them. All is as before, also out of memory.
+    /// Makes layers of what lies over those of the tables, so that copies share them. All is as before, also out of
+    /// memory.
     pub(crate) fn settle(&mut self, alloc: Global) -> Result<(), AllocError>
         ensures clusters { self.new.clusters ≡ self.old.clusters }
         ensures listeners { self.new.listeners ≡ self.old.listeners }

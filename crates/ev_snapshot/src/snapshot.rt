@@ -1,38 +1,34 @@
-ghost use Rattle.std.specs.Prelude.{◌≡◌, ◌+◌, true, Some, IfOk};
+ghost use Rattle.std.specs.Prelude.{◌≡◌, ◌+◌, ◌==◌, true, None, Some, IfOk, find, length, option_map};
 ghost use Rattle.std.specs.Arc.{arc_value};
 ghost use Rattle.std.specs.Option.{option_copied};
-ghost use Rattle.ev_model.specs.Choice.{acted, by_chain, by_host, by_listener, by_reached, by_route, by_routing, choice_in, choice_of, cluster_named, forwarded, in_cluster, taker_of};
-ghost use Rattle.ev_model.specs.declared.pictures.ServedCluster.{ServedCluster};
-ghost use Rattle.ev_model.specs.declared.pictures.ServedListener.{ServedListener};
+ghost use Rattle.ev_model.specs.Choice.{acted, by_chain, by_host, by_listener, by_reached, by_route, by_routing, by_secrets, choice_of, cluster_named, course_in, course_of, forwarded, has_no_host, in_cluster, taker_of, to_host};
+ghost use Rattle.ev_model.specs.Connections.{is_chain_shown, next_listener, shows_chain};
 ghost use Rattle.ev_model.specs.Picture.{is_shown, shown_of};
-ghost use Rattle.ev_model.specs.World.{World};
+ghost use Rattle.ev_model.specs.World.{OpenMember, World};
+ghost use Rattle.ev_model.specs.declared.pictures.ServedListener.{ServedListener};
 ghost use Rattle.ev_snapshot.specs.Changes.{IsNext, IsOrdered, empty_picture, picture_after};
 ghost use Rattle.ev_snapshot.specs.Chosen.{TakesEligible, TakesLowest, host_of, names_shown};
 
 use crate::changes::Changes;
-use crate::conditions::match_says;
-use crate::criteria::Criteria;
-use crate::local_ends::LocalEnd;
-use crate::names::Row;
 use crate::parts::{Parts, keep_all, parts_with};
-use crate::routed::RoutedListener;
-use crate::routed_chain::IndexedRouting;
-use crate::routed_host::RoutedHost;
 use crate::targets::{name_picked, weight_sum};
-use ev_hosts::ShownCluster;
+use ev_hosts::{ChosenHosts, ShownCluster};
 use ev_keys::Keys;
-use ev_model::{Choice, Routing, Taken};
-use ev_types::{Action, Ask, Gen, Host, Route, Target};
+use ev_layers::Row;
+use ev_listeners::{Criteria, LocalEnd, RoutedChain, RoutedListener};
+use ev_model::{Choice, Routing, Secrets, Taken};
+use ev_routes::{IndexedRouting, RoutedHost, match_says, route_for};
+use ev_types::{Action, Ask, Gen, Host, Origin, Route, Target, Way};
 use std::alloc::{AllocError, Global};
 use std::marker::Model;
 use std::sync::Arc;
 
-/// What a worker serves from: a picture, with the tables by which the way of a connection is found. Contracts see the picture.
-/// Its clusters and listeners are shared with the snapshots before and after it that show the same.
+/// What a worker serves from: a picture, with the tables by which the way of a connection is found. Contracts see the
+/// picture. Its clusters and listeners are shared with the snapshots before and after it that show the same.
 #[derive(Drop)]
 pub struct Snapshot {
-    version: u64,
-    parts: Parts,
+    pub(crate) version: u64,
+    pub(crate) parts: Parts,
 }
 
 impl Model for Snapshot {
@@ -47,7 +43,8 @@ impl Model for Snapshot {
 }
 
 impl Snapshot {
-    /// The snapshot of picture 0, which shows nothing. Its tables hash by these keys, and so do those of each snapshot after it.
+    /// The snapshot of picture 0, which shows nothing. Its tables hash by these keys, and so do those of each
+    /// snapshot after it.
     pub fn empty(alloc: Global, keys: Keys) -> Result<Arc<Snapshot>, AllocError>
         ensures picture { IfOk result (λ snapshot. arc_value snapshot ≡ empty_picture) }
     {
@@ -58,8 +55,9 @@ impl Snapshot {
         Ok(Arc::new(alloc, empty)?)
     }
 
-    /// The snapshot after these changes, under the next version; where it shows what the one before shows, there is none. It
-    /// shares what didn't change with the one before, and costs what changed. Out of memory also where versions are used up.
+    /// The snapshot after these changes, under the next version; where it shows what the one before shows, there is
+    /// none. It shares what didn't change with the one before, and costs what changed. Out of memory also where
+    /// versions are used up.
     pub fn next(
         alloc: Global,
         before: &Arc<Snapshot>,
@@ -96,13 +94,43 @@ impl Snapshot {
         self.version
     }
 
-    /// Whether it shows the generation of this number, as a cluster or as a listener. It looks two numbers up, and goes through
-    /// no list.
+    /// Whether it shows the generation of this number, as a cluster or as a listener. It looks two numbers up, and
+    /// goes through no list.
     #[tactic(auto, using(crate::proofs::Numbered::shown_parts))]
     pub fn shows(&self, number: Gen) -> bool
         ensures { result ≡ is_shown number self.now.shown }
     {
         self.parts.clusters.has(number) || self.parts.listeners.has(number)
+    }
+
+    /// The number of the first listener that has a chain which began there, if there is one. It takes one look-up.
+    pub fn listener_with(&self, origin: Option<Origin>) -> Option<Gen>
+        ensures { result
+            ≡ option_map (λ (l : ServedListener). l.number) (find (shows_chain origin) self.now.shown.listeners) }
+    {
+        match self.parts.listeners.with_chain(origin) {
+            Some(listener) => Some(listener.number()),
+            None => None,
+        }
+    }
+
+    /// Whether a listener has a chain which began there. It takes one look-up.
+    pub fn shows_chain(&self, origin: Option<Origin>) -> bool
+        ensures { result ≡ is_chain_shown origin self.now.shown }
+    {
+        self.listener_with(origin).is_some()
+    }
+
+    /// The listener that a connection on this one moves to, whose chain began there: where its own isn't shown, the one
+    /// that has its chain, if there is one. It takes three look-ups at most.
+    pub fn next_listener(&self, listener: Gen, origin: Option<Origin>) -> Option<Gen>
+        ensures { (m : OpenMember) → m.listener ≡ listener → m.origin ≡ origin
+            → result ≡ option_map (λ (l : ServedListener). l.number) (next_listener self.now.shown m) }
+    {
+        if self.shows(listener) {
+            return None;
+        }
+        self.listener_with(origin)
     }
 
     /// The host at a place of the cluster of this number, as `choose` answers both.
@@ -115,9 +143,9 @@ impl Snapshot {
         served.get().hosts.host(place)
     }
 
-    /// Where a connection goes: by the listener that takes it, the filter chain that is left for it, the virtual host and the first route that
-    /// doesn't say no to its host text, path and headers, the weights of the route's clusters, and the lowest priority and the
-    /// weights of the cluster's hosts. It takes no memory.
+    /// Where a connection goes: by the listener that takes it, the filter chain that is left for it, the virtual host
+    /// and the first route that doesn't say no to its host text, path and headers, the weights of the route's
+    /// clusters, and the lowest priority and the weights of the cluster's hosts. It takes no memory.
     #[tactic(auto, using(crate::proofs::Named::choice_shown, crate::proofs::Lowest::choice_takes_lowest, crate::proofs::Eligible::takes_eligible))]
     pub fn choose(&self, ask: &Ask) -> Choice
         ensures choice { result ≡ choice_of self.now ask.now }
@@ -174,107 +202,114 @@ impl Snapshot {
         let chains = listener.filter_chains();
         let criteria = Criteria::of(chains, ask, local_end);
         if criteria.lack_source(chains, ask) {
-            return Choice::Undecided {
-                listener: listener.number(),
-            };
+            return leave_undecided(listener.number());
         }
-        self.choose_by_chain(listener.number(), listener.routing_left(&criteria), ask)
+        self.choose_by_chain(listener.number(), listener.chain_left(&criteria), ask)
     }
 
-    // The choice with what the chain that is left serves.
-    fn choose_by_chain(&self, listener: Gen, routing: Option<&IndexedRouting>, ask: &Ask) -> Choice
-        ensures { result ≡ by_chain self.now ask.now listener (option_copied routing.entry) }
+    // The choice with the chain that is left.
+    fn choose_by_chain(&self, listener: Gen, chain: Option<&RoutedChain>, ask: &Ask) -> Choice
+        ensures { result ≡ by_chain self.now ask.now listener (option_copied chain.entry) }
     {
-        match routing {
-            Some(routing) => self.choose_by_routing(listener, routing, ask),
+        match chain {
+            Some(chain) => Choice::On {
+                listener,
+                chain: chain.place(),
+                origin: chain.origin(),
+                way: self.go_by_chain(chain, ask),
+            },
             None => Choice::NoChain,
         }
     }
 
-    // The choice with a routing.
-    fn choose_by_routing(&self, listener: Gen, routing: &IndexedRouting, ask: &Ask) -> Choice
-        ensures { result ≡ by_routing self.now ask.now listener routing.now }
+    // The way by a chain: without a secret of its own no handshake succeeds, whatever it serves.
+    fn go_by_chain(&self, chain: &RoutedChain, ask: &Ask) -> Way<u32>
+        ensures { result ≡ course_of self.now ask.now chain.now }
+    {
+        if chain.lacks_secret() {
+            return Way::NoSecret { cluster: None };
+        }
+        self.go_by_routing(chain.routing(), ask)
+    }
+
+    // The way by a routing.
+    fn go_by_routing(&self, routing: &IndexedRouting, ask: &Ask) -> Way<u32>
+        ensures { result ≡ by_routing self.now ask.now routing.now }
     {
         match routing.routing() {
-            Routing::Table(_) => {
-                self.choose_by_host(listener, routing.virtual_host(ask.host.as_str()), ask)
-            }
-            Routing::Tcp(target) => self.forward(listener, target, ask.pick),
-            Routing::Other => Choice::Elsewhere {
-                listener,
-                cluster: None,
-            },
+            Routing::Table(_) => self.go_by_host(routing.virtual_host(ask.host.as_str()), ask),
+            Routing::Tcp(target) => self.forward(target, ask.pick),
+            Routing::Other => Way::Elsewhere { cluster: None },
         }
     }
 
-    // The choice with the virtual host.
-    fn choose_by_host(&self, listener: Gen, host: Option<&RoutedHost>, ask: &Ask) -> Choice
-        ensures { result ≡ by_host self.now ask.now listener (option_copied host.entry) }
+    // The way by a virtual host.
+    fn go_by_host(&self, host: Option<&RoutedHost>, ask: &Ask) -> Way<u32>
+        ensures { result ≡ by_host self.now ask.now (option_copied host.entry) }
     {
         match host {
-            Some(host) => self.choose_by_route(listener, host.route_for(ask), ask),
-            None => Choice::NoRoute { listener },
+            Some(host) => self.go_by_route(route_for(host, ask), ask),
+            None => Way::NoRoute,
         }
     }
 
-    // The choice with the route.
-    fn choose_by_route(&self, listener: Gen, route: Option<&Route>, ask: &Ask) -> Choice
-        ensures { result ≡ by_route self.now ask.now listener (option_copied route.entry) }
+    // The way by a route.
+    fn go_by_route(&self, route: Option<&Route>, ask: &Ask) -> Way<u32>
+        ensures { result ≡ by_route self.now ask.now (option_copied route.entry) }
     {
         let Some(route) = route else {
-            return Choice::NoRoute { listener };
+            return Way::NoRoute;
         };
         match match_says(ask, &route.route_match) {
-            Taken::No => Choice::NoRoute { listener },
-            Taken::Yes => self.act(listener, &route.action, ask.pick),
-            Taken::Undecided => Choice::Undecided { listener },
+            Taken::No => Way::NoRoute,
+            Taken::Yes => self.act(&route.action, ask.pick),
+            Taken::Undecided => Way::Undecided,
         }
     }
 
-    // The choice with the action.
-    fn act(&self, listener: Gen, action: &Action, pick: u64) -> Choice
-        ensures { result ≡ acted self.now pick listener action.now }
+    // The way by an action.
+    fn act(&self, action: &Action, pick: u64) -> Way<u32>
+        ensures { result ≡ acted self.now pick action.now }
     {
         match action {
-            Action::Forward(target) => self.forward(listener, target, pick),
-            Action::Redirect => Choice::Redirect { listener },
-            Action::Local(status) => Choice::Local {
-                listener,
-                status: *status,
-            },
-            Action::Elsewhere => Choice::Elsewhere {
-                listener,
-                cluster: None,
-            },
+            Action::Forward(target) => self.forward(target, pick),
+            Action::Redirect => Way::Redirect,
+            Action::Local(status) => Way::Local { status: *status },
+            Action::Elsewhere => Way::Elsewhere { cluster: None },
         }
     }
 
-    // The choice with the target.
-    fn forward(&self, listener: Gen, target: &Target, pick: u64) -> Choice
-        ensures { result ≡ forwarded self.now pick listener target.now }
+    // The way to a target.
+    fn forward(&self, target: &Target, pick: u64) -> Way<u32>
+        ensures { result ≡ forwarded self.now pick target.now }
     {
         match target {
-            Target::One(name) => self.choose_cluster(listener, name.as_str(), pick),
+            Target::One(name) => self.go_to(name.as_str(), pick),
             Target::Weighted(weighted) => {
                 let clusters = weighted.clusters();
-                self.choose_cluster(
-                    listener,
-                    name_picked(clusters, pick),
-                    pick / weight_sum(clusters),
-                )
+                self.go_to(name_picked(clusters, pick), pick / weight_sum(clusters))
             }
-            Target::Elsewhere => Choice::Elsewhere {
-                listener,
-                cluster: None,
-            },
+            Target::Elsewhere => Way::Elsewhere { cluster: None },
         }
     }
 
-    // The choice with the cluster of this name.
-    fn choose_cluster(&self, listener: Gen, name: &str, pick: u64) -> Choice
-        ensures { result ≡ choice_in listener (cluster_named self.now.shown.clusters name.now) pick }
+    // The way to the cluster of this name.
+    fn go_to(&self, name: &str, pick: u64) -> Way<u32>
+        ensures { result ≡ course_in (cluster_named self.now.shown.clusters name.now) pick }
     {
-        choose_host(listener, self.parts.clusters.named(name), pick)
+        go_in(self.parts.clusters.named(name), pick)
+    }
+}
+
+// The choice where no script tells which chain takes a connection.
+fn leave_undecided(listener: Gen) -> Choice
+    ensures { result ≡ Choice.On listener None None Way.Undecided }
+{
+    Choice::On {
+        listener,
+        chain: None,
+        origin: None,
+        way: Way::Undecided,
     }
 }
 
@@ -288,33 +323,75 @@ fn version_after(version: u64) -> Result<u64, AllocError>
     }
 }
 
-// The choice with the cluster.
-fn choose_host(listener: Gen, cluster: Option<&ShownCluster>, pick: u64) -> Choice
-    ensures { result ≡ choice_in listener (option_copied cluster.entry) pick }
+// The way in a cluster, if there is one.
+fn go_in(cluster: Option<&ShownCluster>, pick: u64) -> Way<u32>
+    ensures { result ≡ course_in (option_copied cluster.entry) pick }
 {
     match cluster {
-        Some(cluster) => choose_in(listener, cluster, pick),
-        None => Choice::NoCluster { listener },
+        Some(cluster) => go_in_cluster(cluster, pick),
+        None => Way::NoCluster,
     }
 }
 
-// The choice in a cluster: one of its hosts, or where Envoy finds one by itself.
-fn choose_in(listener: Gen, cluster: &ShownCluster, pick: u64) -> Choice
-    ensures { result ≡ in_cluster listener cluster.now pick }
+// The way in a cluster: first whether it has a host, then its secrets.
+fn go_in_cluster(cluster: &ShownCluster, pick: u64) -> Way<u32>
+    ensures { result ≡ in_cluster cluster.now pick }
+{
+    if has_no_host(cluster) {
+        Way::NoEndpoint
+    } else {
+        go_by_secrets(cluster.secrets, cluster, pick)
+    }
+}
+
+// Whether no host of a cluster may be chosen, and Envoy finds none by itself.
+fn has_no_host(cluster: &ShownCluster) -> bool
+    ensures { result ≡ has_no_host cluster.now }
+{
+    !cluster.elsewhere && is_empty(&cluster.hosts)
+}
+
+// Whether no host may be chosen.
+fn is_empty(hosts: &ChosenHosts) -> bool
+    ensures { result ≡ (length hosts.now == 0) }
+{
+    match hosts.host(0) {
+        Some(_) => false,
+        None => true,
+    }
+}
+
+// The way in a cluster by what is known of its secrets: without one no handshake succeeds.
+fn go_by_secrets(secrets: Secrets, cluster: &ShownCluster, pick: u64) -> Way<u32>
+    ensures { result ≡ by_secrets secrets cluster.now pick }
+{
+    let number = cluster.number;
+    match secrets {
+        Secrets::There => go_to_host(cluster, pick),
+        Secrets::Missing => Way::NoSecret {
+            cluster: Some(number),
+        },
+        Secrets::Unknown => Way::Elsewhere {
+            cluster: Some(number),
+        },
+    }
+}
+
+// The way to a host of a cluster, or where Envoy finds one by itself.
+fn go_to_host(cluster: &ShownCluster, pick: u64) -> Way<u32>
+    ensures { result ≡ to_host cluster.now pick }
 {
     let number = cluster.number;
     if cluster.elsewhere {
-        return Choice::Elsewhere {
-            listener,
+        return Way::Elsewhere {
             cluster: Some(number),
         };
     }
     match cluster.hosts.host_place(pick) {
-        Some(host) => Choice::Served {
-            listener,
+        Some(host) => Way::Served {
             cluster: number,
             host,
         },
-        None => Choice::NoEndpoint { listener },
+        None => Way::NoEndpoint,
     }
 }

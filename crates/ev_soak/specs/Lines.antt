@@ -17,8 +17,8 @@ use Rattle.ev_soak.specs.Soak.{soak_script}
 abbrev pub number_tree : ℕ → Data
 number_tree n = number (unsigned n)
 
--- how many entries the journal has and how many lines its script, how many numbers were reaped and connections served, and the
--- version of the last picture
+-- how many entries the journal has and how many lines its script,
+-- how many numbers were reaped and connections served, and the version of the last picture
 abbrev pub soak_tree : ℕ → List Entry → ℕ → Data
 soak_tree lines journal version = object
     (member (codes "entries") (number_tree (length journal))
@@ -39,8 +39,8 @@ version_behind script journal = (last_picture (world_after Two (opening script.w
 abbrev pub told_of : ScriptParts → List Entry → Told
 told_of script journal = record { format = Two; workers = script.workers; node = script.node; journal = journal }
 
--- the text is the line of this seed's script, which has this many lines after its header and is within the bounds of scripts; the
--- journal that it counts up has the laws
+-- the text is the line of this seed's script, which has this many lines after its header
+-- and is within the bounds of scripts; the journal that it counts up has the laws
 pub record IsSoakText (seed count : ℕ) (text : List ℕ) : Type 0 where
   pub kept : IsScript (soak_script seed count)
   pub journal : List Entry

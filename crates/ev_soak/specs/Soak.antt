@@ -11,9 +11,7 @@ use Rattle.ev_types.specs.declared.contents.Content.{Content}
 use Rattle.ev_types.specs.declared.contents.Content.TheVariants.{Cluster, Assignment, Listener, Routes}
 use Rattle.ev_types.specs.declared.contents.Kind.{Kind}
 use Rattle.ev_types.specs.declared.contents.Kind.TheVariants.{Cds, Eds, Lds, Rds}
-use Rattle.ev_types.specs.declared.events.Actor.{Actor}
 use Rattle.ev_types.specs.declared.events.Actor.TheVariants.{Stream, Health, Timer, Worker}
-use Rattle.ev_types.specs.declared.events.Event.{Event}
 use Rattle.ev_types.specs.declared.events.Event.TheVariants.{Connect, Response, Health as health, FetchTimeout, DrainTimeout, Accept, Close, Settle}
 use Rattle.ev_types.specs.declared.events.Line.{Line}
 use Rattle.ev_types.specs.declared.events.Profile.TheVariants.{Own}
@@ -64,6 +62,8 @@ cluster_content n checked = Cluster (record {
   name = cluster_name n;
   discovery = by_service (cluster_name n) true false;
   checked = checked;
+  secrets = [];
+  secrets_by_match = None;
   body_text = [];
 })
 
@@ -87,7 +87,13 @@ no_criteria = record {
 
 -- a filter chain that takes every connection, with the routes of this number
 abbrev pub chain_for : ℕ → FilterChain
-chain_for n = record { criteria = no_criteria; serve = by_routes (routes_name n) true }
+chain_for n = record {
+  criteria = no_criteria;
+  serve = by_routes (routes_name n) true;
+  secrets = [];
+  extensions = [];
+  body_text = [];
+}
 
 -- the listener of this number, whose routes come by the name of this number
 abbrev pub listener_content : ℕ → ℕ → Content
@@ -99,6 +105,8 @@ listener_content n port = Listener (record {
   hands_over = false;
   filter_chains = chain_for n ∷ [];
   default_filter_chain = None;
+  extensions = [];
+  frame_text = [];
   body_text = [];
 })
 

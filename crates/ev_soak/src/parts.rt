@@ -92,6 +92,8 @@ pub(crate) fn cluster_content(
             fresh: false,
         },
         checked,
+        secrets: Seq::new(alloc),
+        secrets_by_match: None,
         body_text: Text::new(alloc, "")?,
     };
     Ok(Content::Cluster(Shared::new(alloc, cluster)?))
@@ -141,6 +143,8 @@ pub(crate) fn listener_content(alloc: Global, number: u32, port: u16) -> Result<
         hands_over: false,
         filter_chains: Seq::from_vec(vec![in alloc; chain_for(alloc, number)?]?),
         default_filter_chain: None,
+        extensions: Seq::new(alloc),
+        frame_text: Text::new(alloc, "")?,
         body_text: Text::new(alloc, "")?,
     };
     Ok(Content::Listener(Shared::new(alloc, listener)?))
@@ -156,6 +160,9 @@ fn chain_for(alloc: Global, number: u32) -> Result<FilterChain, AllocError>
             name: routes_name(alloc, number)?,
             limited: true,
         },
+        secrets: Seq::new(alloc),
+        extensions: Seq::new(alloc),
+        body_text: Text::new(alloc, "")?,
     })
 }
 

@@ -7,8 +7,9 @@ use ev_types::Entry;
 use serde_json::{Value, json};
 use std::alloc::{AllocError, Global};
 
-/// Writes the line that reports a soak, with the line feed that closes it: how many entries the journal has and how many lines
-/// its script, how many generations were destroyed and connections served, and the version of the last picture.
+/// Writes the line that reports a soak, with the line feed that closes it:
+/// how many entries the journal has and how many lines its script,
+/// how many generations were destroyed and connections served, and the version of the last picture.
 #[tactic(auto, unfolding(crate::specs::Lines::soak_line))]
 pub fn write_soak(
     alloc: Global,

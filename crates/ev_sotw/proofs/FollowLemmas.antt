@@ -11,16 +11,16 @@ use Rattle.ev_journal.specs.Rendering.{verdict_tree, row_object}
 use Rattle.ev_types.specs.Events.{op_of}
 use Rattle.ev_types.specs.Same.{bytes_decide}
 use Rattle.ev_types.specs.declared.contents.Kind.{Kind}
-use Rattle.ev_types.specs.declared.contents.Kind.TheVariants.{Cds, Eds, Lds, Rds}
+use Rattle.ev_types.specs.declared.contents.Kind.TheVariants.{Cds, Eds, Lds, Rds, Sds, Ecds}
 use Rattle.ev_types.specs.declared.contents.Request.{Request}
 use Rattle.ev_types.specs.declared.events.Answer.{Answer}
-use Rattle.ev_types.specs.declared.events.Answer.TheVariants.{Ignored, Done, Moved, Replied, Version, Unchanged, Reaped, InUse, NoListener, NoChain, Undecided, Elsewhere, NoRoute, Redirect, NoCluster, NoEndpoint, Local, Served, NotOpen, Settled}
+use Rattle.ev_types.specs.declared.events.Answer.TheVariants.{Ignored, Done, Moved, Replied, Version, Unchanged, Reaped, InUse, NoListener, NoChain, On, NotOpen, Settled}
 use Rattle.ev_types.specs.declared.events.Entry.{Entry}
 use Rattle.ev_model.specs.Requests.{other_than}
 use Rattle.ev_model.specs.Verdicts.{is_among}
-use Rattle.ev_names.specs.Names.{with_names}
-use Rattle.ev_names.proofs.NameLemmas.{among_sorted, among_with, among_other, sorted-in_order, same-names}
-use Rattle.ev_sotw_lines.proofs.SearchLemmas.{or_last, search_more}
+use Rattle.ev_sotw.specs.Names.{with_names}
+use Rattle.ev_sotw.proofs.NameSetLemmas.{among_sorted, among_with, among_other, sorted-in_order, same-names}
+use Rattle.ev_sotw.proofs.SearchLemmas.{or_last, search_more}
 use Rattle.ev_sotw.specs.Stated.{Stated, is_connect, is_moved, opens, reply_in, nonce_by, nonce_said, last_nonce, version_said, last_version, asked, given_up, asked_said, is_asked, names_asked, known_of, sotw_request, request_told, answer_told, entry_told}
 use Rattle.ev_sotw.specs.Follows.{after_entry, type_by, after_all, FollowsEntries, request_by, answer_by, entry_by}
 use Rattle.ev_sotw.specs.declared.state.SotwState.{SotwState}
@@ -42,16 +42,9 @@ moved_no_reply (Reaped numbers) h = refl
 moved_no_reply InUse h = refl
 moved_no_reply NoListener h = refl
 moved_no_reply NoChain h = refl
-moved_no_reply (Undecided listener) h = refl
-moved_no_reply (Elsewhere listener cluster) h = refl
-moved_no_reply (NoRoute listener) h = refl
-moved_no_reply (Redirect listener) h = refl
-moved_no_reply (NoCluster listener) h = refl
-moved_no_reply (NoEndpoint listener) h = refl
-moved_no_reply (Local listener status) h = refl
-moved_no_reply (Served listener cluster host) h = refl
+moved_no_reply (On listener chain way) h = refl
 moved_no_reply NotOpen h = refl
-moved_no_reply (Settled closed version) h = refl
+moved_no_reply (Settled closed moved version) h = refl
 
 and_last : (a b : Bool) → (a && b) ≡ true → b ≡ true
 and_last true b h = h
@@ -191,6 +184,8 @@ follows_all entries stated state follows = record {
   endpoints = ap (after_entry Eds stated) follows.endpoints ∙ follows_type Eds entries stated;
   listeners = ap (after_entry Lds stated) follows.listeners ∙ follows_type Lds entries stated;
   routes = ap (after_entry Rds stated) follows.routes ∙ follows_type Rds entries stated;
+  secrets = ap (after_entry Sds stated) follows.secrets ∙ follows_type Sds entries stated;
+  extensions = ap (after_entry Ecds stated) follows.extensions ∙ follows_type Ecds entries stated;
 }
 
 -- ---- what is written
@@ -200,6 +195,8 @@ known_by entries state follows Cds = follows.clusters
 known_by entries state follows Eds = follows.endpoints
 known_by entries state follows Lds = follows.listeners
 known_by entries state follows Rds = follows.routes
+known_by entries state follows Sds = follows.secrets
+known_by entries state follows Ecds = follows.extensions
 
 requests_same : (entries : List Stated) (state : SotwState) → FollowsEntries entries state → (requests : List Request) → map (request_by state) requests ≡ map (request_told entries) requests
 requests_same entries state follows [] = refl

@@ -7,8 +7,8 @@ use Rattle.ev_types.specs.Kinds.{kind_same}
 use Rattle.ev_types.specs.declared.contents.Kind.{Kind}
 use Rattle.ev_types.specs.declared.contents.Request.{Request}
 use Rattle.ev_model.specs.Requests.{other_than}
-use Rattle.ev_names.specs.Names.{IsInOrder, with_names}
-use Rattle.ev_names.proofs.NameLemmas.{sorted_same, with_more, other_none, other_more}
+use Rattle.ev_sotw.specs.Names.{IsInOrder, with_names}
+use Rattle.ev_sotw.proofs.NameSetLemmas.{sorted_same, with_more, other_none, other_more}
 use Rattle.ev_sotw.specs.Stated.{Known, asked_by, given_up_by}
 use Rattle.ev_sotw.specs.Follows.{without_given_up_by, without_given_up, with_asked_by, with_asked}
 

@@ -1,3 +1,8 @@
+pub mod SearchLemmas
+pub mod LineFollowLemmas
+pub mod NameLemmas
+pub mod ReadLemmas
+pub mod NameSetLemmas
 pub mod MemberLemmas
 pub mod KnownLemmas
 pub mod FollowLemmas

@@ -7,7 +7,8 @@ use Rattle.ev_types.specs.declared.contents.Request.{Request}
 use Rattle.ev_types.specs.declared.events.Actor.{Actor}
 use Rattle.ev_types.specs.declared.events.Op.{Op}
 use Rattle.ev_types.specs.declared.events.Verdict.{Verdict}
-use Rattle.ev_wire.specs.Requests.{type_url, with_names, with_node, with_error}
+use Rattle.ev_types.specs.Kinds.{type_url}
+use Rattle.ev_wire.specs.Requests.{with_names, with_node, with_error}
 use Rattle.ev_wire.proofs.RequestLemmas.{members_have_float-put, items_have_float-map}
 use Rattle.ev_journal.specs.Rendering.{verdict_tree, row_object}
 use Rattle.ev_sotw.specs.Stated.{Known, with_text, sotw_request}

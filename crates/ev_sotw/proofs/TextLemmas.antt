@@ -4,8 +4,8 @@ use Rattle.std.specs.List.{flat_map}
 use Rattle.std.proofs.lemmas.List.{append-nil, map-append, take_more}
 use Rattle.std.proofs.lemmas.Grind.{flat_map-append}
 use Rattle.ev_types.specs.declared.events.Entry.{Entry}
-use Rattle.ev_sotw_lines.specs.Searches.{with_before}
-use Rattle.ev_sotw_lines.proofs.SearchLemmas.{with_before_more}
+use Rattle.ev_sotw.specs.Searches.{with_before}
+use Rattle.ev_sotw.proofs.SearchLemmas.{with_before_more}
 use Rattle.ev_sotw.specs.Stated.{Stated, sotw_line}
 use Rattle.ev_sotw.specs.Text.{stated_by, lines_told}
 

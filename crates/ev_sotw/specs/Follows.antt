@@ -5,14 +5,14 @@ use Rattle.serde_json.specs.Data.{Data, array, object, member, no_members}
 use Rattle.serde_json.specs.View.{items_of}
 use Rattle.ev_types.specs.Events.{op_of}
 use Rattle.ev_types.specs.declared.contents.Kind.{Kind}
-use Rattle.ev_types.specs.declared.contents.Kind.TheVariants.{Cds, Eds, Lds, Rds}
+use Rattle.ev_types.specs.declared.contents.Kind.TheVariants.{Cds, Eds, Lds, Rds, Sds, Ecds}
 use Rattle.ev_types.specs.declared.contents.Request.{Request}
 use Rattle.ev_types.specs.declared.events.Answer.{Answer}
 use Rattle.ev_types.specs.declared.events.Answer.TheVariants.{Moved, Replied}
 use Rattle.ev_types.specs.declared.events.Entry.{Entry}
 use Rattle.ev_types.specs.declared.events.Verdict.{Verdict}
 use Rattle.ev_model.specs.Requests.{other_than}
-use Rattle.ev_names.specs.Names.{with_names}
+use Rattle.ev_sotw.specs.Names.{with_names}
 use Rattle.ev_journal.specs.Rendering.{verdict_tree, answer_tree, row_object}
 use Rattle.ev_sotw.specs.Stated.{Stated, Known, opens, requests_in, reply_in, nonce_by, version_by, asked_by, given_up_by, known_of, sotw_request, sotw_line}
 use Rattle.ev_sotw.specs.declared.state.SotwState.{SotwState}
@@ -62,6 +62,8 @@ type_by state Cds = state.clusters
 type_by state Eds = state.endpoints
 type_by state Lds = state.listeners
 type_by state Rds = state.routes
+type_by state Sds = state.secrets
+type_by state Ecds = state.extensions
 
 abbrev pub after_all : Stated → SotwState → SotwState
 after_all stated state = record {
@@ -69,6 +71,8 @@ after_all stated state = record {
   endpoints = after_entry Eds stated state.endpoints;
   listeners = after_entry Lds stated state.listeners;
   routes = after_entry Rds stated state.routes;
+  secrets = after_entry Sds stated state.secrets;
+  extensions = after_entry Ecds stated state.extensions;
 }
 
 -- it is what the searches find
@@ -77,6 +81,8 @@ pub record FollowsEntries (entries : List Stated) (state : SotwState) : Type 0 w
   pub endpoints : state.endpoints ≡ known_of Eds entries
   pub listeners : state.listeners ≡ known_of Lds entries
   pub routes : state.routes ≡ known_of Rds entries
+  pub secrets : state.secrets ≡ known_of Sds entries
+  pub extensions : state.extensions ≡ known_of Ecds entries
 
 -- it goes on by an entry
 abbrev pub GoesOnBy : Stated → SotwState → SotwState → Type 0

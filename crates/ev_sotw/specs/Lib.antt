@@ -1,3 +1,11 @@
+pub mod Searches
+pub mod Lines
+pub mod Deltas
+pub mod LineFollows
+pub mod Discovery
+pub mod Delta
+pub mod Told
+pub mod Names
 pub mod Stated
 pub mod Text
 pub mod Follows

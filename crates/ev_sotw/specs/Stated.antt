@@ -3,7 +3,7 @@ use Rattle.std.specs.Prelude.{ℕ, List, [], ◌∷◌, ◌++◌, map, filter, f
 use Rattle.std.specs.List.{last_or, flat_map}
 use Rattle.serde_json.specs.Data.{Data, string, array, object, Members, member, no_members, put}
 use Rattle.serde_json.specs.View.{items_of}
-use Rattle.ev_types.specs.Kinds.{kind_same}
+use Rattle.ev_types.specs.Kinds.{type_url, kind_same}
 use Rattle.ev_types.specs.Events.{op_of}
 use Rattle.ev_types.specs.declared.contents.Kind.{Kind}
 use Rattle.ev_types.specs.declared.contents.Request.{Request}
@@ -14,7 +14,7 @@ use Rattle.ev_types.specs.declared.events.Event.{Event}
 use Rattle.ev_types.specs.declared.events.Event.TheVariants.{Connect}
 use Rattle.ev_model.specs.Verdicts.{is_among}
 use Rattle.ev_model.specs.Watching.{sorted_names}
-use Rattle.ev_wire.specs.Requests.{type_url, with_names, with_node, with_error}
+use Rattle.ev_wire.specs.Requests.{with_names, with_node, with_error}
 use Rattle.ev_journal.specs.Rendering.{verdict_tree, answer_tree, row_object, line_text}
 
 -- ---- entries

@@ -5,17 +5,19 @@ use Rattle.serde_json.specs.Data.{Data}
 use Rattle.ev_types.specs.declared.events.Entry.{Entry}
 use Rattle.ev_types.specs.declared.events.Event.{Event}
 use Rattle.ev_types.specs.declared.events.Event.TheVariants.{Response}
+use Rattle.ev_types.specs.declared.events.Profile.{Profile}
 use Rattle.ev_types.specs.declared.journals.Format.TheVariants.{Two}
 use Rattle.ev_journal.specs.Rendering.{first_tree, end_tree, line_text}
-use Rattle.ev_sotw_lines.specs.Searches.{with_before}
-use Rattle.ev_sotw_lines.specs.Lines.{version_in}
+use Rattle.ev_sotw.specs.Searches.{with_before}
+use Rattle.ev_sotw.specs.Lines.{version_in}
 use Rattle.ev_sotw.specs.Stated.{Stated, stated_with, sotw_line}
 
 -- ---- versions, by the lines after the header
 
--- the versions of the responses that lines bring, and the empty text for each that brings none
-abbrev pub versions_in : List Data → List (List ℕ)
-versions_in lines = map version_in lines
+-- the versions of the responses that the lines of a script in a profile bring, and the empty text for each that brings
+-- none
+abbrev pub versions_in : Profile → List Data → List (List ℕ)
+versions_in profile lines = map (version_in profile) lines
 
 abbrev pub is_response : Event → Bool
 is_response (Response response) = true
@@ -30,8 +32,8 @@ abbrev pub stated_by : List (List ℕ) → Entry → Stated
 stated_by versions entry = stated_with entry (version_at versions entry)
 
 -- the same, by the lines
-abbrev pub stated_in : List Data → Entry → Stated
-stated_in lines entry = stated_by (versions_in lines) entry
+abbrev pub stated_in : Profile → List Data → Entry → Stated
+stated_in profile lines entry = stated_by (versions_in profile lines) entry
 
 -- ---- the text
 

@@ -7,7 +7,7 @@ ghost use Rattle.ev_sotw.specs.Follows.{requests_by, moved_by, replied_by, type_
 
 use crate::requests::sotw_request;
 use crate::state::SotwState;
-use crate::words::{actor_word, op_word, verdict_word};
+use ev_journal::{actor_word, op_word, verdict_word};
 use ev_types::{Entry, Request, Verdict};
 use serde_json::{Value, json};
 use std::alloc::{AllocError, Global};

@@ -2,14 +2,14 @@ ghost use Rattle.std.specs.Prelude.{◌≡◌, OnOk};
 ghost use Rattle.ev_sotw.specs.Stated.{Known, nothing_known, stated_with};
 ghost use Rattle.ev_sotw.specs.Follows.{after_opening, after_reply, without_given_up_by, without_given_up, with_asked_by, with_asked, after_entry};
 
+use crate::NameSet;
 use crate::entries::{opens, reply_in, requests_in};
-use ev_names::NameSet;
 use ev_types::{Answer, Entry, Kind, Request, Text};
 use std::alloc::{AllocError, Global};
 use std::marker::Model;
 
-/// What the entries so far say of a type: the version that was acknowledged last, the last nonce on this stream, and the names
-/// that are asked for on it.
+/// What the entries so far say of a type: the version that was acknowledged last,
+/// the last nonce on this stream, and the names that are asked for on it.
 #[derive(Drop)]
 pub struct TypeSoFar {
     version: String,

@@ -8,9 +8,11 @@ use ev_journal::{write_end_line, write_first_line};
 use ev_types::{Entry, Event, Format, Text, TryCopy};
 use std::alloc::{AllocError, Global};
 
-/// Writes the text of a journal in format 2, for this many workers, with the requests of the state of the world: the first line,
-/// a line for each entry, and the end line with their number, each closed by a line feed. `versions` are those of the responses of
-/// the lines after the header of the script of the state of the world that was replayed.
+/// Writes the text of a journal in format 2, for this many workers,
+/// with the requests of the state of the world: the first line, a line for each entry,
+/// and the end line with their number, each closed by a line feed.
+/// `versions` are those of the responses of the lines after the header of the script of the state
+/// of the world that was replayed.
 ///
 /// # Errors
 /// `AllocError` where there is no memory for it.

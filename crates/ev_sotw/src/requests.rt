@@ -4,9 +4,8 @@ ghost use Rattle.serde_json.specs.View.{view, items_of};
 ghost use Rattle.ev_wire.specs.Requests.{Puts, with_names, with_node, with_error};
 ghost use Rattle.ev_sotw.specs.Stated.{with_text, sotw_request};
 
+use crate::NameSet;
 use crate::known::TypeSoFar;
-use ev_delta::type_url;
-use ev_names::NameSet;
 use ev_types::{Request, Text};
 use serde_json::{Map, Value, json, put};
 use std::alloc::{AllocError, Global};
@@ -23,7 +22,7 @@ pub(crate) fn sotw_request(
     ensures { IfOk result (λ made. view made ≡ sotw_request known.now request.now) }
 {
     let mut members = Map::new(alloc);
-    let url = json!(in alloc; type_url(request.kind))?;
+    let url = json!(in alloc; request.kind.type_url())?;
     put(&mut members, alloc, "typeUrl", url)?;
     put_text(alloc, &mut members, "responseNonce", known.nonce())?;
     put_names(alloc, &mut members, known.names())?;

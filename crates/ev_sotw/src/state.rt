@@ -20,6 +20,8 @@ pub struct SotwState {
     pub endpoints: TypeSoFar,
     pub listeners: TypeSoFar,
     pub routes: TypeSoFar,
+    pub secrets: TypeSoFar,
+    pub extensions: TypeSoFar,
 }
 
 impl SotwState {
@@ -32,14 +34,16 @@ impl SotwState {
             endpoints: TypeSoFar::new(alloc),
             listeners: TypeSoFar::new(alloc),
             routes: TypeSoFar::new(alloc),
+            secrets: TypeSoFar::new(alloc),
+            extensions: TypeSoFar::new(alloc),
         }
     }
 
-    /// Goes on by an entry, and writes its line, whose requests are those of the state of the world. `version` is that of the
-    /// response that it answers, and the empty text where it answers none.
+    /// Goes on by an entry, and writes its line, whose requests are those of the state of the world.
+    /// `version` is that of the response that it answers, and the empty text where it answers none.
     ///
     /// # Errors
-    /// `AllocError` where there is no memory for it; nothing is promised of what is known then.
+    /// `AllocError` where there is no memory for it; what is known then is unspecified.
     pub fn line(
         &mut self,
         alloc: Global,
@@ -60,7 +64,9 @@ impl SotwState {
         self.clusters.note(alloc, Kind::Cds, entry, version)?;
         self.endpoints.note(alloc, Kind::Eds, entry, version)?;
         self.listeners.note(alloc, Kind::Lds, entry, version)?;
-        self.routes.note(alloc, Kind::Rds, entry, version)
+        self.routes.note(alloc, Kind::Rds, entry, version)?;
+        self.secrets.note(alloc, Kind::Sds, entry, version)?;
+        self.extensions.note(alloc, Kind::Ecds, entry, version)
     }
 
     // The line of an entry.
@@ -89,6 +95,8 @@ impl SotwState {
             Kind::Eds => &self.endpoints,
             Kind::Lds => &self.listeners,
             Kind::Rds => &self.routes,
+            Kind::Sds => &self.secrets,
+            Kind::Ecds => &self.extensions,
         }
     }
 }

@@ -6,7 +6,7 @@ use Rattle.std.proofs.lemmas.Bool.{false≢true}
 use Rattle.serde_json.specs.Data.{Data, string}
 use Rattle.ev_types.specs.Items.{ItemParts}
 use Rattle.ev_types.specs.declared.contents.Kind.{Kind}
-use Rattle.ev_types.specs.declared.contents.Kind.TheVariants.{Cds, Eds, Lds, Rds}
+use Rattle.ev_types.specs.declared.contents.Kind.TheVariants.{Cds, Lds}
 use Rattle.ev_types.specs.declared.events.Actor.TheVariants.{Stream}
 use Rattle.ev_types.specs.declared.events.Event.{Event}
 use Rattle.ev_types.specs.declared.events.Event.TheVariants.{Connect, Disconnect, Response, Health, FetchTimeout, DrainTimeout, TtlExpired, Publish, Reap, Accept, Close, Settle}
@@ -14,24 +14,24 @@ use Rattle.ev_types.specs.declared.events.Line.{Line}
 use Rattle.ev_types.specs.declared.events.Profile.{Profile}
 use Rattle.ev_script.specs.declared.forms.Settings.{Settings}
 use Rattle.ev_model.specs.Verdicts.{is_among}
-use Rattle.ev_names.proofs.NameLemmas.{among_sorted, among_other}
+use Rattle.ev_sotw.proofs.NameSetLemmas.{among_sorted, among_other}
 use Rattle.ev_script.specs.Members.{is_op}
 use Rattle.ev_script.specs.Lines.{line_of}
 use Rattle.ev_script.specs.Faults.{plain_lines}
 use Rattle.ev_script.proofs.KeptLemmas.{kept_line}
-use Rattle.ev_stream_laws.specs.Watches.{has_item}
-use Rattle.ev_delta.specs.Discovery.{DiscoveryParts, resource_name, names_in}
-use Rattle.ev_delta.specs.Delta.{delta_message}
-use Rattle.ev_delta.specs.Told.{item_told, told_with, response_told, IsDiscovery}
-use Rattle.ev_delta.proofs.ReadLemmas.{read_so}
-use Rattle.ev_sotw_lines.specs.declared.names_so_far.NamesSoFar.{NamesSoFar}
-use Rattle.ev_sotw_lines.specs.Searches.{with_before}
-use Rattle.ev_sotw_lines.specs.Lines.{response_in, sotw_lines}
-use Rattle.ev_sotw_lines.specs.Deltas.{stream_said, removed_at, delta_line, delta_of}
-use Rattle.ev_sotw_lines.specs.Follows.{FollowsLines, removed_by_kind, after_kind, after_response, after_other}
-use Rattle.ev_sotw_lines.proofs.FollowLemmas.{follows_response, follows_other, removed_follows}
-use Rattle.ev_expand_laws.specs.Said.{HasLine, AllAt, lines_said}
-use Rattle.ev_expand_laws.proofs.FormLemmas.{HasForm}
+use Rattle.ev_model_laws.specs.Watches.{has_item}
+use Rattle.ev_sotw.specs.Discovery.{DiscoveryParts, resource_name, names_in}
+use Rattle.ev_sotw.specs.Delta.{delta_message}
+use Rattle.ev_sotw.specs.Told.{item_told, told_with, response_told, IsDiscovery}
+use Rattle.ev_sotw.proofs.ReadLemmas.{read_so}
+use Rattle.ev_sotw.specs.declared.names_so_far.NamesSoFar.{NamesSoFar}
+use Rattle.ev_sotw.specs.Searches.{with_before}
+use Rattle.ev_sotw.specs.Lines.{response_in, sotw_lines}
+use Rattle.ev_sotw.specs.Deltas.{stream_said, removed_at, delta_line, delta_of}
+use Rattle.ev_sotw.specs.LineFollows.{FollowsLines, removed_by_kind, after_kind, after_response, after_other}
+use Rattle.ev_sotw.proofs.LineFollowLemmas.{follows_response, follows_other, removed_follows}
+use Rattle.ev_expand.specs.Said.{HasLine, AllAt, lines_said}
+use Rattle.ev_expand.proofs.FormLemmas.{HasForm}
 use Rattle.ev_sotw_delta.proofs.DeltaLemmas.{placed_delta}
 use Rattle.ev_sotw_delta.proofs.ScriptLemmas.{response_is, line_made, delta_has}
 use Rattle.ev_sotw_delta.proofs.EventLemmas.{Heard, item_names, heard_of, heard_after, FitsKind, FitsAt, AllFit, among_items, removed_so}
@@ -48,7 +48,7 @@ pub record Agrees (heard : Heard) (names : NamesSoFar) : Type 0 where
 -- ---- responses
 
 -- the items have the names of the resources
-told_items : (profile : Profile) (kind : Kind) (response : DiscoveryParts) (removed : List (List ℕ)) (name : List ℕ) → IsDiscovery response
+told_items : (profile : Profile) (kind : Kind) (response : DiscoveryParts) (removed : List (List ℕ)) (name : List ℕ) → IsDiscovery profile response
     → has_item (told_with profile (Some kind) response removed) name ≡ is_among name (names_in kind response)
 told_items profile kind response removed name is = by response.resources ∙ sym (among_sorted (map (resource_name kind) response.resources) name)
   where
@@ -56,27 +56,26 @@ told_items profile kind response removed name is = by response.resources ∙ sym
     by [] = refl
     by (resource ∷ resources) = λ i. bytes_eq ((read_so profile response [] is).named kind resource i) name || by resources i
 
-respond_fits : (profile : Profile) (found : Option Kind) (response : DiscoveryParts) (removed : List (List ℕ)) (heard : Heard) (names : NamesSoFar) → Agrees heard names → IsDiscovery response
+respond_fits : (profile : Profile) (found : Option Kind) (response : DiscoveryParts) (removed : List (List ℕ)) (heard : Heard) (names : NamesSoFar) → Agrees heard names → IsDiscovery profile response
     → removed ≡ removed_by_kind found names response → FitsKind (told_with profile found response removed).kind (told_with profile found response removed) heard
 respond_fits profile None response removed heard names agrees is gone = tt
 respond_fits profile (Some Cds) response removed heard names agrees is gone = λ name there none.
     removed_so (told_with profile (Some Cds) response removed) name
     (ap (is_among name) gone ∙ among_other (names_in Cds response) names.clusters name
     ∙ (λ i. (sym (agrees.clusters name) ∙ there) i && not ((sym (told_items profile Cds response removed name is) ∙ none) i))) none
-respond_fits profile (Some Eds) response removed heard names agrees is gone = gone
 respond_fits profile (Some Lds) response removed heard names agrees is gone = λ name there none.
     removed_so (told_with profile (Some Lds) response removed) name
     (ap (is_among name) gone ∙ among_other (names_in Lds response) names.listeners name
     ∙ (λ i. (sym (agrees.listeners name) ∙ there) i && not ((sym (told_items profile Lds response removed name is) ∙ none) i))) none
-respond_fits profile (Some Rds) response removed heard names agrees is gone = gone
+respond_fits profile (Some kind) response removed heard names agrees is gone = gone
 
-names_turn : (profile : Profile) (kind : Kind) (response : DiscoveryParts) (removed : List (List ℕ)) (name : List ℕ) (connected : Bool) (old new : List (List ℕ)) → IsDiscovery response
+names_turn : (profile : Profile) (kind : Kind) (response : DiscoveryParts) (removed : List (List ℕ)) (name : List ℕ) (connected : Bool) (old new : List (List ℕ)) → IsDiscovery profile response
     → is_among name old ≡ is_among name new
     → is_among name (cond connected (item_names (told_with profile (Some kind) response removed)) old) ≡ is_among name (cond connected (names_in kind response) new)
 names_turn profile kind response removed name true old new is same = among_items (told_with profile (Some kind) response removed) name ∙ told_items profile kind response removed name is
 names_turn profile kind response removed name false old new is same = same
 
-respond_agrees : (profile : Profile) (found : Option Kind) (response : DiscoveryParts) (removed : List (List ℕ)) (heard : Heard) (names : NamesSoFar) → Agrees heard names → IsDiscovery response
+respond_agrees : (profile : Profile) (found : Option Kind) (response : DiscoveryParts) (removed : List (List ℕ)) (heard : Heard) (names : NamesSoFar) → Agrees heard names → IsDiscovery profile response
     → Agrees (heard_of (told_with profile found response removed).kind (told_with profile found response removed) heard) (after_kind found response names)
 respond_agrees profile None response removed heard names agrees is = agrees
 respond_agrees profile (Some Cds) response removed heard names agrees is = record {
@@ -86,7 +85,6 @@ respond_agrees profile (Some Cds) response removed heard names agrees is = recor
       ∙ names_turn profile Cds response removed name names.connected heard.clusters names.clusters is (agrees.clusters name);
   listeners = agrees.listeners;
 }
-respond_agrees profile (Some Eds) response removed heard names agrees is = agrees
 respond_agrees profile (Some Lds) response removed heard names agrees is = record {
   connected = agrees.connected;
   clusters = agrees.clusters;
@@ -94,7 +92,7 @@ respond_agrees profile (Some Lds) response removed heard names agrees is = recor
       ap (λ b. is_among name (cond b (item_names (told_with profile (Some Lds) response removed)) heard.listeners)) agrees.connected
       ∙ names_turn profile Lds response removed name names.connected heard.listeners names.listeners is (agrees.listeners name);
 }
-respond_agrees profile (Some Rds) response removed heard names agrees is = agrees
+respond_agrees profile (Some kind) response removed heard names agrees is = agrees
 
 -- ---- other events
 
@@ -172,25 +170,25 @@ plain_agrees line event heard names plain agrees = record {
 
 record NextFits (profile : Profile) (at : ℕ) (before : List Data) (line : Data) (heard : Heard) : Type 0 where
   told : Line
-  is : line_of profile at (delta_of before line) ≡ Some told
+  is : line_of profile at (delta_of profile before line) ≡ Some told
   fits : FitsAt told.event heard
   after : NamesSoFar
-  follows : FollowsLines (before ++ line ∷ []) after
+  follows : FollowsLines profile (before ++ line ∷ []) after
   agrees : Agrees (heard_after told.event heard) after
 
-response_fits : (profile : Profile) (at : ℕ) (before : List Data) (line : Data) (heard : Heard) (names : NamesSoFar) (response : DiscoveryParts) → response_in line ≡ Some response
-    → FollowsLines before names → Agrees heard names → NextFits profile at before line heard
+response_fits : (profile : Profile) (at : ℕ) (before : List Data) (line : Data) (heard : Heard) (names : NamesSoFar) (response : DiscoveryParts) → response_in profile line ≡ Some response
+    → FollowsLines profile before names → Agrees heard names → NextFits profile at before line heard
 response_fits profile at before line heard names response is follows agrees =
-    let proper : IsDiscovery response = response_is line response is in
-    let removed : List (List ℕ) = removed_at before response in
-    let made : delta_of before line ≡ delta_line (delta_message response (map string removed)) =
-    ap (λ found. unwrap_or (option_map (λ r. delta_line (delta_message r (map string (removed_at before r)))) found) line) is in
+    let proper : IsDiscovery profile response = response_is profile line response is in
+    let removed : List (List ℕ) = removed_at profile before response in
+    let made : delta_of profile before line ≡ delta_line (delta_message response (map string removed)) =
+    ap (λ found. unwrap_or (option_map (λ r. delta_line (delta_message r (map string (removed_at profile before r)))) found) line) is in
     record {
       told = record { at = at; actor = Stream; event = Response (response_told profile response removed) };
       is = ap (line_of profile at) made ∙ line_made profile at response removed proper;
-      fits = respond_fits profile response.kind response removed heard names agrees proper (sym (removed_follows before response names follows));
+      fits = respond_fits profile response.kind response removed heard names agrees proper (sym (removed_follows profile before response names follows));
       after = after_response response names;
-      follows = follows_response before line response names is follows;
+      follows = follows_response profile before line response names is follows;
       agrees = respond_agrees profile response.kind response removed heard names agrees proper;
     }
 
@@ -207,37 +205,37 @@ not_responding profile line at named found none true h = absurd (no_some (sym (a
     no_some e = cc
 not_responding profile line at named found none false h = refl
 
-plain_next : (settings : Settings) (at : ℕ) (before : List Data) (line : Data) (heard : Heard) (names : NamesSoFar) → response_in line ≡ None → HasForm sotw_lines settings at line
-    → FollowsLines before names → Agrees heard names → NextFits settings.profile at before line heard
+plain_next : (settings : Settings) (at : ℕ) (before : List Data) (line : Data) (heard : Heard) (names : NamesSoFar) → response_in settings.profile line ≡ None → HasForm sotw_lines settings at line
+    → FollowsLines settings.profile before names → Agrees heard names → NextFits settings.profile at before line heard
 plain_next settings at before line heard names none form follows agrees =
-    let has : HasLine settings at (delta_of before line) = delta_has settings at before line form in
-    let same : delta_of before line ≡ line =
-    ap (λ found. unwrap_or (option_map (λ r. delta_line (delta_message r (map string (removed_at before r)))) found) line) none in
+    let has : HasLine settings at (delta_of settings.profile before line) = delta_has settings at before line form in
+    let same : delta_of settings.profile before line ≡ line =
+    ap (λ found. unwrap_or (option_map (λ r. delta_line (delta_message r (map string (removed_at settings.profile before r)))) found) line) none in
     let is : line_of settings.profile at line ≡ Some has.line = ap (line_of settings.profile at) (sym same) ∙ has.is in
-    let apart : is_op (codes "response") line ≡ false = not_responding settings.profile line at form.named (response_in line) none (is_op (codes "response") line) form.reads in
+    let apart : is_op (codes "response") line ≡ false = not_responding settings.profile line at form.named (response_in settings.profile line) none (is_op (codes "response") line) form.reads in
     let plain : IsPlain line has.line.event = plain_line settings.workers settings.profile at line has.line (kept_line settings.workers settings.profile at line has.line is has.below).1 apart is in
     record {
       told = has.line;
       is = has.is;
       fits = plain_fits has.line.event heard plain.plain;
       after = after_other line names;
-      follows = follows_other before line names none follows;
+      follows = follows_other settings.profile before line names none follows;
       agrees = plain_agrees line has.line.event heard names plain agrees;
     }
 
 next_fits : (settings : Settings) (at : ℕ) (before : List Data) (line : Data) (heard : Heard) (names : NamesSoFar) → HasForm sotw_lines settings at line
-    → FollowsLines before names → Agrees heard names → NextFits settings.profile at before line heard
-next_fits settings at before line heard names form follows agrees = by (response_in line) refl
+    → FollowsLines settings.profile before names → Agrees heard names → NextFits settings.profile at before line heard
+next_fits settings at before line heard names form follows agrees = by (response_in settings.profile line) refl
   where
-    by : (found : Option DiscoveryParts) → response_in line ≡ found → NextFits settings.profile at before line heard
+    by : (found : Option DiscoveryParts) → response_in settings.profile line ≡ found → NextFits settings.profile at before line heard
     by None none = plain_next settings at before line heard names none form follows agrees
     by (Some response) is = response_fits settings.profile at before line heard names response is follows agrees
 
 pub lines_fit : (settings : Settings) (at : ℕ) (before lines : List Data) (heard : Heard) (names : NamesSoFar) → AllAt (HasForm sotw_lines settings) at lines
-    → FollowsLines before names → Agrees heard names → AllFit heard (line_events (lines_said settings.profile at (map placed_delta (with_before before lines))))
+    → FollowsLines settings.profile before names → Agrees heard names → AllFit heard (line_events (lines_said settings.profile at (map (placed_delta settings.profile) (with_before before lines))))
 lines_fit settings at before [] heard names all follows agrees = tt
 lines_fit settings at before (line ∷ lines) heard names all follows agrees =
     let next = next_fits settings at before line heard names all.0 follows agrees in
-    let rest : List Data = map placed_delta (with_before (before ++ line ∷ []) lines) in
+    let rest : List Data = map (placed_delta settings.profile) (with_before (before ++ line ∷ []) lines) in
     subst (λ ls. AllFit heard (line_events ls)) (sym (ap (λ found. option_to_list found ++ lines_said settings.profile (at + 1) rest) next.is))
     (next.fits, lines_fit settings (at + 1) (before ++ line ∷ []) lines (heard_after next.told.event heard) next.after all.1 next.follows next.agrees)

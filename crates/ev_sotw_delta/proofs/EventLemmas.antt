@@ -6,13 +6,14 @@ use Rattle.std.specs.Str.{bytes_eq}
 use Rattle.std.proofs.lemmas.Bool.{false≢true}
 use Rattle.ev_types.specs.Items.{ItemParts, ResponseParts}
 use Rattle.ev_types.specs.declared.contents.Kind.{Kind}
-use Rattle.ev_types.specs.declared.contents.Kind.TheVariants.{Cds, Eds, Lds, Rds}
+use Rattle.ev_types.specs.declared.contents.Kind.TheVariants.{Cds, Lds}
 use Rattle.ev_types.specs.declared.events.Event.{Event}
 use Rattle.ev_types.specs.declared.events.Event.TheVariants.{Connect, Disconnect, Response, Health, FetchTimeout, DrainTimeout, TtlExpired, Publish, Reap, Accept, Close, Settle}
 use Rattle.ev_model.specs.Verdicts.{is_among, is_removed}
-use Rattle.ev_stream_laws.specs.Watches.{has_item}
+use Rattle.ev_model_laws.specs.Watches.{has_item}
 
--- what is known after events: whether a stream is open, and the names of the last responses of clusters and of listeners on one
+-- what is known after events: whether a stream is open, and the names of the last responses
+-- of clusters and of listeners on one
 pub record Heard : Type 0 where
   pub connected : Bool
   pub clusters : List (List ℕ)
@@ -27,9 +28,8 @@ item_names response = map (λ (item : ItemParts). item.name) response.items
 abbrev pub heard_of : Option Kind → ResponseParts → Heard → Heard
 heard_of None response heard = heard
 heard_of (Some Cds) response heard = record heard { clusters = cond heard.connected (item_names response) heard.clusters }
-heard_of (Some Eds) response heard = heard
 heard_of (Some Lds) response heard = record heard { listeners = cond heard.connected (item_names response) heard.listeners }
-heard_of (Some Rds) response heard = heard
+heard_of (Some kind) response heard = heard
 
 abbrev pub heard_after : Event → Heard → Heard
 heard_after Connect heard = record heard { connected = true }
@@ -52,9 +52,8 @@ RemovesOthers names response = (name : List ℕ) → is_among name names ≡ tru
 abbrev pub FitsKind : Option Kind → ResponseParts → Heard → Type 0
 FitsKind None response heard = ⊤
 FitsKind (Some Cds) response heard = RemovesOthers heard.clusters response
-FitsKind (Some Eds) response heard = response.removed ≡ []
 FitsKind (Some Lds) response heard = RemovesOthers heard.listeners response
-FitsKind (Some Rds) response heard = response.removed ≡ []
+FitsKind (Some kind) response heard = response.removed ≡ []
 
 -- an event is one of the state of the world
 abbrev pub FitsAt : Event → Heard → Type 0

@@ -21,8 +21,8 @@ use Rattle.ev_model.specs.Signals.{with_results, with_end, forget_version}
 use Rattle.ev_model.specs.Step.{step, answered}
 use Rattle.ev_model_laws.proofs.AnyLemmas.{any_left}
 use Rattle.ev_model_laws.proofs.EventLemmas.{step-leads}
-use Rattle.ev_stream_laws.specs.Watches.{has_live}
-use Rattle.ev_stream_laws.proofs.LiveLemmas.{lives, has_one, tidied, left_by, ended_by, responded_follows, named_blind, live_is}
+use Rattle.ev_model_laws.specs.Watches.{has_live}
+use Rattle.ev_model_laws.proofs.LiveLemmas.{lives, has_one, tidied, left_by, ended_by, responded_follows, named_blind, live_is}
 
 -- it is no response of this kind
 abbrev pub IsOther : Kind → Event → Type 0
@@ -42,7 +42,7 @@ module _ (kind : Kind) (name : List ℕ) (format : Format) (world : World) (acto
       → Lived (answered of response (verdicts_for of (lives_of world) world.versions response) world)
   replied of response is typed =
       responded_follows (is_row_of kind name) (named_blind kind name) (one world ≡ true) of response (verdicts_for of (lives_of world) world.versions response) world
-      (λ judged there number content new good passes. absurd (false≢true (sym (other of response is typed) ∙ first_so (kind_same of kind) (bytes_eq judged.1.name name) passes)))
+      (λ judged there number content chains makes passes. absurd (false≢true (sym (other of response is typed) ∙ first_so (kind_same of kind) (bytes_eq judged.1.name name) passes)))
       (λ left. left_by (is_row_of kind name) (named_blind kind name) of response world left)
 
   lived : Lived (step format world actor event)

@@ -21,8 +21,8 @@ use Rattle.ev_script.specs.TimerLines.{timeout_line, drain_line, expired_line}
 use Rattle.ev_script.specs.MainLines.{publish_line, reap_line}
 use Rattle.ev_script.specs.WorkerLines.{worker_in, accept_members, accept_line, close_line, settle_line}
 use Rattle.ev_script.specs.Lines.{main_side_line, line_by, line_of}
-use Rattle.ev_stream_laws.specs.MainSide.{stream_told}
-use Rattle.ev_sotw_lines.specs.Deltas.{stream_said}
+use Rattle.ev_model_laws.specs.MainSide.{stream_told}
+use Rattle.ev_sotw.specs.Deltas.{stream_said}
 use Rattle.ev_sotw_delta.proofs.EventLemmas.{is_told}
 use Rattle.ev_sotw_delta.proofs.StripLemmas.{teller}
 
@@ -151,10 +151,10 @@ module _ (workers : ℕ) (profile : Profile) (at : ℕ) (op : List ℕ) (tree : 
       choose (codes "response") (response_line profile at tree) _ responds (λ _.
       choose (codes "health") (health_line at tree) _ (quiet (codes "health") refl refl (health_line at tree)
       (not_cond (has_only (codes "op" ∷ codes "cluster" ∷ codes "address" ∷ codes "port" ∷ codes "healthy" ∷ []) tree) _ (not_at at health (health_in tree) refl))) (λ _.
-      choose (codes "fetchTimeout") (timeout_line at tree) _ (quiet (codes "fetchTimeout") refl refl (timeout_line at tree) (not_at at Timer _ refl)) (λ _.
+      choose (codes "fetchTimeout") (timeout_line profile at tree) _ (quiet (codes "fetchTimeout") refl refl (timeout_line profile at tree) (not_at at Timer _ refl)) (λ _.
       choose (codes "drainTimeout") (drain_line at tree) _ (quiet (codes "drainTimeout") refl refl (drain_line at tree)
       (not_cond (has_only (codes "op" ∷ codes "listener" ∷ []) tree) _ (not_at at Timer _ refl))) (λ _.
-      choose (codes "ttlExpired") (expired_line at tree) _ (quiet (codes "ttlExpired") refl refl (expired_line at tree)
+      choose (codes "ttlExpired") (expired_line profile at tree) _ (quiet (codes "ttlExpired") refl refl (expired_line profile at tree)
       (not_cond (has_only (codes "op" ∷ codes "type" ∷ codes "name" ∷ []) tree) _ (not_at at Timer _ refl))) (λ _.
       choose (codes "publish") (publish_line at tree) _ (quiet (codes "publish") refl refl (publish_line at tree)
       (not_cond (has_only (codes "op" ∷ []) tree) _ (not_at at Main (Some Publish) refl))) (λ _.

@@ -6,20 +6,20 @@ use Rattle.std.proofs.lemmas.Bool.{false≢true}
 use Rattle.std.proofs.lemmas.List.{append-nil}
 use Rattle.std.proofs.lemmas.List.Folds.{list_any-append}
 use Rattle.std.proofs.lemmas.Grind.{flat_map-append}
-use Rattle.ev_types.specs.Kinds.{kind_same}
+use Rattle.ev_types.specs.Kinds.{kind_same, is_by_name}
 use Rattle.ev_types.specs.declared.contents.Kind.{Kind}
-use Rattle.ev_types.specs.declared.contents.Kind.TheVariants.{Cds, Eds, Lds, Rds}
+use Rattle.ev_types.specs.declared.contents.Kind.TheVariants.{Cds, Eds, Lds, Rds, Sds, Ecds}
 use Rattle.ev_types.specs.declared.contents.Request.{Request}
 use Rattle.ev_types.specs.declared.rows.KeptVersion.{KeptVersion}
 use Rattle.ev_types.specs.declared.rows.Live.{Live}
 use Rattle.ev_model.specs.Live.{lives_of}
-use Rattle.ev_model.specs.Requests.{Watched, names_request, whole_request, listeners_asked, clusters_request, connect_requests_by, other_than, watch_change, changes_asked}
+use Rattle.ev_model.specs.Requests.{Watched, names_request, whole_request, whole_requests, listeners_asked, clusters_request, connect_requests_by, other_than, watch_change, watch_changes, changes_asked}
 use Rattle.ev_model.specs.Verdicts.{is_among}
-use Rattle.ev_model.specs.Watching.{Dependency, dependencies_of, is_dependency, is_by_name, is_watched, names_awaited, watched_of}
+use Rattle.ev_model.specs.Watching.{Dependency, dependencies_of, is_dependency, is_watched, kinds_before, kinds_behind, names_awaited, watched_of}
 use Rattle.ev_model.specs.Versions.{versions_of}
 use Rattle.ev_model.specs.World.{World}
 use Rattle.ev_model_laws.proofs.TidyLists.{any_of_map}
-use Rattle.ev_names.proofs.NameLemmas.{among_sorted}
+use Rattle.ev_sotw.proofs.NameSetLemmas.{among_sorted}
 
 -- what a request asks for, or gives up, of a kind
 abbrev pub part_by : Bool → Kind → Request → List (List ℕ)
@@ -39,13 +39,6 @@ names_parts new kind of [] [] versions = nothing_by (kind_same of kind) new
 names_parts new kind of [] (name ∷ names) versions = append-nil (cond (kind_same of kind) (cond new [] (name ∷ names)) [])
 names_parts new kind of (name ∷ names) unsubscribe versions = append-nil (cond (kind_same of kind) (cond new (name ∷ names) unsubscribe) [])
 
--- a kind's names
-abbrev pub names_of : Kind → Watched → List (List ℕ)
-names_of Cds watched = []
-names_of Eds watched = watched.endpoints
-names_of Lds watched = []
-names_of Rds watched = watched.routes
-
 listeners_none : (new : Bool) (kind : Kind) → is_by_name kind ≡ true → (asked : Bool) (versions : List KeptVersion) → parts_by new kind (listeners_asked asked versions) ≡ []
 listeners_none new Cds by_name asked versions = absurd (false≢true by_name)
 listeners_none new Lds by_name asked versions = absurd (false≢true by_name)
@@ -53,6 +46,10 @@ listeners_none new Eds by_name true versions = refl
 listeners_none new Eds by_name false versions = refl
 listeners_none new Rds by_name true versions = refl
 listeners_none new Rds by_name false versions = refl
+listeners_none new Sds by_name true versions = refl
+listeners_none new Sds by_name false versions = refl
+listeners_none new Ecds by_name true versions = refl
+listeners_none new Ecds by_name false versions = refl
 
 three : (new : Bool) (kind : Kind) → is_by_name kind ≡ true → (endpoints asked routes : List Request) → parts_by new kind asked ≡ []
     → parts_by new kind (endpoints ++ (asked ++ routes)) ≡ parts_by new kind endpoints ++ parts_by new kind routes
@@ -64,48 +61,55 @@ three new kind by_name endpoints asked routes none =
 abbrev pub changed : Bool → List (List ℕ) → List (List ℕ) → List (List ℕ)
 changed new before after = cond new (other_than before after) (other_than after before)
 
-by_kind : (new : Bool) (kind : Kind) → is_by_name kind ≡ true → (endpoints routes : List (List ℕ))
-    → cond (kind_same Eds kind) endpoints [] ++ cond (kind_same Rds kind) routes [] ≡ names_of kind (record { endpoints = endpoints; routes = routes })
-by_kind new Cds by_name endpoints routes = absurd (false≢true by_name)
-by_kind new Lds by_name endpoints routes = absurd (false≢true by_name)
-by_kind new Eds by_name endpoints routes = append-nil endpoints
-by_kind new Rds by_name endpoints routes = refl
+-- what is asked for of a kind, where requests are made kind after kind
+parts_of : (new : Bool) (kind : Kind) (f : Kind → List Request) (names : Kind → List (List ℕ)) → ((k : Kind) → parts_by new kind (f k) ≡ cond (kind_same k kind) (names k) [])
+    → (kinds : List Kind) → parts_by new kind (flat_map f kinds) ≡ flat_map (λ k. cond (kind_same k kind) (names k) []) kinds
+parts_of new kind f names one [] = refl
+parts_of new kind f names one (k ∷ kinds) = flat_map-append (part_by new kind) (f k) (flat_map f kinds) ∙ (λ i. one k i ++ parts_of new kind f names one kinds i)
 
-changed_of : (new : Bool) (kind : Kind) (before after : Watched)
-    → names_of kind (record { endpoints = changed new before.endpoints after.endpoints; routes = changed new before.routes after.routes }) ≡ changed new (names_of kind before) (names_of kind after)
-changed_of true Cds before after = refl
-changed_of false Cds before after = refl
-changed_of new Eds before after = refl
-changed_of true Lds before after = refl
-changed_of false Lds before after = refl
-changed_of new Rds before after = refl
+-- each kind stands once in the two lists
+once : (kind : Kind) → is_by_name kind ≡ true → (names : Kind → List (List ℕ))
+    → flat_map (λ k. cond (kind_same k kind) (names k) []) kinds_before ++ flat_map (λ k. cond (kind_same k kind) (names k) []) kinds_behind ≡ names kind
+once Cds by_name names = absurd (false≢true by_name)
+once Eds by_name names = append-nil (names Eds ++ []) ∙ append-nil (names Eds)
+once Lds by_name names = absurd (false≢true by_name)
+once Rds by_name names = append-nil (names Rds)
+once Sds by_name names = append-nil (names Sds)
+once Ecds by_name names = append-nil (names Ecds)
 
 pub change_parts : (new : Bool) (kind : Kind) → is_by_name kind ≡ true → (before after : Watched) (asked : Bool) (versions : List KeptVersion)
-    → parts_by new kind (changes_asked before after asked versions) ≡ changed new (names_of kind before) (names_of kind after)
+    → parts_by new kind (changes_asked before after asked versions) ≡ changed new (before kind) (after kind)
 change_parts new kind by_name before after asked versions =
-    three new kind by_name (watch_change Eds before.endpoints after.endpoints) (listeners_asked asked versions) (watch_change Rds before.routes after.routes)
+    three new kind by_name (watch_changes kinds_before before after) (listeners_asked asked versions) (watch_changes kinds_behind before after)
     (listeners_none new kind by_name asked versions)
-    ∙ (λ i. names_parts new kind Eds (other_than before.endpoints after.endpoints) (other_than after.endpoints before.endpoints) [] i
-    ++ names_parts new kind Rds (other_than before.routes after.routes) (other_than after.routes before.routes) [] i)
-    ∙ by_kind new kind by_name (changed new before.endpoints after.endpoints) (changed new before.routes after.routes)
-    ∙ changed_of new kind before after
+    ∙ (λ i. of kinds_before i ++ of kinds_behind i)
+    ∙ once kind by_name (λ k. changed new (before k) (after k))
+  where
+    of : (kinds : List Kind) → parts_by new kind (watch_changes kinds before after) ≡ flat_map (λ k. cond (kind_same k kind) (changed new (before k) (after k)) []) kinds
+    of = parts_of new kind (λ k. watch_change k (before k) (after k)) (λ k. changed new (before k) (after k))
+        (λ k. names_parts new kind k (other_than (before k) (after k)) (other_than (after k) (before k)) [])
 
 clusters_none : (kind : Kind) → is_by_name kind ≡ true → (node : List ℕ) (versions : List KeptVersion) → part_by true kind (clusters_request node versions) ≡ []
 clusters_none Cds by_name node versions = absurd (false≢true by_name)
 clusters_none Eds by_name node versions = refl
 clusters_none Lds by_name node versions = absurd (false≢true by_name)
 clusters_none Rds by_name node versions = refl
+clusters_none Sds by_name node versions = refl
+clusters_none Ecds by_name node versions = refl
 
 -- what a stream that opens asks for
 pub connect_parts : (kind : Kind) → is_by_name kind ≡ true → (node : List ℕ) (watched : Watched) (asked : Bool) (versions : List KeptVersion)
-    → parts_by true kind (connect_requests_by node watched asked versions) ≡ names_of kind watched
+    → parts_by true kind (connect_requests_by node watched asked versions) ≡ watched kind
 connect_parts kind by_name node watched asked versions =
-    ap (λ ns. ns ++ parts_by true kind (whole_request Eds watched.endpoints versions ++ (listeners_asked asked versions ++ whole_request Rds watched.routes versions)))
+    ap (λ ns. ns ++ parts_by true kind (whole_requests kinds_before watched versions ++ (listeners_asked asked versions ++ whole_requests kinds_behind watched versions)))
     (clusters_none kind by_name node versions)
-    ∙ three true kind by_name (whole_request Eds watched.endpoints versions) (listeners_asked asked versions) (whole_request Rds watched.routes versions)
+    ∙ three true kind by_name (whole_requests kinds_before watched versions) (listeners_asked asked versions) (whole_requests kinds_behind watched versions)
     (listeners_none true kind by_name asked versions)
-    ∙ (λ i. names_parts true kind Eds watched.endpoints [] (versions_of Eds versions) i ++ names_parts true kind Rds watched.routes [] (versions_of Rds versions) i)
-    ∙ by_kind true kind by_name watched.endpoints watched.routes
+    ∙ (λ i. of kinds_before i ++ of kinds_behind i)
+    ∙ once kind by_name watched
+  where
+    of : (kinds : List Kind) → parts_by true kind (whole_requests kinds watched versions) ≡ flat_map (λ k. cond (kind_same k kind) (watched k) []) kinds
+    of = parts_of true kind (λ k. whole_request k (watched k) versions) watched (λ k. names_parts true kind k (watched k) [] (versions_of k versions))
 
 -- ---- names that are watched
 

@@ -4,9 +4,9 @@ use Rattle.std.specs.Prelude.{slice_get, unwrap_or}
 use Rattle.std.specs.List.{last_or, cons_option}
 use Rattle.std.proofs.lemmas.Bool.{false≢true}
 use Rattle.ev_types.specs.Items.{ResponseParts}
-use Rattle.ev_types.specs.Kinds.{kind_same}
+use Rattle.ev_types.specs.Kinds.{kind_same, is_by_name}
 use Rattle.ev_types.specs.declared.contents.Kind.{Kind}
-use Rattle.ev_types.specs.declared.contents.Kind.TheVariants.{Cds, Eds, Lds, Rds}
+use Rattle.ev_types.specs.declared.contents.Kind.TheVariants.{Cds, Lds}
 use Rattle.ev_types.specs.declared.events.Actor.{Actor}
 use Rattle.ev_types.specs.declared.events.Answer.TheVariants.{Ignored}
 use Rattle.ev_types.specs.declared.events.Entry.{Entry}
@@ -17,11 +17,10 @@ use Rattle.ev_model.specs.World.{World, opening}
 use Rattle.ev_model.specs.Runs.{world_after}
 use Rattle.ev_model.specs.Step.{step, respond_by}
 use Rattle.ev_model.specs.Verdicts.{is_among, is_removed}
-use Rattle.ev_model.specs.Watching.{is_by_name}
-use Rattle.ev_stream_laws.specs.MainSide.{stream_told}
-use Rattle.ev_stream_laws.specs.Watches.{has_live, has_item}
-use Rattle.ev_stream_laws.proofs.LiveLemmas.{live_named}
-use Rattle.ev_stream_laws.proofs.StreamLemmas.{stream_after}
+use Rattle.ev_model_laws.specs.MainSide.{stream_told}
+use Rattle.ev_model_laws.specs.Watches.{has_live, has_item}
+use Rattle.ev_model_laws.proofs.LiveLemmas.{live_named}
+use Rattle.ev_model_laws.proofs.StreamLemmas.{stream_after}
 use Rattle.ev_sotw_delta.proofs.LiveLemmas.{IsOther, lived_before}
 use Rattle.ev_sotw_delta.proofs.EventLemmas.{Heard, nothing_heard, item_names, heard_of, heard_after, RemovesOthers, FitsKind, FitsAt, AllFit, among_items}
 use Rattle.ev_sotw_delta.proofs.StripLemmas.{entry_events}
@@ -44,9 +43,8 @@ nothing_lives workers node = record {
 of_connected : (found : Option Kind) (response : ResponseParts) (heard : Heard) → (heard_of found response heard).connected ≡ heard.connected
 of_connected None response heard = refl
 of_connected (Some Cds) response heard = refl
-of_connected (Some Eds) response heard = refl
 of_connected (Some Lds) response heard = refl
-of_connected (Some Rds) response heard = refl
+of_connected (Some kind) response heard = refl
 
 pub connected_after : (event : Event) (heard : Heard) → (heard_after event heard).connected ≡ unwrap_or (stream_told event) heard.connected
 connected_after Connect heard = refl
@@ -112,32 +110,24 @@ module _ (format : Format) (world : World) (actor : Actor) (heard : Heard) (hold
   responded_clusters : (response : ResponseParts) (found : Option Kind) → response.kind ≡ found → FitsKind found response heard
       → (name : List ℕ) → has_live (step format world actor (Response response)).0 Cds name ≡ true → is_among name (heard_of found response heard).clusters ≡ true
   responded_clusters response None typed fits name h = holds.clusters name (lived_before Cds name format world actor (Response response) (no_kind Cds response typed) h)
-  responded_clusters response (Some Eds) typed fits name h =
-      holds.clusters name (lived_before Cds name format world actor (Response response) (other_kind Cds Eds response typed refl) h)
-  responded_clusters response (Some Lds) typed fits name h =
-      holds.clusters name (lived_before Cds name format world actor (Response response) (other_kind Cds Lds response typed refl) h)
-  responded_clusters response (Some Rds) typed fits name h =
-      holds.clusters name (lived_before Cds name format world actor (Response response) (other_kind Cds Rds response typed refl) h)
   responded_clusters response (Some Cds) typed fits name h = by heard.connected holds.stream
     where
       by : (b : Bool) → world.stream ≡ b → is_among name (cond b (item_names response) heard.clusters) ≡ true
       by true streams = among_items response name ∙ named_by format world actor response Cds heard.clusters holds.clusters fits streams typed refl name h
       by false closed = holds.clusters name (subst (λ w. has_live w Cds name ≡ true) (closed_same format world actor response closed) h)
+  responded_clusters response (Some kind) typed fits name h =
+      holds.clusters name (lived_before Cds name format world actor (Response response) (other_kind Cds kind response typed refl) h)
 
   responded_listeners : (response : ResponseParts) (found : Option Kind) → response.kind ≡ found → FitsKind found response heard
       → (name : List ℕ) → has_live (step format world actor (Response response)).0 Lds name ≡ true → is_among name (heard_of found response heard).listeners ≡ true
   responded_listeners response None typed fits name h = holds.listeners name (lived_before Lds name format world actor (Response response) (no_kind Lds response typed) h)
-  responded_listeners response (Some Eds) typed fits name h =
-      holds.listeners name (lived_before Lds name format world actor (Response response) (other_kind Lds Eds response typed refl) h)
-  responded_listeners response (Some Cds) typed fits name h =
-      holds.listeners name (lived_before Lds name format world actor (Response response) (other_kind Lds Cds response typed refl) h)
-  responded_listeners response (Some Rds) typed fits name h =
-      holds.listeners name (lived_before Lds name format world actor (Response response) (other_kind Lds Rds response typed refl) h)
   responded_listeners response (Some Lds) typed fits name h = by heard.connected holds.stream
     where
       by : (b : Bool) → world.stream ≡ b → is_among name (cond b (item_names response) heard.listeners) ≡ true
       by true streams = among_items response name ∙ named_by format world actor response Lds heard.listeners holds.listeners fits streams typed refl name h
       by false closed = holds.listeners name (subst (λ w. has_live w Lds name ≡ true) (closed_same format world actor response closed) h)
+  responded_listeners response (Some kind) typed fits name h =
+      holds.listeners name (lived_before Lds name format world actor (Response response) (other_kind Lds kind response typed refl) h)
 
   still_clusters : (event : Event) → IsOther Cds event → (name : List ℕ) → has_live (step format world actor event).0 Cds name ≡ true → is_among name heard.clusters ≡ true
   still_clusters event other name h = holds.clusters name (lived_before Cds name format world actor event other h)

@@ -5,14 +5,12 @@ use Rattle.std.proofs.lemmas.Bool.{false≢true, cond_both}
 use Rattle.std.proofs.lemmas.List.{append-nil}
 use Rattle.std.proofs.lemmas.Grind.{flat_map-append}
 use Rattle.ev_types.specs.Items.{ResponseParts}
-use Rattle.ev_types.specs.Kinds.{kind_same}
+use Rattle.ev_types.specs.Kinds.{kind_same, is_by_name}
 use Rattle.ev_types.specs.Statuses.{is_live}
 use Rattle.ev_types.specs.declared.contents.Kind.{Kind}
-use Rattle.ev_types.specs.declared.contents.Kind.TheVariants.{Cds, Eds, Lds, Rds}
 use Rattle.ev_types.specs.declared.contents.Request.{Request}
 use Rattle.ev_types.specs.declared.events.Actor.{Actor}
 use Rattle.ev_types.specs.declared.events.Ask.{Ask}
-use Rattle.ev_types.specs.declared.hosts.Host.{Host}
 use Rattle.ev_types.specs.declared.events.Answer.{Answer}
 use Rattle.ev_types.specs.declared.events.Answer.TheVariants.{Ignored, Done, Moved, Replied, Version, Unchanged, InUse, NotOpen}
 use Rattle.ev_types.specs.declared.events.Entry.{Entry}
@@ -29,32 +27,32 @@ use Rattle.ev_model.specs.Dead.{is_dead, is_dead_at}
 use Rattle.ev_model.specs.Rows.{is_row_of}
 use Rattle.ev_model.specs.Tidy.{is_due, has_successor, promoted_status, promoted_rows, tidy}
 use Rattle.ev_model.specs.Warming.{is_ready_by}
-use Rattle.ev_model.specs.Requests.{all_watched, connect_requests, requests_of, reply_of, changes_asked, has_left_clusters}
+use Rattle.ev_model.specs.Requests.{connect_requests, requests_of, reply_of, changes_asked, has_left_clusters}
 use Rattle.ev_model.specs.Verdicts.{is_among, verdicts_for}
-use Rattle.ev_model.specs.Watching.{is_by_name, is_watched}
-use Rattle.ev_model.specs.Connections.{Worked, answer_of, served_by, host_at, is_open, accepted, opened_by, accept, closed, close, is_member, settle}
+use Rattle.ev_model.specs.Watching.{is_watched, watched_of}
+use Rattle.ev_model.specs.Connections.{Worked, answer_of, is_open, accepted, opened_by, accept, closed, close, is_member, settle}
 use Rattle.ev_model.specs.Phase.{is_clusters}
 use Rattle.ev_model.specs.Choice.{choice_of}
 use Rattle.ev_model.specs.Dead.{picture_held}
 use Rattle.ev_model.specs.declared.pictures.Picture.{Picture}
 use Rattle.ev_model.specs.declared.pictures.Choice.{Choice}
-use Rattle.ev_model.specs.declared.pictures.Choice.TheVariants.{NoListener as no_listener, NoChain as no_chain, Undecided as undecided, Elsewhere as elsewhere, NoRoute as no_route, Local as local, Redirect as redirect, NoCluster as no_cluster, NoEndpoint as no_endpoint, Served as served}
+use Rattle.ev_model.specs.declared.pictures.Choice.TheVariants.{NoListener as no_listener, NoChain as no_chain, On as on}
 use Rattle.ev_model.specs.Publishing.{reap}
 use Rattle.ev_model.specs.Signals.{moved, with_results, with_end, forget_version}
 use Rattle.ev_model.specs.Rows.{arrived}
 use Rattle.ev_model.specs.Picture.{shown_of}
 use Rattle.ev_types.specs.declared.rows.Arrival.TheVariants.{TimedOut}
 use Rattle.ev_model_laws.proofs.EventLemmas.{step-leads}
-use Rattle.ev_stream_laws.specs.MainSide.{stream_told}
-use Rattle.ev_stream_laws.proofs.StreamLemmas.{stream_after}
+use Rattle.ev_model_laws.specs.MainSide.{stream_told}
+use Rattle.ev_model_laws.proofs.StreamLemmas.{stream_after}
 use Rattle.ev_model.specs.Step.{step, answered, responded}
 use Rattle.ev_model_laws.specs.Kept.{NothingIsDue}
 use Rattle.ev_model_laws.proofs.TidyLemmas.{status_kept}
 use Rattle.ev_model_laws.proofs.TidyLists.{any_none, map_same}
-use Rattle.ev_names.proofs.NameLemmas.{among_other}
-use Rattle.ev_sotw_lines.proofs.SearchLemmas.{or_last}
+use Rattle.ev_sotw.proofs.NameSetLemmas.{among_other}
+use Rattle.ev_sotw.proofs.SearchLemmas.{or_last}
 use Rattle.ev_sotw.specs.Stated.{is_connect, is_moved, requests_in}
-use Rattle.ev_sotw_delta.proofs.RequestLemmas.{part_by, parts_by, names_of, nothing_by, changed, change_parts, connect_parts, among_watched}
+use Rattle.ev_sotw_delta.proofs.RequestLemmas.{part_by, parts_by, nothing_by, changed, change_parts, connect_parts, among_watched}
 
 -- ---- what lives
 
@@ -105,21 +103,10 @@ reaped_lives format world =
 abbrev Quiet : Answer → Type 0
 Quiet answer = (is_moved answer ≡ false) × (requests_in answer ≡ [])
 
-host_quiet : (listener cluster : ℕ) (host : Option Host) → Quiet (served_by listener cluster host)
-host_quiet listener cluster None = (refl, refl)
-host_quiet listener cluster (Some host) = (refl, refl)
-
 chosen_quiet : (picture : Picture) (choice : Choice) → Quiet (answer_of picture choice)
 chosen_quiet picture no_listener = (refl, refl)
 chosen_quiet picture no_chain = (refl, refl)
-chosen_quiet picture (undecided listener) = (refl, refl)
-chosen_quiet picture (elsewhere listener cluster) = (refl, refl)
-chosen_quiet picture (no_route listener) = (refl, refl)
-chosen_quiet picture (local listener status) = (refl, refl)
-chosen_quiet picture (redirect listener) = (refl, refl)
-chosen_quiet picture (no_cluster listener) = (refl, refl)
-chosen_quiet picture (no_endpoint listener) = (refl, refl)
-chosen_quiet picture (served listener cluster place) = host_quiet listener cluster (host_at picture cluster place)
+chosen_quiet picture (on listener chain origin course) = (refl, refl)
 
 accepted_quiet : (picture : Picture) (ask : Ask) (worker : ℕ) (opened : List OpenMember) → Quiet (accepted picture ask worker opened).answer
 accepted_quiet picture ask worker opened =
@@ -157,14 +144,8 @@ module _ (kind : Kind) (by_name : is_by_name kind ≡ true) (name : List ℕ) wh
   turned false true was is = refl
   turned false false was is = is
 
-  among_names : (world : World) → is_among name (names_of kind (all_watched world)) ≡ is_watched (lives_of world) kind name
-  among_names world = by kind by_name
-    where
-      by : (k : Kind) → is_by_name k ≡ true → is_among name (names_of k (all_watched world)) ≡ is_watched (lives_of world) k name
-      by Cds h = absurd (false≢true h)
-      by Eds h = among_watched world Eds name
-      by Lds h = absurd (false≢true h)
-      by Rds h = among_watched world Rds name
+  among_names : (world : World) → is_among name (watched_of world kind) ≡ is_watched (lives_of world) kind name
+  among_names world = among_watched world kind name
 
   module _ (format : Format) (world : World) (actor : Actor) (event : Event) (due : NothingIsDue world) (was : Bool) (held : world.stream ≡ true → was ≡ is_watched (lives_of world) kind name)
       (open_before : (is_connect event ≡ true) ⊎ (world.stream ≡ true)) where
@@ -178,21 +159,21 @@ module _ (kind : Kind) (by_name : is_by_name kind ≡ true) (name : List ℕ) wh
         by (inl is) = absurd (false≢true (sym not ∙ is))
         by (inr is) = is
 
-    among_changed : (new : Bool) (after : World) → is_among name (changed new (names_of kind (all_watched world)) (names_of kind (all_watched after)))
+    among_changed : (new : Bool) (after : World) → is_among name (changed new (watched_of world kind) (watched_of after kind))
         ≡ cond new (watched after && not (watched world)) (watched world && not (watched after))
     among_changed true after =
-        among_other (names_of kind (all_watched world)) (names_of kind (all_watched after)) name ∙ (λ i. among_names after i && not (among_names world i))
+        among_other (watched_of world kind) (watched_of after kind) name ∙ (λ i. among_names after i && not (among_names world i))
     among_changed false after =
-        among_other (names_of kind (all_watched after)) (names_of kind (all_watched world)) name ∙ (λ i. among_names world i && not (among_names after i))
+        among_other (watched_of after kind) (watched_of world kind) name ∙ (λ i. among_names world i && not (among_names after i))
 
     -- requests that report a change of what is watched, after a reply or not
     requests_parts : (new : Bool) (after : World) (reply : Option Request) → after.stream ≡ true → parts_by new kind (option_to_list reply) ≡ []
         → is_among name (parts_by new kind (requests_of world after reply)) ≡ cond new (watched after && not (watched world)) (watched world && not (watched after))
     requests_parts new after reply streams none =
-        let changes : List Request = changes_asked (all_watched world) (all_watched after) (has_left_clusters world after) after.versions in
+        let changes : List Request = changes_asked (watched_of world) (watched_of after) (has_left_clusters world after) after.versions in
         ap (λ b. is_among name (parts_by new kind (option_to_list reply ++ cond b changes []))) streams
         ∙ ap (is_among name) (flat_map-append (part_by new kind) (option_to_list reply) changes
-        ∙ (λ i. none i ++ change_parts new kind by_name (all_watched world) (all_watched after) (has_left_clusters world after) after.versions i))
+        ∙ (λ i. none i ++ change_parts new kind by_name (watched_of world) (watched_of after) (has_left_clusters world after) after.versions i))
         ∙ among_changed new after
 
     changes_said : is_connect event ≡ false → (after : World) (answer : Answer) (reply : Option Request) → requests_in answer ≡ requests_of world after reply
@@ -218,7 +199,7 @@ module _ (kind : Kind) (by_name : is_by_name kind ≡ true) (name : List ℕ) wh
         ap (λ told. or_last told was)
         (ap (λ (e : Event). cond (is_connect e && true) (Some (is_among name (parts_by true kind (connect_requests world))))
         (cond (is_among name (parts_by true kind (connect_requests world))) (Some true) (cond (is_among name (parts_by false kind (connect_requests world))) (Some false) None))) is)
-        ∙ ap (is_among name) (connect_parts kind by_name world.node (all_watched world) (not (is_clusters world.phase)) world.versions)
+        ∙ ap (is_among name) (connect_parts kind by_name world.node (watched_of world) (not (is_clusters world.phase)) world.versions)
         ∙ among_names world
         ∙ ap (λ lives. is_watched lives kind name) (sym (lives_by world (tidy (record world { stream = true })) (rows_stay world due)))
 

@@ -3,6 +3,7 @@ use Rattle.std.proofs.Common.{◌≡◌, ◌∙◌, ℕ, zero, suc, true, false,
 use Rattle.std.specs.List.{flat_map}
 use Rattle.std.proofs.lemmas.Bool.{false≢true}
 use Rattle.std.proofs.lemmas.List.{append-nil, append_assoc}
+use Rattle.ev_types.specs.Kinds.{is_by_name}
 use Rattle.ev_types.specs.declared.contents.Kind.{Kind}
 use Rattle.ev_types.specs.declared.events.Answer.{Answer}
 use Rattle.ev_types.specs.declared.journals.Format.{Format}
@@ -10,12 +11,12 @@ use Rattle.ev_types.specs.declared.rows.Live.{Live}
 use Rattle.ev_model.specs.Live.{lives_of}
 use Rattle.ev_model.specs.Runs.{RunsFrom, world_after, world_at}
 use Rattle.ev_model.specs.Step.{step}
-use Rattle.ev_model.specs.Watching.{is_by_name, is_watched, names_awaited, dependencies_of, watched_of}
+use Rattle.ev_model.specs.Watching.{is_watched, names_awaited, dependencies_of, watched_of}
 use Rattle.ev_model.specs.World.{World, opening}
 use Rattle.ev_model_laws.specs.Kept.{NothingIsDue}
 use Rattle.ev_model_laws.proofs.PromotionLemmas.{opens_due, step-due}
-use Rattle.ev_names.proofs.NameLemmas.{same-names, sorted-in_order}
-use Rattle.ev_sotw_lines.proofs.SearchLemmas.{or_last, search_more}
+use Rattle.ev_sotw.proofs.NameSetLemmas.{same-names, sorted-in_order}
+use Rattle.ev_sotw.proofs.SearchLemmas.{or_last, search_more}
 use Rattle.ev_sotw.specs.Stated.{Stated, asked, asked_said, is_asked, names_asked}
 use Rattle.ev_sotw.proofs.FollowLemmas.{among_asked}
 use Rattle.ev_sotw_delta.specs.Watches.{RequestsTellWatches, entries_in}

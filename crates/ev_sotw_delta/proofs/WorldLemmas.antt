@@ -3,8 +3,9 @@ use Rattle.std.proofs.Common.{◌≡◌, ◌∙◌, ℕ, ◌+◌, Bool, true, fa
 use Rattle.std.proofs.lemmas.Bool.{false≢true}
 use Rattle.ev_types.specs.Items.{ResponseParts}
 use Rattle.ev_types.specs.Scripts.{IsScript, ScriptParts}
+use Rattle.ev_types.specs.Kinds.{is_by_name}
 use Rattle.ev_types.specs.declared.contents.Kind.{Kind}
-use Rattle.ev_types.specs.declared.contents.Kind.TheVariants.{Cds, Eds, Lds, Rds}
+use Rattle.ev_types.specs.declared.contents.Kind.TheVariants.{Cds, Lds}
 use Rattle.ev_types.specs.declared.events.Actor.{Actor}
 use Rattle.ev_types.specs.declared.events.Actor.TheVariants.{Stream}
 use Rattle.ev_types.specs.declared.events.Answer.TheVariants.{Ignored}
@@ -19,19 +20,19 @@ use Rattle.ev_model.specs.Operations.{Operation, IsRunOf, entries_of, operations
 use Rattle.ev_model.specs.Runs.{IsRun, world_at}
 use Rattle.ev_model.specs.Step.{step, respond_by}
 use Rattle.ev_model.specs.Warming.{value_of}
-use Rattle.ev_model.specs.Watching.{is_by_name, is_watched, watched_of}
+use Rattle.ev_model.specs.Watching.{is_watched, watched_of}
 use Rattle.ev_model_laws.proofs.PlaceLemmas.{IsAnswered, entry_answered, world_next}
 use Rattle.ev_script.specs.declared.trees.ScriptTrees.{ScriptTrees}
 use Rattle.ev_script.specs.Faults.{Input}
 use Rattle.ev_script.specs.Header.{settings_of}
 use Rattle.ev_script.specs.ReadTrees.{IsTreesAnswer}
-use Rattle.ev_stream_laws.specs.Watches.{has_live, has_item}
-use Rattle.ev_stream_laws.proofs.HoldLemmas.{side_holds}
-use Rattle.ev_stream_laws.proofs.ToldLemmas.{told_stay}
-use Rattle.ev_sotw_lines.specs.declared.names_so_far.NamesSoFar.{NamesSoFar}
-use Rattle.ev_sotw_lines.specs.Lines.{sotw_lines}
-use Rattle.ev_expand_laws.specs.Said.{lines_in}
-use Rattle.ev_expand_laws.proofs.FormLemmas.{trees_have_forms}
+use Rattle.ev_model_laws.specs.Watches.{has_live, has_item}
+use Rattle.ev_model_laws.proofs.HoldLemmas.{side_holds}
+use Rattle.ev_model_laws.proofs.ToldLemmas.{told_stay}
+use Rattle.ev_sotw.specs.declared.names_so_far.NamesSoFar.{NamesSoFar}
+use Rattle.ev_sotw.specs.Lines.{sotw_lines}
+use Rattle.ev_expand.specs.Said.{lines_in}
+use Rattle.ev_expand.proofs.FormLemmas.{trees_have_forms}
 use Rattle.ev_sotw.specs.Stated.{Stated, names_asked}
 use Rattle.ev_sotw_delta.specs.DeltaText.{delta_script}
 use Rattle.ev_sotw_delta.specs.SameWorld.{is_replied, AnswersAt, SameWorld}
@@ -106,14 +107,12 @@ named_in format script journal k Lds response name shown typed isnt live =
     named_by format (world_at format script.workers script.node journal k) shown.actor response Lds shown.here.heard.listeners shown.here.holds.listeners
     (subst (λ found. FitsKind found response shown.here.heard) typed shown.here.fits) shown.streams typed isnt name
     (subst (λ (w : World). has_live w Lds name ≡ true) shown.next live)
-named_in format script journal k Eds response name shown typed isnt live = absurd (false≢true (sym isnt))
-named_in format script journal k Rds response name shown typed isnt live = absurd (false≢true (sym isnt))
+named_in format script journal k kind response name shown typed isnt live = absurd (false≢true (sym isnt))
 
 nothing_removed : (kind : Kind) (response : ResponseParts) (heard : Heard) → FitsKind (Some kind) response heard → is_by_name kind ≡ true → response.removed ≡ []
 nothing_removed Cds response heard fits is = absurd (false≢true is)
-nothing_removed Eds response heard fits is = fits
 nothing_removed Lds response heard fits is = absurd (false≢true is)
-nothing_removed Rds response heard fits is = fits
+nothing_removed kind response heard fits is = fits
 
 stays_in : (format : Format) (script : ScriptParts) (journal : List Entry) (k : ℕ) (kind : Kind) (response : ResponseParts) (name : List ℕ)
     → Shows format script journal k kind response → response.kind ≡ Some kind → is_by_name kind ≡ true

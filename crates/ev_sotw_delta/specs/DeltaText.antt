@@ -9,8 +9,8 @@ use Rattle.ev_expand.specs.Room.{IsTextSoFar}
 use Rattle.ev_expand.specs.declared.text_so_far.TextSoFar.{TextSoFar}
 use Rattle.ev_tree.specs.Floats.{whole}
 use Rattle.ev_trees.specs.Trees.{ReadsBack, IsReadable, AreWithinLimits}
-use Rattle.ev_expand_laws.specs.Said.{lines_in, lines_said}
-use Rattle.ev_sotw_lines.specs.Deltas.{deltas_of}
+use Rattle.ev_expand.specs.Said.{lines_in, lines_said}
+use Rattle.ev_sotw.specs.Deltas.{deltas_of}
 use Rattle.ev_sotw_delta.specs.declared.outcome.DeltaError.{DeltaError}
 use Rattle.ev_sotw_delta.specs.declared.outcome.DeltaError.TheVariants.{Large, OutOfMemory}
 
@@ -18,11 +18,11 @@ use Rattle.ev_sotw_delta.specs.declared.outcome.DeltaError.TheVariants.{Large, O
 
 -- the trees that are written: the header's, and what the lines become, with -1 for each float
 abbrev pub written_of : ScriptTrees → List Data
-written_of trees = map whole (view trees.head ∷ deltas_of (lines_in trees))
+written_of trees = map whole (view trees.head ∷ deltas_of trees.header.profile (lines_in trees))
 
 -- the script that is written
 abbrev pub delta_script : ScriptTrees → ScriptParts
-delta_script trees = script_made trees.header (lines_said trees.header.profile 2 (deltas_of (lines_in trees)))
+delta_script trees = script_made trees.header (lines_said trees.header.profile 2 (deltas_of trees.header.profile (lines_in trees)))
 
 -- ---- limits
 

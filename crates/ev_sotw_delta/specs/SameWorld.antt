@@ -2,6 +2,7 @@
 use Rattle.std.specs.Prelude.{◌≡◌, ℕ, ◌+◌, Bool, true, false, List, slice_get, take, Some, Ok}
 use Rattle.ev_types.specs.Items.{ResponseParts}
 use Rattle.ev_types.specs.Scripts.{IsScript, ScriptParts}
+use Rattle.ev_types.specs.Kinds.{is_by_name}
 use Rattle.ev_types.specs.declared.contents.Kind.{Kind}
 use Rattle.ev_types.specs.declared.events.Answer.{Answer}
 use Rattle.ev_types.specs.declared.events.Answer.TheVariants.{Replied}
@@ -12,12 +13,12 @@ use Rattle.ev_model.specs.Live.{lives_of}
 use Rattle.ev_model.specs.Operations.{IsRunOf}
 use Rattle.ev_model.specs.Runs.{world_at}
 use Rattle.ev_model.specs.Warming.{value_of}
-use Rattle.ev_model.specs.Watching.{is_by_name, is_watched, watched_of}
+use Rattle.ev_model.specs.Watching.{is_watched, watched_of}
 use Rattle.ev_script.specs.declared.trees.ScriptTrees.{ScriptTrees}
 use Rattle.ev_script.specs.Faults.{Input}
 use Rattle.ev_script.specs.ReadTrees.{IsTreesAnswer}
-use Rattle.ev_stream_laws.specs.Watches.{has_live, has_item}
-use Rattle.ev_sotw_lines.specs.Lines.{sotw_lines}
+use Rattle.ev_model_laws.specs.Watches.{has_live, has_item}
+use Rattle.ev_sotw.specs.Lines.{sotw_lines}
 use Rattle.ev_sotw.specs.Stated.{Stated, names_asked}
 use Rattle.ev_sotw_delta.specs.DeltaText.{delta_script}
 use Rattle.ev_sotw_delta.specs.Watches.{entries_in}
@@ -35,10 +36,10 @@ pub record AnswersAt (journal : List Entry) (k : ℕ) (kind : Kind) (response : 
   pub typed : response.kind ≡ Some kind
   pub answered : is_replied entry.answer ≡ true
 
--- What a run of a script shows of its responses and requests. `named`: after an answered response of clusters or listeners each
--- live generation of that kind has a name that is in it. `stays`: one of endpoints or routes leaves the value of each name that
--- is watched after it, and that it doesn't name. `asked`: while a stream is open, the names that a request lists are all that are
--- watched after its entry, whatever versions the entries have.
+-- What a run of a script shows of its responses and requests. `named`: after an answered response of clusters or
+-- listeners each live generation of that kind has a name that is in it. `stays`: one of a type that is asked for by
+-- name leaves the value of each name that is watched after it, and that it doesn't name. `asked`: while a stream is
+-- open, the names that a request lists are all that are watched after its entry, whatever versions the entries have.
 pub record IsSameWorld (format : Format) (script : ScriptParts) (journal : List Entry) : Type 0 where
   pub named : (k : ℕ) (kind : Kind) (response : ResponseParts) (name : List ℕ) → AnswersAt journal k kind response → is_by_name kind ≡ false
       → has_live (world_at format script.workers script.node journal (k + 1)) kind name ≡ true → has_item response name ≡ true
@@ -55,7 +56,8 @@ RunsAreSameWorld trees =
     (format : Format) (journal : List Entry) → IsScript (delta_script trees) → IsRunOf format (delta_script trees) journal
     → IsSameWorld format (delta_script trees) journal
 
--- every run of the script that is written for a script of the state of the world, whose trees were read without a fault, is so
+-- every run of the script that is written for a script of the state of the world,
+-- whose trees were read without a fault, is so
 abbrev pub SameWorld : Type 0
 SameWorld =
     (input : Input) (trees : ScriptTrees) (format : Format) (journal : List Entry)

@@ -1,10 +1,11 @@
 -- The names that requests list are those that are watched.
 use Rattle.std.specs.Prelude.{◌≡◌, ℕ, true, List, map, take}
+use Rattle.ev_types.specs.Kinds.{is_by_name}
 use Rattle.ev_types.specs.declared.contents.Kind.{Kind}
 use Rattle.ev_types.specs.declared.events.Entry.{Entry}
 use Rattle.ev_types.specs.declared.journals.Format.{Format}
 use Rattle.ev_model.specs.Runs.{IsRun, world_at}
-use Rattle.ev_model.specs.Watching.{is_by_name, watched_of}
+use Rattle.ev_model.specs.Watching.{watched_of}
 use Rattle.ev_sotw.specs.Stated.{Stated, names_asked}
 
 -- the entries of a journal, each with a version

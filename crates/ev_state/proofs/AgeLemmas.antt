@@ -6,23 +6,25 @@ use Rattle.ev_types.specs.Items.{ItemParts, ResponseParts}
 use Rattle.ev_types.specs.Kinds.{kind_same}
 use Rattle.ev_types.specs.Statuses.{is_live, is_warming}
 use Rattle.ev_types.specs.declared.contents.Kind.{Kind}
-use Rattle.ev_types.specs.declared.contents.Kind.TheVariants.{Cds, Eds, Lds, Rds}
+use Rattle.ev_types.specs.declared.contents.Kind.TheVariants.{Cds, Eds, Lds, Rds, Sds, Ecds}
 use Rattle.ev_types.specs.declared.contents.Body.{Body}
 use Rattle.ev_types.specs.declared.contents.Body.TheVariants.{Good, Bad, Beat}
+use Rattle.ev_types.specs.declared.contents.Content.{Content}
 use Rattle.ev_types.specs.declared.events.Verdict.{Verdict}
-use Rattle.ev_types.specs.declared.events.Verdict.TheVariants.{New, Same, Kept, Unasked, Renewed, Refused}
+use Rattle.ev_types.specs.declared.events.Verdict.TheVariants.{New, InPlace, Back, Same, Kept, Unasked, Renewed, Refused}
+use Rattle.ev_types.specs.declared.origins.KeptChain.{KeptChain}
 use Rattle.ev_types.specs.declared.rows.RowStatus.{RowStatus}
 use Rattle.ev_types.specs.declared.rows.RowStatus.TheVariants.{Warming, Active, Draining, Dropped}
 use Rattle.ev_types.specs.declared.rows.GenRow.{GenRow}
 use Rattle.ev_model.specs.World.{World}
 use Rattle.ev_model.specs.Live.{lives_of}
 use Rattle.ev_model.specs.Watching.{is_watched}
-use Rattle.ev_model.specs.Rows.{with_statuses, removed_status, replaced_status, status_left, is_row_of, new_row, rows_with_new, with_removals, add_row, keep_version, keep_value, with_content, refuse, add_item, add_items}
+use Rattle.ev_model.specs.Rows.{with_statuses, removed_status, replaced_status, status_left, is_row_of, new_row, rows_with_new, serving_row, with_removals, add_row, go_back, keep_version, keep_value, with_content, refuse, add_item, add_items}
+use Rattle.ev_model.specs.Origins.{kept_from}
 use Rattle.ev_model.specs.Signals.{ended_status, with_end, forget_version}
 use Rattle.ev_model.specs.Tidy.{status_by}
 use Rattle.ev_model.specs.Verdicts.{is_removed}
-use Rattle.ev_generations.specs.Tables.{row_in}
-use Rattle.ev_indexes.specs.Worlds.{rows_of_kind}
+use Rattle.ev_indexes.specs.Tables.{row_in}
 use Rattle.ev_state.specs.Ages.{IsLater, AreLater}
 
 abbrev AreNew : ℕ → List GenRow → Type 0
@@ -58,28 +60,6 @@ later-statused made f stays (row ∷ rows) = (record { same = refl; over = stays
 later-more : (made : ℕ) (rows : List GenRow) (new : GenRow) → made < new.number → AreLater made rows (rows ++ new ∷ [])
 later-more made [] new behind = (behind, tt)
 later-more made (row ∷ rows) new behind = (itself row, later-more made rows new behind)
-
--- of one kind alone
-new_kind : (kind : Kind) (made : ℕ) (rows : List GenRow) → AreNew made rows → AreNew made (rows_of_kind kind rows)
-new_kind kind made [] new = tt
-new_kind kind made (r ∷ rs) new = by (kind_same r.kind kind) (new_kind kind made rs new.1)
-  where
-    by : (b : Bool) → AreNew made (rows_of_kind kind rs) → AreNew made (cond b (r ∷ rows_of_kind kind rs) (rows_of_kind kind rs))
-    by true more = (new.0, more)
-    by false more = more
-
-pub later-kind : (kind : Kind) (made : ℕ) (a b : List GenRow) → AreLater made a b → AreLater made (rows_of_kind kind a) (rows_of_kind kind b)
-later-kind kind made [] b x = new_kind kind made b x
-later-kind kind made (r ∷ rs) [] x = absurd x
-later-kind kind made (r ∷ rs) (s ∷ ss) x =
-    by (kind_same r.kind kind) (kind_same s.kind kind) (ap (λ (t : GenRow). kind_same t.kind kind) x.0.same) (later-kind kind made rs ss x.1)
-  where
-    by : (t u : Bool) → u ≡ t → AreLater made (rows_of_kind kind rs) (rows_of_kind kind ss)
-        → AreLater made (cond t (r ∷ rows_of_kind kind rs) (rows_of_kind kind rs)) (cond u (s ∷ rows_of_kind kind ss) (rows_of_kind kind ss))
-    by true true e more = (x.0, more)
-    by false false e more = more
-    by true false e more = absurd (false≢true e)
-    by false true e more = absurd (false≢true (sym e))
 
 -- a generation is found as before
 pub record Found (rows : List GenRow) (number : ℕ) (P : GenRow → Type 0) : Type 0 where
@@ -185,6 +165,8 @@ end-later made Cds name world = later-ended made Cds name world.rows
 end-later made Eds name world = later-same made world.rows
 end-later made Lds name world = later-ended made Lds name world.rows
 end-later made Rds name world = later-same made world.rows
+end-later made Sds name world = later-same made world.rows
+end-later made Ecds name world = later-same made world.rows
 
 -- from one world to another generations go on, and numbers too
 record Grows (made : ℕ) (before after : World) : Type 0 where
@@ -198,15 +180,26 @@ grows_as made before after low rows drawn = record {
 }
 
 module _ (made : ℕ) (kind : Kind) (item : ItemParts) where
-  new_grows : (body : Body) (world : World) → made ≤ world.made → Grows made world (with_content (add_row kind item) body world)
-  new_grows (Good content) world low = record {
-    rows = later-then made world.rows (with_statuses (replaced_status kind item.name) world.rows) (rows_with_new kind world.made item.name content world.rows)
+  -- a new generation, whichever chains it keeps
+  new_grows : (kept : Content → World → List KeptChain) (body : Body) (world : World) → made ≤ world.made
+      → Grows made world (with_content (λ content w. add_row kind item content (kept content w) w) body world)
+  new_grows kept (Good content) world low = record {
+    rows = later-then made world.rows (with_statuses (replaced_status kind item.name) world.rows)
+        (rows_with_new kind world.made item.name content (kept content world) world.rows)
         (later-statused made (replaced_status kind item.name) (λ row h. replaced_over (is_row_of kind item.name row) row.status h) world.rows)
-        (later-more made (with_statuses (replaced_status kind item.name) world.rows) (new_row kind world.made item.name content) (omega arith));
+        (later-more made (with_statuses (replaced_status kind item.name) world.rows) (new_row kind world.made item.name content (kept content world)) (omega arith));
     drawn = omega arith;
   }
-  new_grows (Bad rule) world low = grows_as made world world low refl refl
-  new_grows Beat world low = grows_as made world world low refl refl
+  new_grows kept (Bad rule) world low = grows_as made world world low refl refl
+  new_grows kept Beat world low = grows_as made world world low refl refl
+
+  back_grows : (body : Body) (world : World) → made ≤ world.made → Grows made world (with_content (λ content. go_back kind item) body world)
+  back_grows (Good content) world low = record {
+    rows = later-statused made (replaced_status kind item.name) (λ row h. replaced_over (is_row_of kind item.name row) row.status h) world.rows;
+    drawn = low;
+  }
+  back_grows (Bad rule) world low = grows_as made world world low refl refl
+  back_grows Beat world low = grows_as made world world low refl refl
 
   same_grows : (body : Body) (world : World) → made ≤ world.made → Grows made world (with_content (λ content. keep_version kind item) body world)
   same_grows (Good content) world low = grows_as made world (keep_version kind item world) low refl refl
@@ -227,9 +220,14 @@ refused_grows made Cds name world low = grows_as made world world low refl refl
 refused_grows made Eds name world low = told_grows made (is_watched (lives_of world) Eds name) _ world low refl refl
 refused_grows made Lds name world low = grows_as made world world low refl refl
 refused_grows made Rds name world low = told_grows made (is_watched (lives_of world) Rds name) _ world low refl refl
+refused_grows made Sds name world low = told_grows made (is_watched (lives_of world) Sds name) _ world low refl refl
+refused_grows made Ecds name world low = told_grows made (is_watched (lives_of world) Ecds name) _ world low refl refl
 
 item_grows : (made : ℕ) (kind : Kind) (verdict : Verdict) (item : ItemParts) (world : World) → made ≤ world.made → Grows made world (add_item kind verdict item world)
-item_grows made kind New item world low = new_grows made kind item item.body world low
+item_grows made kind New item world low = new_grows made kind item (λ content w. []) item.body world low
+item_grows made kind InPlace item world low =
+    new_grows made kind item (λ content w. kept_from (serving_row kind item.name w.rows) content) item.body world low
+item_grows made kind Back item world low = back_grows made kind item item.body world low
 item_grows made kind Same item world low = same_grows made kind item item.body world low
 item_grows made kind Kept item world low = value_grows made kind item item.body world low
 item_grows made kind Unasked item world low = grows_as made world world low refl refl
@@ -255,6 +253,8 @@ removals_grow Lds response world = record {
   drawn = omega arith;
 }
 removals_grow Rds response world = grows_as world.made world (with_removals Rds response world) (omega arith) refl refl
+removals_grow Sds response world = grows_as world.made world (with_removals Sds response world) (omega arith) refl refl
+removals_grow Ecds response world = grows_as world.made world (with_removals Ecds response world) (omega arith) refl refl
 
 -- a response
 pub response-later : (kind : Kind) (response : ResponseParts) (verdicts : List Verdict) (world : World)

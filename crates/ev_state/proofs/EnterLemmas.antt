@@ -5,11 +5,13 @@ use Rattle.ev_types.specs.Items.{ItemParts, ResponseParts}
 use Rattle.ev_types.specs.Kinds.{kind_same}
 use Rattle.ev_types.specs.Statuses.{is_live, is_warming}
 use Rattle.ev_types.specs.declared.contents.Kind.{Kind}
-use Rattle.ev_types.specs.declared.contents.Kind.TheVariants.{Cds, Eds, Lds, Rds}
+use Rattle.ev_types.specs.declared.contents.Kind.TheVariants.{Cds, Eds, Lds, Rds, Sds, Ecds}
 use Rattle.ev_types.specs.declared.contents.Body.{Body}
 use Rattle.ev_types.specs.declared.contents.Body.TheVariants.{Good, Bad, Beat}
+use Rattle.ev_types.specs.declared.contents.Content.{Content}
 use Rattle.ev_types.specs.declared.events.Verdict.{Verdict}
-use Rattle.ev_types.specs.declared.events.Verdict.TheVariants.{New, Same, Kept, Unasked, Renewed, Refused}
+use Rattle.ev_types.specs.declared.events.Verdict.TheVariants.{New, InPlace, Back, Same, Kept, Unasked, Renewed, Refused}
+use Rattle.ev_types.specs.declared.origins.KeptChain.{KeptChain}
 use Rattle.ev_types.specs.declared.rows.RowStatus.{RowStatus}
 use Rattle.ev_types.specs.declared.rows.RowStatus.TheVariants.{Warming, Active, Draining, Dropped}
 use Rattle.ev_types.specs.declared.rows.GenRow.{GenRow}
@@ -17,10 +19,11 @@ use Rattle.ev_model.specs.World.{World}
 use Rattle.ev_model.specs.Live.{lives_of}
 use Rattle.ev_model.specs.Phase.{is_serving}
 use Rattle.ev_model.specs.Watching.{is_watched}
-use Rattle.ev_model.specs.Rows.{with_statuses, removed_status, replaced_status, status_left, is_row_of, new_row, rows_with_new, with_removals, add_row, keep_version, keep_value, with_content, refuse, add_item, add_items, with_first}
+use Rattle.ev_model.specs.Rows.{with_statuses, removed_status, replaced_status, status_left, is_row_of, new_row, rows_with_new, serving_row, with_removals, add_row, go_back, keep_version, keep_value, with_content, refuse, add_item, add_items, with_first}
+use Rattle.ev_model.specs.Origins.{kept_from}
 use Rattle.ev_model.specs.Signals.{ended_status, with_end, forget_version}
 use Rattle.ev_model.specs.Verdicts.{is_removed}
-use Rattle.ev_generations.specs.Tables.{row_in}
+use Rattle.ev_indexes.specs.Tables.{row_in}
 use Rattle.ev_state.proofs.StillLemmas.{Still, still-itself, still-then, still-statused, still-more}
 
 -- generations stay as they were or retire, and health results and the phase stay
@@ -59,22 +62,32 @@ removals_enter Cds response world = record { rows = left_enter Cds response worl
 removals_enter Eds response world = record { rows = λ n. still-itself (row_in n world.rows); results = refl; phase = refl }
 removals_enter Lds response world = record { rows = left_enter Lds response world.rows; results = refl; phase = refl }
 removals_enter Rds response world = record { rows = λ n. still-itself (row_in n world.rows); results = refl; phase = refl }
+removals_enter Sds response world = record { rows = λ n. still-itself (row_in n world.rows); results = refl; phase = refl }
+removals_enter Ecds response world = record { rows = λ n. still-itself (row_in n world.rows); results = refl; phase = refl }
 
 replaced_rows : (kind : Kind) (name : List ℕ) (rows : List GenRow) (n : ℕ) → Still (row_in n rows) (row_in n (with_statuses (replaced_status kind name) rows))
 replaced_rows kind name rows n =
     still-statused (replaced_status kind name)
     (λ row. chosen_live (is_row_of kind name row && is_warming row.status) row.status Dropped (λ h. absurd (false≢true h))) n rows
 
-new_enters : (kind : Kind) (item : ItemParts) (body : Body) (world : World) → Enters world (with_content (add_row kind item) body world)
-new_enters kind item (Good content) world = record {
-  rows = λ n. still-then (row_in n world.rows) (row_in n (with_statuses (replaced_status kind item.name) world.rows)) (row_in n (rows_with_new kind world.made item.name content world.rows))
+-- a new generation, whichever chains it keeps
+new_enters : (kind : Kind) (item : ItemParts) (kept : Content → World → List KeptChain) (body : Body) (world : World)
+    → Enters world (with_content (λ content w. add_row kind item content (kept content w) w) body world)
+new_enters kind item kept (Good content) world = record {
+  rows = λ n. still-then (row_in n world.rows) (row_in n (with_statuses (replaced_status kind item.name) world.rows))
+      (row_in n (rows_with_new kind world.made item.name content (kept content world) world.rows))
       (replaced_rows kind item.name world.rows n)
-      (still-more n (with_statuses (replaced_status kind item.name) world.rows) (new_row kind world.made item.name content) refl);
+      (still-more n (with_statuses (replaced_status kind item.name) world.rows) (new_row kind world.made item.name content (kept content world)) refl);
   results = refl;
   phase = refl;
 }
-new_enters kind item (Bad rule) world = enters-itself world
-new_enters kind item Beat world = enters-itself world
+new_enters kind item kept (Bad rule) world = enters-itself world
+new_enters kind item kept Beat world = enters-itself world
+
+back_enters : (kind : Kind) (item : ItemParts) (body : Body) (world : World) → Enters world (with_content (λ content. go_back kind item) body world)
+back_enters kind item (Good content) world = record { rows = replaced_rows kind item.name world.rows; results = refl; phase = refl }
+back_enters kind item (Bad rule) world = enters-itself world
+back_enters kind item Beat world = enters-itself world
 
 same_enters : (before after : World) → after.rows ≡ before.rows → after.results ≡ before.results → after.phase ≡ before.phase → Enters before after
 same_enters before after rows results phase = record {
@@ -102,9 +115,13 @@ refused_enters Cds name world = enters-itself world
 refused_enters Eds name world = told_enters (is_watched (lives_of world) Eds name) _ world (same_enters world _ refl refl refl)
 refused_enters Lds name world = enters-itself world
 refused_enters Rds name world = told_enters (is_watched (lives_of world) Rds name) _ world (same_enters world _ refl refl refl)
+refused_enters Sds name world = told_enters (is_watched (lives_of world) Sds name) _ world (same_enters world _ refl refl refl)
+refused_enters Ecds name world = told_enters (is_watched (lives_of world) Ecds name) _ world (same_enters world _ refl refl refl)
 
 item_enters : (kind : Kind) (verdict : Verdict) (item : ItemParts) (world : World) → Enters world (add_item kind verdict item world)
-item_enters kind New item world = new_enters kind item item.body world
+item_enters kind New item world = new_enters kind item (λ content w. []) item.body world
+item_enters kind InPlace item world = new_enters kind item (λ content w. kept_from (serving_row kind item.name w.rows) content) item.body world
+item_enters kind Back item world = back_enters kind item item.body world
 item_enters kind Same item world = version_enters kind item item.body world
 item_enters kind Kept item world = kept_enters kind item item.body world
 item_enters kind Unasked item world = enters-itself world
@@ -123,6 +140,8 @@ first_enters Cds names world = same_enters world (with_first Cds names world) re
 first_enters Eds names world = enters-itself world
 first_enters Lds names world = same_enters world (with_first Lds names world) refl refl refl
 first_enters Rds names world = enters-itself world
+first_enters Sds names world = enters-itself world
+first_enters Ecds names world = enters-itself world
 
 pub response-enters : (kind : Kind) (verdicts : List Verdict) (response : ResponseParts) (names : List (List ℕ)) (world : World)
     → Enters world (with_first kind names (add_items kind verdicts response.items (with_removals kind response world)))
@@ -141,3 +160,5 @@ end-enters Cds name world = record { rows = ended_enters Cds name world.rows; re
 end-enters Eds name world = same_enters world (with_end Eds name (forget_version Eds name world)) refl refl refl
 end-enters Lds name world = record { rows = ended_enters Lds name world.rows; results = refl; phase = refl }
 end-enters Rds name world = same_enters world (with_end Rds name (forget_version Rds name world)) refl refl refl
+end-enters Sds name world = same_enters world (with_end Sds name (forget_version Sds name world)) refl refl refl
+end-enters Ecds name world = same_enters world (with_end Ecds name (forget_version Ecds name world)) refl refl refl

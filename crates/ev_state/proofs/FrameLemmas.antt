@@ -6,8 +6,7 @@ use Rattle.ev_types.specs.declared.rows.KeptVersion.{KeptVersion}
 use Rattle.ev_model.specs.World.{World}
 use Rattle.ev_model.specs.Live.{lives_of}
 use Rattle.ev_model_laws.specs.VersionsKept.{AreKeptOnce}
-use Rattle.ev_indexes.proofs.SeenLemmas.{SameSeen, seen-sound}
-use Rattle.ev_managers.proofs.FrameLemmas.{see_the_same}
+use Rattle.ev_indexes.proofs.SeenLemmas.{SameSeen, seen-sound, seen-stands}
 use Rattle.ev_subscription.specs.Subscriptions.{kept_of}
 use Rattle.ev_state.specs.declared.state.State.{State}
 use Rattle.ev_state.specs.States.{ManagesAt, SameManaged}
@@ -25,7 +24,7 @@ at-frame s world after same at =
       forgotten = at.forgotten;
       follows = record {
         stands = record {
-          managers = see_the_same s.managers world after seen at.follows.stands.managers;
+          managers = seen-stands s.managers.core.state world after seen at.follows.stands.managers;
           subscription = record {
             node = had.node ∙ sym same.node;
             stream = had.stream ∙ sym same.stream;

@@ -4,26 +4,22 @@ use Rattle.std.specs.List.{All, IsDistinct}
 use Rattle.std.proofs.lemmas.Bool.{false≢true, true≢false}
 use Rattle.std.proofs.lemmas.Map.Keys.{IsDistinct-tail}
 use Rattle.ev_types.specs.Statuses.{is_live}
-use Rattle.ev_types.specs.declared.contents.Kind.{Kind}
-use Rattle.ev_types.specs.declared.contents.Kind.TheVariants.{Cds, Lds}
 use Rattle.ev_types.specs.declared.rows.GenRow.{GenRow}
 use Rattle.ev_types.specs.declared.rows.Live.{Live}
 use Rattle.ev_model.specs.World.{World}
 use Rattle.ev_model.specs.Live.{live_of}
-use Rattle.ev_generations.specs.Tables.{is_number, row_in, numbers_of, without_row}
-use Rattle.ev_generations.proofs.TableLemmas.{without_row-absent}
+use Rattle.ev_indexes.specs.Tables.{is_number, row_in, numbers_of, without_row}
+use Rattle.ev_indexes.proofs.TableLemmas.{without_row-absent}
 use Rattle.ev_warming.specs.Changes.{is_over}
-use Rattle.ev_indexes.proofs.RowLemmas.{found-of_kind}
 use Rattle.ev_managers.specs.declared.managers.Managers.{Managers}
-use Rattle.ev_managers.specs.Managers.{AreForgotten, AreManagersKept, StandFor, manager_of, rows_of}
+use Rattle.ev_managers.specs.Managers.{AreForgotten, AreManagersKept, StandFor}
 use Rattle.ev_state.specs.declared.state.State.{State}
 use Rattle.ev_state.specs.States.{ManagesAt, over_in, where_over, without_over}
 use Rattle.ev_state.proofs.AgeLemmas.{later-same}
-use Rattle.ev_state.proofs.FindLemmas.{none-behind, found-only, whole-found, over-found, live-found, listener-found}
+use Rattle.ev_state.proofs.FindLemmas.{none-behind}
 use Rattle.ev_state.proofs.HeardLemmas.{IsDue}
-use Rattle.ev_state.proofs.MoveLemmas.{rows-are}
 use Rattle.ev_state.proofs.RestLemmas.{rest_boots}
-use Rattle.ev_state.proofs.WholeLemmas.{AreWhole, left-whole}
+use Rattle.ev_state.proofs.WholeLemmas.{left-whole}
 
 -- no row has the number
 absent_stay : (n : ℕ) (rows : List GenRow) → row_in n rows ≡ None → without_over n rows ≡ rows
@@ -89,7 +85,7 @@ at-removed s m n world at kept forgotten stand =
           subscription = record { node = had.node; stream = had.stream; versions = had.versions; kept_once = had.kept_once };
           targets = rest_boots s.targets world after (record { first_clusters = refl; first_listeners = refl; late_clusters = refl; late_listeners = refl; phase = refl }) at.follows.stands.targets;
         };
-        sound = stand.clusters.sound;
+        sound = stand.sound;
         later = later-same world.made (without_over n world.rows);
         heard = subst (λ (lives : List Live). All (IsDue lives) world.versions) (ap (map live_of) (sym (live_stay n world.rows))) at.follows.heard;
         phase = refl;
@@ -97,50 +93,25 @@ at-removed s m n world at kept forgotten stand =
       whole = left-whole (λ (row : GenRow). not (is_number n row && not (is_live row.status))) world.rows at.whole;
     }
 
--- one that is over among those of its kind goes
-pub one-goes : (s : State) (m : Managers) (kind : Kind) (n : ℕ) (world : World) → ManagesAt s world
-    → is_over (row_in n (manager_of s.managers kind).state.table.rows) ≡ true → AreManagersKept m → AreForgotten m → StandFor m (record world { rows = without_row n world.rows })
+-- one that is over goes
+pub one-goes : (s : State) (m : Managers) (n : ℕ) (world : World) → ManagesAt s world
+    → is_over (row_in n s.managers.core.state.table.rows) ≡ true → AreManagersKept m → AreForgotten m → StandFor m (record world { rows = without_row n world.rows })
     → ManagesAt (record s { managers = m }) (record world { rows = without_over n world.rows })
-one-goes s m kind n world at over kept forgotten stand =
-    let apart = at.follows.sound.table.apart in
-    let are = rows-are s.managers kind world at.kept at.follows.stands.managers in
-    let ended : is_over (row_in n world.rows) ≡ true =
-    over-found (rows_of kind) (row_in n world.rows) (ap is_over (sym (found-only (rows_of kind) n world.rows apart)) ∙ (λ i. is_over (row_in n (sym are i))) ∙ over) in
+one-goes s m n world at over kept forgotten stand =
+    let ended : is_over (row_in n world.rows) ≡ true = (λ i. is_over (row_in n (sym at.follows.stands.managers.rows i))) ∙ over in
     at-removed s m n world at kept forgotten
-    (subst (λ (left : List GenRow). StandFor m (record world { rows = left })) (sym (over-goes n world.rows apart ended)) stand)
+    (subst (λ (left : List GenRow). StandFor m (record world { rows = left })) (sym (over-goes n world.rows at.follows.sound.table.apart ended)) stand)
 
--- where it is over in neither kind, it is over in none
-nothing-over : (s : State) (n : ℕ) (world : World) → ManagesAt s world → is_over (row_in n s.managers.clusters.state.table.rows) ≡ false
-    → is_over (row_in n s.managers.listeners.state.table.rows) ≡ false → is_over (row_in n world.rows) ≡ false
-nothing-over s n world at clusters listeners =
-    let apart = at.follows.sound.table.apart in
-    let of_clusters = rows-are s.managers Cds world at.kept at.follows.stands.managers in
-    let of_listeners = rows-are s.managers Lds world at.kept at.follows.stands.managers in
-    live-found (row_in n world.rows) (whole-found n world.rows at.whole)
-    (ap is_over (sym (found-only Cds n world.rows apart)) ∙ (λ i. is_over (row_in n (sym of_clusters i))) ∙ clusters)
-    (ap is_over (sym (found-only Lds n world.rows apart)) ∙ (λ i. is_over (row_in n (sym of_listeners i))) ∙ listeners)
+-- where none of the number is over in the table, none is in the world
+nothing-over : (s : State) (n : ℕ) (world : World) → ManagesAt s world → is_over (row_in n s.managers.core.state.table.rows) ≡ false → is_over (row_in n world.rows) ≡ false
+nothing-over s n world at isnt = (λ i. is_over (row_in n (sym at.follows.stands.managers.rows i))) ∙ isnt
 
 -- and nothing goes
-pub nothing-goes : (s : State) (n : ℕ) (world : World) → ManagesAt s world → is_over (row_in n s.managers.clusters.state.table.rows) ≡ false
-    → is_over (row_in n s.managers.listeners.state.table.rows) ≡ false → ManagesAt s (record world { rows = without_over n world.rows })
-nothing-goes s n world at clusters listeners =
+pub nothing-goes : (s : State) (n : ℕ) (world : World) → ManagesAt s world → is_over (row_in n s.managers.core.state.table.rows) ≡ false
+    → ManagesAt s (record world { rows = without_over n world.rows })
+nothing-goes s n world at isnt =
     subst (λ (left : List GenRow). ManagesAt s (record world { rows = left }))
-    (sym (over-stays n world.rows at.follows.sound.table.apart (nothing-over s n world at clusters listeners))) at
-
--- a cluster that is found is the world's generation of its number
-pub cluster-row : (m : Managers) (n : ℕ) (row : GenRow) (world : World) → AreManagersKept m → StandFor m world → row_in n m.clusters.state.table.rows ≡ Some row
-    → row_in n world.rows ≡ Some row
-cluster-row m n row world kept stand at =
-    found-of_kind Cds n row world.rows stand.clusters.sound.table.apart ((λ i. row_in n (sym (rows-are m Cds world kept stand) i)) ∙ at)
-
--- and where none is found, it is a listener
-pub listener-row : (m : Managers) (n : ℕ) (world : World) → AreManagersKept m → StandFor m world → AreWhole world.rows → row_in n m.clusters.state.table.rows ≡ None
-    → row_in n m.listeners.state.table.rows ≡ row_in n world.rows
-listener-row m n world kept stand whole none =
-    let apart = stand.clusters.sound.table.apart in
-    (λ i. row_in n (rows-are m Lds world kept stand i)) ∙ found-only Lds n world.rows apart
-    ∙ listener-found (row_in n world.rows) (whole-found n world.rows whole)
-    (sym (found-only Cds n world.rows apart) ∙ (λ i. row_in n (sym (rows-are m Cds world kept stand) i)) ∙ none)
+    (sym (over-stays n world.rows at.follows.sound.table.apart (nothing-over s n world at isnt))) at
 
 -- what goes is the world's generation of its number
 gone-over : (n : ℕ) (row : GenRow) (rows : List GenRow) → row_in n rows ≡ Some row → is_over (Some row) ≡ true → Some row ≡ over_in n rows
@@ -150,12 +121,10 @@ gone-over n row rows at over = sym ((λ i. where_over (at i)) ∙ by (is_live ro
     by true isnt = absurd (false≢true isnt)
     by false is = refl
 
-pub one-gone : (s : State) (kind : Kind) (n : ℕ) (row : GenRow) (world : World) → ManagesAt s world → row_in n (manager_of s.managers kind).state.table.rows ≡ Some row
-    → is_over (row_in n (manager_of s.managers kind).state.table.rows) ≡ true → Some row ≡ over_in n world.rows
-one-gone s kind n row world at found over =
-    gone-over n row world.rows
-    (found-of_kind (rows_of kind) n row world.rows at.follows.sound.table.apart ((λ i. row_in n (sym (rows-are s.managers kind world at.kept at.follows.stands.managers) i)) ∙ found))
-    (ap is_over (sym found) ∙ over)
+pub one-gone : (s : State) (n : ℕ) (row : GenRow) (world : World) → ManagesAt s world → row_in n s.managers.core.state.table.rows ≡ Some row
+    → is_over (row_in n s.managers.core.state.table.rows) ≡ true → Some row ≡ over_in n world.rows
+one-gone s n row world at found over =
+    gone-over n row world.rows ((λ i. row_in n (sym at.follows.stands.managers.rows i)) ∙ found) (ap is_over (sym found) ∙ over)
 
 none-over : (found : Option GenRow) → is_over found ≡ false → None ≡ where_over found
 none-over None isnt = refl
@@ -165,6 +134,5 @@ none-over (Some row) isnt = by (is_live row.status) isnt
     by true is = refl
     by false isnt = absurd (true≢false isnt)
 
-pub nothing-gone : (s : State) (n : ℕ) (world : World) → ManagesAt s world → is_over (row_in n s.managers.clusters.state.table.rows) ≡ false
-    → is_over (row_in n s.managers.listeners.state.table.rows) ≡ false → None ≡ over_in n world.rows
-nothing-gone s n world at clusters listeners = none-over (row_in n world.rows) (nothing-over s n world at clusters listeners)
+pub nothing-gone : (s : State) (n : ℕ) (world : World) → ManagesAt s world → is_over (row_in n s.managers.core.state.table.rows) ≡ false → None ≡ over_in n world.rows
+nothing-gone s n world at isnt = none-over (row_in n world.rows) (nothing-over s n world at isnt)

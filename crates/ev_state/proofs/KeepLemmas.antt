@@ -1,7 +1,7 @@
--- What follows an event by itself: a promotion changes what a picture shows of those generations alone that come to serve or begin to
--- drain, and forgetting changes nothing of it.
+-- What follows an event by itself: a promotion changes what a picture shows of those generations alone that come to
+-- serve or begin to drain, and forgetting changes nothing of it.
 use Rattle.std.proofs.Common.{◌≡◌, ◌∙◌, ℕ, Bool, true, false, cond, not, ◌&&◌, ◌||◌, nat_eq, List, [], ◌∷◌, Option, None, Some, option_map, map, filter, refl, sym, ap}
-use Rattle.std.specs.List.{AllByRecursion, IsDistinct, filter_map, last_or, list_any}
+use Rattle.std.specs.List.{AllByRecursion, filter_map, last_or, list_any}
 use Rattle.std.specs.Prelude.{unwrap_or}
 use Rattle.std.specs.Str.{bytes_eq}
 use Rattle.std.proofs.lemmas.Bool.{false≢true, eqb-true, eq-eqb, and_parts}
@@ -23,14 +23,12 @@ use Rattle.ev_model.specs.Watching.{has_dependency, is_watched}
 use Rattle.ev_model.specs.Warming.{content_in, assignment_by, is_result_of, is_healthy, is_ready_by}
 use Rattle.ev_model.specs.Signals.{is_draining}
 use Rattle.ev_model.specs.Tidy.{status_by, has_successor, promoted_status, promoted, arrivals_watched, without_unwatched, is_result_due, without_old_results}
-use Rattle.ev_generations.specs.Tables.{row_in, numbers_of}
-use Rattle.ev_generations.proofs.TableLemmas.{row_in-with_statuses}
+use Rattle.ev_indexes.specs.Tables.{row_in}
+use Rattle.ev_indexes.proofs.TableLemmas.{row_in-with_statuses}
 use Rattle.ev_indexes.specs.Due.{is_one_of}
 use Rattle.ev_warming.specs.Changes.{began_to_serve, began_to_drain}
 use Rattle.ev_indexes.specs.Indexes.{status_in}
-use Rattle.ev_indexes.specs.Worlds.{needs_of, rows_of_kind}
 use Rattle.ev_indexes.proofs.WhereLemmas.{any-found}
-use Rattle.ev_state.proofs.FindLemmas.{only, found-only}
 use Rattle.ev_state.proofs.StillLemmas.{serving}
 use Rattle.ev_state.proofs.SameLemmas.{AreAlike, AreSame, SameNeeds, SameResults}
 
@@ -96,18 +94,18 @@ pub results-stay : (results : List HealthResult) (number : ℕ) (hosts : List Ho
 results-stay results number [] = tt
 results-stay results number (h ∷ hosts) = (refl, results-stay results number hosts)
 
--- without what came for names that nobody watches
+-- without what was received for names that nobody watches
 watched_values : (kind : Kind) (world : World) (n : ℕ) (row : GenRow) → serving kind (row_in n world.rows) ≡ Some row
-    → SameNeeds (needs_of kind) world.arrivals (arrivals_watched (lives_of world) world.arrivals) row.content
-watched_values kind world n row at q needs =
+    → SameNeeds world.arrivals (arrivals_watched (lives_of world) world.arrivals) row.content
+watched_values kind world n row at needed q needs =
     let served = served-is kind (row_in n world.rows) row at in
-    let watched : is_watched (lives_of world) (needs_of kind) q ≡ true =
-    any_live (λ (live : Live). has_dependency (needs_of kind) q live.content) n row world.rows served.at (active-live row.status served.active) needs in
+    let watched : is_watched (lives_of world) needed q ≡ true =
+    any_live (λ (live : Live). has_dependency needed q live.content) n row world.rows served.at (active-live row.status served.active) needs in
     ap (λ (came : List Arrived). last_or None (filter_map content_in (map (λ (a : Arrived). a.arrival) came)))
-    (filter_through (λ (a : Arrived). is_watched (lives_of world) a.kind a.name) (λ (a : Arrived). kind_same a.kind (needs_of kind) && bytes_eq a.name q)
+    (filter_through (λ (a : Arrived). is_watched (lives_of world) a.kind a.name) (λ (a : Arrived). kind_same a.kind needed && bytes_eq a.name q)
     (λ a is.
-    let parts = and_parts (kind_same a.kind (needs_of kind)) (bytes_eq a.name q) is in
-    (λ i. is_watched (lives_of world) ((kind_decides a.kind (needs_of kind)).0 parts.0 i) ((bytes_decide a.name q).0 parts.1 i)) ∙ watched)
+    let parts = and_parts (kind_same a.kind needed) (bytes_eq a.name q) is in
+    (λ i. is_watched (lives_of world) ((kind_decides a.kind needed).0 parts.0 i) ((bytes_decide a.name q).0 parts.1 i)) ∙ watched)
     world.arrivals)
 
 pub unwatched-same : (world : World) → AreSame [] world (without_unwatched world)
@@ -149,8 +147,8 @@ due_stay world n row at host has =
 
 pub old_results-same : (world : World) → AreSame [] world (without_old_results world)
 old_results-same world = record {
-  clusters = record { rows = λ n other. refl; values = λ n row other at q needs. refl };
-  listeners = record { rows = λ n other. refl; values = λ n row other at q needs. refl };
+  clusters = record { rows = λ n other. refl; values = λ n row other at needed q needs. refl };
+  listeners = record { rows = λ n other. refl; values = λ n row other at needed q needs. refl };
   results = λ n row other at.
       each_host (λ host. is_healthy (without_old_results world).results row.number host ≡ is_healthy world.results row.number host)
       (assignment_by world.arrivals row.content) (due_stay world n row at);
@@ -163,50 +161,45 @@ module _ (kind : Kind) (succeeded ready : GenRow → Bool) where
   next row = status_by (succeeded row) (ready row) row.status
 
   moved_none : (found : Option GenRow)
-      → (not (is_active (status_in (only kind found))) && is_active (status_in (only kind (option_map (λ (row : GenRow). record row { status = next row }) found)))) ≡ false
-      → (is_active (status_in (only kind found)) && is_draining (status_in (only kind (option_map (λ (row : GenRow). record row { status = next row }) found)))) ≡ false
+      → (not (is_active (status_in found)) && is_active (status_in (option_map (λ (row : GenRow). record row { status = next row }) found))) ≡ false
+      → (is_active (status_in found) && is_draining (status_in (option_map (λ (row : GenRow). record row { status = next row }) found))) ≡ false
       → serving kind (option_map (λ (row : GenRow). record row { status = next row }) found) ≡ serving kind found
   moved_none None serves drains = refl
-  moved_none (Some row) serves drains = by (kind_same row.kind kind) (succeeded row) (ready row) row.status serves drains
+  moved_none (Some row) serves drains = by (succeeded row) (ready row) row.status serves drains
     where
-      by : (k s r : Bool) (status : RowStatus)
-          → (not (is_active (status_in (cond k (Some (record row { status = status })) None))) && is_active (status_in (cond k (Some (record row { status = status_by s r status })) None))) ≡ false
-          → (is_active (status_in (cond k (Some (record row { status = status })) None)) && is_draining (status_in (cond k (Some (record row { status = status_by s r status })) None))) ≡ false
-          → cond (k && is_active (status_by s r status)) (Some (record row { status = status_by s r status })) None ≡ cond (k && is_active status) (Some (record row { status = status })) None
-      by false s r status serves drains = refl
-      by true s true Warming serves drains = absurd (false≢true (sym serves))
-      by true s false Warming serves drains = refl
-      by true true r Active serves drains = absurd (false≢true (sym drains))
-      by true false r Active serves drains = refl
-      by true s r Draining serves drains = refl
-      by true s r Dropped serves drains = refl
+      by : (s r : Bool) (status : RowStatus) → (not (is_active status) && is_active (status_by s r status)) ≡ false
+          → (is_active status && is_draining (status_by s r status)) ≡ false
+          → cond (kind_same row.kind kind && is_active (status_by s r status)) (Some (record row { status = status_by s r status })) None
+          ≡ cond (kind_same row.kind kind && is_active status) (Some (record row { status = status })) None
+      by s true Warming serves drains = absurd (false≢true (sym serves))
+      by s false Warming serves drains = refl
+      by true r Active serves drains = absurd (false≢true (sym drains))
+      by false r Active serves drains = refl
+      by s r Draining serves drains = refl
+      by s r Dropped serves drains = refl
 
 -- all that is due serves
-promoted_alike : (kind : Kind) (changed : List ℕ) (world : World) → IsDistinct nat_eq (numbers_of world.rows) → IsDistinct nat_eq (numbers_of (promoted world).rows)
-    → ((n : ℕ) → is_one_of changed n ≡ false → began_to_serve n (rows_of_kind kind world.rows) (rows_of_kind kind (promoted world).rows) ≡ false)
-    → ((n : ℕ) → is_one_of changed n ≡ false → began_to_drain n (rows_of_kind kind world.rows) (rows_of_kind kind (promoted world).rows) ≡ false)
+promoted_alike : (kind : Kind) (changed : List ℕ) (world : World)
+    → ((n : ℕ) → is_one_of changed n ≡ false → began_to_serve n world.rows (promoted world).rows ≡ false)
+    → ((n : ℕ) → is_one_of changed n ≡ false → began_to_drain n world.rows (promoted world).rows ≡ false)
     → AreAlike kind changed world (promoted world)
-promoted_alike kind changed world apart apart_after serve drain = record {
+promoted_alike kind changed world serve drain = record {
   rows = λ n other.
       let found = row_in-with_statuses n (promoted_status world.arrivals world.results world.rows) world.rows in
-      let before = found-only kind n world.rows apart in
-      let after = found-only kind n (promoted world).rows apart_after ∙ ap (only kind) found in
       ap (serving kind) found
       ∙ moved_none kind (has_successor world.arrivals world.results world.rows) (is_ready_by world.arrivals world.results) (row_in n world.rows)
-      ((λ i. not (is_active (status_in (sym before i))) && is_active (status_in (sym after i))) ∙ serve n other)
-      ((λ i. is_active (status_in (sym before i)) && is_draining (status_in (sym after i))) ∙ drain n other);
-  values = λ n row other at q needs. refl;
+      ((λ i. not (is_active (status_in (row_in n world.rows))) && is_active (status_in (sym found i))) ∙ serve n other)
+      ((λ i. is_active (status_in (row_in n world.rows)) && is_draining (status_in (sym found i))) ∙ drain n other);
+  values = λ n row other at needed q needs. refl;
 }
 
-pub promoted-same : (changed : List ℕ) (world : World) → IsDistinct nat_eq (numbers_of world.rows) → IsDistinct nat_eq (numbers_of (promoted world).rows)
-    → ((n : ℕ) → is_one_of changed n ≡ false → began_to_serve n (rows_of_kind Cds world.rows) (rows_of_kind Cds (promoted world).rows) ≡ false)
-    → ((n : ℕ) → is_one_of changed n ≡ false → began_to_drain n (rows_of_kind Cds world.rows) (rows_of_kind Cds (promoted world).rows) ≡ false)
-    → ((n : ℕ) → is_one_of changed n ≡ false → began_to_serve n (rows_of_kind Lds world.rows) (rows_of_kind Lds (promoted world).rows) ≡ false)
-    → ((n : ℕ) → is_one_of changed n ≡ false → began_to_drain n (rows_of_kind Lds world.rows) (rows_of_kind Lds (promoted world).rows) ≡ false)
+pub promoted-same : (changed : List ℕ) (world : World)
+    → ((n : ℕ) → is_one_of changed n ≡ false → began_to_serve n world.rows (promoted world).rows ≡ false)
+    → ((n : ℕ) → is_one_of changed n ≡ false → began_to_drain n world.rows (promoted world).rows ≡ false)
     → AreSame changed world (promoted world)
-promoted-same changed world apart apart_after serve drain serve_too drain_too = record {
-  clusters = promoted_alike Cds changed world apart apart_after serve drain;
-  listeners = promoted_alike Lds changed world apart apart_after serve_too drain_too;
+promoted-same changed world serve drain = record {
+  clusters = promoted_alike Cds changed world serve drain;
+  listeners = promoted_alike Lds changed world serve drain;
   results = λ n row other at. results-stay world.results row.number (assignment_by world.arrivals row.content);
   phase = refl;
 }

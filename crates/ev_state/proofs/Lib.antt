@@ -1,3 +1,5 @@
+pub mod ComeLemmas
+pub mod WaitLemmas
 pub mod HeardLemmas
 pub mod WholeLemmas
 pub mod KnownLemmas

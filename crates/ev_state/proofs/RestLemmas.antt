@@ -3,18 +3,18 @@ use Rattle.std.proofs.Common.{◌≡◌, ℕ, Bool, true, false, cond, List, [],
 use Rattle.std.specs.List.{fold, zip}
 use Rattle.ev_types.specs.Items.{ItemParts, ResponseParts}
 use Rattle.ev_types.specs.declared.contents.Kind.{Kind}
-use Rattle.ev_types.specs.declared.contents.Kind.TheVariants.{Cds, Eds, Lds, Rds}
+use Rattle.ev_types.specs.declared.contents.Kind.TheVariants.{Cds, Eds, Lds, Rds, Sds, Ecds}
 use Rattle.ev_types.specs.declared.contents.Body.{Body}
 use Rattle.ev_types.specs.declared.contents.Body.TheVariants.{Good, Bad, Beat}
 use Rattle.ev_types.specs.declared.contents.Content.{Content}
 use Rattle.ev_types.specs.declared.events.Verdict.{Verdict}
-use Rattle.ev_types.specs.declared.events.Verdict.TheVariants.{New, Same, Kept, Unasked, Renewed, Refused}
+use Rattle.ev_types.specs.declared.events.Verdict.TheVariants.{New, InPlace, Back, Same, Kept, Unasked, Renewed, Refused}
 use Rattle.ev_model.specs.World.{World}
 use Rattle.ev_model.specs.Live.{lives_of}
 use Rattle.ev_model.specs.Watching.{is_watched}
-use Rattle.ev_model.specs.Rows.{with_removals, add_row, keep_version, keep_value, with_content, refuse, add_item, add_items, with_first}
+use Rattle.ev_model.specs.Rows.{with_removals, add_in_place, add_row, go_back, keep_version, keep_value, with_content, refuse, add_item, add_items, with_first}
 use Rattle.ev_indexes.proofs.SeenLemmas.{SameSeen}
-use Rattle.ev_targets.specs.Targets.{TargetsParts, HaveBooted}
+use Rattle.ev_state.specs.InitTargets.{InitTargetsParts, HaveBooted}
 
 -- the rest of the worlds is the same
 pub record SameRest (before after : World) : Type 0 where
@@ -53,9 +53,19 @@ refused_rest Eds name world = told_rest (is_watched (lives_of world) Eds name) _
 refused_rest Lds name world = rest_itself world
 refused_rest Rds name world = told_rest (is_watched (lives_of world) Rds name) _ world
     (record { first_clusters = refl; first_listeners = refl; late_clusters = refl; late_listeners = refl; phase = refl })
+refused_rest Sds name world = told_rest (is_watched (lives_of world) Sds name) _ world
+    (record { first_clusters = refl; first_listeners = refl; late_clusters = refl; late_listeners = refl; phase = refl })
+refused_rest Ecds name world = told_rest (is_watched (lives_of world) Ecds name) _ world
+    (record { first_clusters = refl; first_listeners = refl; late_clusters = refl; late_listeners = refl; phase = refl })
 
 item_rest : (kind : Kind) (verdict : Verdict) (item : ItemParts) (world : World) → SameRest world (add_item kind verdict item world)
-item_rest kind New item world = content_rest (add_row kind item)
+item_rest kind New item world = content_rest (λ content. add_row kind item content [])
+    (λ content world. record { first_clusters = refl; first_listeners = refl; late_clusters = refl; late_listeners = refl; phase = refl })
+    item.body world
+item_rest kind InPlace item world = content_rest (add_in_place kind item)
+    (λ content world. record { first_clusters = refl; first_listeners = refl; late_clusters = refl; late_listeners = refl; phase = refl })
+    item.body world
+item_rest kind Back item world = content_rest (λ content. go_back kind item)
     (λ content world. record { first_clusters = refl; first_listeners = refl; late_clusters = refl; late_listeners = refl; phase = refl })
     item.body world
 item_rest kind Same item world = content_rest (λ content. keep_version kind item)
@@ -80,6 +90,8 @@ removals_rest Cds response world = record { first_clusters = refl; first_listene
 removals_rest Eds response world = record { first_clusters = refl; first_listeners = refl; late_clusters = refl; late_listeners = refl; phase = refl }
 removals_rest Lds response world = record { first_clusters = refl; first_listeners = refl; late_clusters = refl; late_listeners = refl; phase = refl }
 removals_rest Rds response world = record { first_clusters = refl; first_listeners = refl; late_clusters = refl; late_listeners = refl; phase = refl }
+removals_rest Sds response world = record { first_clusters = refl; first_listeners = refl; late_clusters = refl; late_listeners = refl; phase = refl }
+removals_rest Ecds response world = record { first_clusters = refl; first_listeners = refl; late_clusters = refl; late_listeners = refl; phase = refl }
 
 pub response_rest : (kind : Kind) (response : ResponseParts) (verdicts : List Verdict) (world : World)
     → SameRest world (add_items kind verdicts response.items (with_removals kind response world))
@@ -87,7 +99,7 @@ response_rest kind response verdicts world =
     rest_then world (with_removals kind response world) _ (removals_rest kind response world) (items_rest kind (zip verdicts response.items) (with_removals kind response world))
 
 -- the targets look at the rest alone
-pub rest_boots : (targets : TargetsParts) (before after : World) → SameRest before after → HaveBooted targets before → HaveBooted targets after
+pub rest_boots : (targets : InitTargetsParts) (before after : World) → SameRest before after → HaveBooted targets before → HaveBooted targets after
 rest_boots targets before after same booted = record {
   phase = booted.phase ∙ sym same.phase;
   first_clusters = booted.first_clusters ∙ sym same.first_clusters;
@@ -109,3 +121,5 @@ first_leaves Cds names world = record { seen = record { rows = refl; made = refl
 first_leaves Eds names world = record { seen = record { rows = refl; made = refl; arrivals = refl; results = refl }; versions = refl; node = refl; stream = refl; phase = refl }
 first_leaves Lds names world = record { seen = record { rows = refl; made = refl; arrivals = refl; results = refl }; versions = refl; node = refl; stream = refl; phase = refl }
 first_leaves Rds names world = record { seen = record { rows = refl; made = refl; arrivals = refl; results = refl }; versions = refl; node = refl; stream = refl; phase = refl }
+first_leaves Sds names world = record { seen = record { rows = refl; made = refl; arrivals = refl; results = refl }; versions = refl; node = refl; stream = refl; phase = refl }
+first_leaves Ecds names world = record { seen = record { rows = refl; made = refl; arrivals = refl; results = refl }; versions = refl; node = refl; stream = refl; phase = refl }

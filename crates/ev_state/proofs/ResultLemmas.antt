@@ -16,12 +16,12 @@ use Rattle.ev_types.specs.declared.rows.GenRow.{GenRow}
 use Rattle.ev_model.specs.World.{World, HealthResult}
 use Rattle.ev_model.specs.Warming.{assignment_by, is_checked, is_result_of, is_healthy}
 use Rattle.ev_model.specs.Signals.{is_meant, rows_meant, result_for, with_results}
-use Rattle.ev_generations.specs.Tables.{row_in, numbers_of}
-use Rattle.ev_generations.proofs.TableLemmas.{number-row_in}
+use Rattle.ev_indexes.specs.Tables.{row_in, numbers_of}
+use Rattle.ev_indexes.proofs.TableLemmas.{number-row_in}
+use Rattle.ev_mentions.specs.Keys.{named}
 use Rattle.ev_indexes.specs.declared.state.State.{State}
 use Rattle.ev_indexes.specs.Due.{is_one_of}
 use Rattle.ev_indexes.specs.Indexes.{serves, numbers_where}
-use Rattle.ev_indexes.specs.Worlds.{rows_of_kind}
 use Rattle.ev_indexes.proofs.RowLemmas.{all_then}
 use Rattle.ev_warming.proofs.ArrivalLemmas.{last_or-append}
 use Rattle.ev_indexes.proofs.WhereLemmas.{among-where, own-rows}
@@ -97,17 +97,17 @@ all_left P keep (row ∷ rows) all = by (keep row) all.0 (all_left P keep rows a
     by true here rest = (here refl, rest)
     by false here rest = rest
 
-module _ (changed : List ℕ) (clusters : State) (name : List ℕ) (host : Host) (healthy : Bool) (world : World)
-    (of_clusters : clusters.table.rows ≡ rows_of_kind Cds world.rows) (apart : IsDistinct nat_eq (numbers_of world.rows))
+module _ (changed : List ℕ) (s : State) (name : List ℕ) (host : Host) (healthy : Bool) (world : World)
+    (are : s.table.rows ≡ world.rows) (apart : IsDistinct nat_eq (numbers_of world.rows))
     (told : (n : ℕ) → is_one_of changed n ≡ false
-    → (is_one_of (numbers_where (serves name) clusters.table.rows) n ≡ false) ⊎ (is_healthy world.results n host ≡ healthy)) where
+    → (is_one_of (numbers_where (serves (named Cds name)) s.table.rows) n ≡ false) ⊎ (is_healthy world.results n host ≡ healthy)) where
   name_of : (kind named live checked assigned : Bool) → (kind && named && live && checked && assigned) ≡ true → named ≡ true
   name_of true true live checked assigned h = refl
   name_of true false live checked assigned h = absurd (false≢true h)
   name_of false named live checked assigned h = absurd (false≢true h)
 
   -- a cluster that serves another name is none of those that the result is for
-  not_meant : (n : ℕ) (row : GenRow) → is_one_of (numbers_where (serves name) clusters.table.rows) n ≡ false → serving Cds (row_in n world.rows) ≡ Some row
+  not_meant : (n : ℕ) (row : GenRow) → is_one_of (numbers_where (serves (named Cds name)) s.table.rows) n ≡ false → serving Cds (row_in n world.rows) ≡ Some row
       → (r : GenRow) → row_in r.number world.rows ≡ Some r → is_meant world.arrivals name host r ≡ true → nat_eq r.number row.number ≡ false
   not_meant n row other at r own meant = by (nat_eq r.number row.number) refl
     where
@@ -118,16 +118,17 @@ module _ (changed : List ℕ) (clusters : State) (name : List ℕ) (host : Host)
           let numbered : r.number ≡ n = eqb-true r.number row.number is ∙ number-row_in n row world.rows served.at in
           let found : Some r ≡ Some row = sym own ∙ (λ i. row_in (numbered i) world.rows) ∙ served.at in
           let same : r ≡ row = cc in
-          let named : bytes_eq row.name name ≡ true =
+          let named_so : bytes_eq row.name name ≡ true =
           (λ i. bytes_eq (sym same i).name name)
           ∙ name_of (kind_same r.kind Cds) (bytes_eq r.name name) (is_live r.status) (is_checked r.content) (has_host host (assignment_by world.arrivals r.content)) meant in
           absurd (false≢true (sym other
-          ∙ among-where (serves name) n row clusters.table.rows (served-at Cds n row world.rows clusters.table.rows apart of_clusters at) (λ i. served.active i && named i)))
+          ∙ among-where (serves (named Cds name)) n row s.table.rows (served-at Cds n row world.rows s.table.rows are at)
+          (λ i. served.active i && (served.same i && named_so i))))
 
   pub resulted-same : AreSame changed world (with_results host healthy (rows_meant world.arrivals name host world.rows) world)
   resulted-same = record {
-    clusters = record { rows = λ n other. refl; values = λ n row other at q needs. refl };
-    listeners = record { rows = λ n other. refl; values = λ n row other at q needs. refl };
+    clusters = record { rows = λ n other. refl; values = λ n row other at needed q needs. refl };
+    listeners = record { rows = λ n other. refl; values = λ n row other at needed q needs. refl };
     results = λ n row other at. elim (told n other) [
       | inl isnt ↦
           results_same row.number host healthy world.results (rows_meant world.arrivals name host world.rows)

@@ -1,7 +1,8 @@
 -- What a picture shows of a number is the same where its generation, the values that it depends on and its results are.
-use Rattle.std.proofs.Common.{◌≡◌, ◌∙◌, ℕ, Bool, true, false, cond, not, ◌&&◌, ◌||◌, List, [], ◌∷◌, Option, None, Some, option_map, filter, refl, sym, ap, ◌++◌, option_to_list, map}
+use Rattle.std.proofs.Common.{◌≡◌, ◌∙◌, ℕ, ◌+◌, Bool, true, false, cond, not, ◌&&◌, ◌||◌, List, [], ◌∷◌, Option, None, Some, option_map, filter, refl, sym, ap, subst, ◌++◌, append-nil, option_to_list, map}
 use Rattle.std.specs.Option.{option_and_then}
-use Rattle.std.specs.List.{list_any, AllByRecursion}
+use Rattle.std.specs.List.{list_any, flat_map, AllByRecursion}
+use Rattle.std.specs.Prelude.{is_some, unwrap_or}
 use Rattle.std.specs.Str.{bytes_eq}
 use Rattle.std.proofs.Math.Bool.{or-false}
 use Rattle.std.proofs.lemmas.List.Folds.{list_any-append}
@@ -9,31 +10,34 @@ use Rattle.ev_types.specs.Hosts.{HostRowParts}
 use Rattle.ev_types.specs.Kinds.{kind_same}
 use Rattle.ev_types.specs.Same.{bytes_decide}
 use Rattle.ev_types.specs.Statuses.{is_active}
+use Rattle.ev_types.specs.declared.clusters.Cluster.{Cluster}
 use Rattle.ev_types.specs.declared.clusters.Discovery.{Discovery}
 use Rattle.ev_types.specs.declared.clusters.Discovery.TheVariants.{Static, Eds as by_eds, Elsewhere}
 use Rattle.ev_types.specs.declared.contents.Kind.{Kind}
-use Rattle.ev_types.specs.declared.contents.Kind.TheVariants.{Cds, Eds, Lds, Rds}
+use Rattle.ev_types.specs.declared.contents.Kind.TheVariants.{Cds, Eds, Lds, Rds, Sds, Ecds}
 use Rattle.ev_types.specs.declared.contents.Content.{Content}
-use Rattle.ev_types.specs.declared.contents.Content.TheVariants.{Cluster as a_cluster, Assignment as an_assignment, Listener as a_listener, Routes as routes}
+use Rattle.ev_types.specs.declared.contents.Content.TheVariants.{Cluster as a_cluster, Listener as a_listener}
 use Rattle.ev_types.specs.declared.listeners.FilterChain.{FilterChain}
 use Rattle.ev_types.specs.declared.listeners.Serve.{Serve}
 use Rattle.ev_types.specs.declared.listeners.Serve.TheVariants.{Rds as by_rds, Inline, Tcp, Other}
+use Rattle.ev_types.specs.declared.origins.ChainPlace.TheVariants.{At}
+use Rattle.ev_types.specs.declared.references.Reference.{Reference}
 use Rattle.ev_types.specs.declared.rows.GenRow.{GenRow}
 use Rattle.ev_model.specs.declared.pictures.Routing.TheVariants.{Table}
+use Rattle.ev_model.specs.declared.pictures.Secrets.TheVariants.{There, Missing, Unknown}
 use Rattle.ev_model.specs.declared.pictures.ServedListener.{ServedListener}
 use Rattle.ev_model.specs.World.{World, Arrived, HealthResult}
 use Rattle.ev_model.specs.Phase.{is_serving}
-use Rattle.ev_model.specs.Picture.{served_cluster, served_listener, routing_of, table_in, is_elsewhere, served_chain}
+use Rattle.ev_model.specs.Origins.{PlacedChain, placed_default, placed_from}
+use Rattle.ev_model.specs.Picture.{is_elsewhere, lacks_one, routing_of, secrets_by, secrets_with, served_chain, served_cluster, served_listener, table_in}
 use Rattle.ev_model.specs.Warming.{value_by, rows_in, discovered, assignment_by, is_healthy, is_eligible_by, is_checked}
-use Rattle.ev_model.specs.Watching.{discovery_dependencies, is_dependency, has_dependency, Dependency}
-use Rattle.ev_generations.specs.Tables.{row_in}
+use Rattle.ev_model.specs.Watching.{Dependency, chain_dependencies, chains_of, cluster_dependencies, cluster_secrets, discovery_dependencies, has_dependency, is_dependency, listener_dependencies, referred, serve_dependencies}
+use Rattle.ev_indexes.specs.Tables.{row_in}
 use Rattle.ev_indexes.specs.Due.{is_one_of}
-use Rattle.ev_indexes.specs.Worlds.{needs_of}
 use Rattle.ev_indexes.specs.Shown.{cluster_shown, first_of, listener_shown}
-use Rattle.ev_indexes.specs.Needs.{serve_need, listener_places, needs_at}
 use Rattle.ev_state.specs.Changed.{HaveChanged}
 use Rattle.ev_state.proofs.StillLemmas.{serving}
-use Rattle.ev_indexes.proofs.PlaceLemmas.{any-places}
+use Rattle.ev_indexes.proofs.NeedLemmas.{any-each_once}
 
 -- what a picture shows of a generation of the kind that serves is what it shows of one that is found
 cluster_served : (arrivals : List Arrived) (results : List HealthResult) (found : Option GenRow)
@@ -58,33 +62,11 @@ listener-served arrivals (Some row) = by (kind_same row.kind Lds && is_active ro
     by false = refl
 
 -- the values of what a content depends on are the same
-abbrev pub SameNeeds : Kind → List Arrived → List Arrived → Content → Type 0
-SameNeeds kind before after content = (q : List ℕ) → has_dependency kind q content ≡ true → value_by after kind q ≡ value_by before kind q
+abbrev pub SameNeeds : List Arrived → List Arrived → Content → Type 0
+SameNeeds before after content =
+    (needed : Kind) (q : List ℕ) → has_dependency needed q content ≡ true → value_by after needed q ≡ value_by before needed q
 
-discovered_same : (before after : List Arrived) (d : Discovery)
-    → ((q : List ℕ) → list_any (is_dependency Eds q) (discovery_dependencies d) ≡ true → value_by after Eds q ≡ value_by before Eds q)
-    → discovered after d ≡ discovered before d
-discovered_same before after (Static rows) same = refl
-discovered_same before after (by_eds service limited fresh) same = ap rows_in (same service (or-false (bytes_eq service service) ∙ (bytes_decide service service).1 refl))
-discovered_same before after Elsewhere same = refl
-
-assignment_same : (before after : List Arrived) (content : Content) → SameNeeds Eds before after content → assignment_by after content ≡ assignment_by before content
-assignment_same before after (a_cluster cluster) same = discovered_same before after cluster.discovery same
-assignment_same before after (an_assignment rows) same = refl
-assignment_same before after (a_listener listener) same = refl
-assignment_same before after (routes table) same = refl
-
--- what a chain depends on is met on the way
-abbrev ServeSame : List Arrived → List Arrived → Serve → Type 0
-ServeSame before after serve = (q : List ℕ) → list_any (is_dependency Rds q) (option_to_list (serve_need serve)) ≡ true → value_by after Rds q ≡ value_by before Rds q
-
-routing_same : (before after : List Arrived) (serve : Serve) → ServeSame before after serve → routing_of after serve ≡ routing_of before serve
-routing_same before after (by_rds name limited) same = ap (λ v. Table (table_in v)) (same name (or-false (bytes_eq name name) ∙ (bytes_decide name name).1 refl))
-routing_same before after (Inline table) same = refl
-routing_same before after (Tcp target) same = refl
-routing_same before after Other same = refl
-
--- what one of some depends on, one of all does
+-- what some depend on all do, and what the others depend on all do
 any_first : (p : Dependency → Bool) (ds es : List Dependency) → list_any p ds ≡ true → list_any p (ds ++ es) ≡ true
 any_first p ds es h = list_any-append p ds es ∙ ap (λ b. b || list_any p es) h
 
@@ -96,43 +78,98 @@ any_second p ds es h = list_any-append p ds es ∙ (λ i. list_any p ds || h i) 
     late false = refl
 
 module _ (before after : List Arrived) where
-  -- a name at one of these places has the same value
-  abbrev PlacesSame : List (Option Dependency) → Type 0
-  PlacesSame places = (q : List ℕ) → list_any (is_dependency Rds q) (needs_at places) ≡ true → value_by after Rds q ≡ value_by before Rds q
+  -- the values of these dependencies are the same
+  abbrev ValuesSame : List Dependency → Type 0
+  ValuesSame ds = (needed : Kind) (q : List ℕ) → list_any (is_dependency needed q) ds ≡ true → value_by after needed q ≡ value_by before needed q
 
-  chains_same : (chains : List FilterChain) (other : Option Dependency) → PlacesSame (map (λ (c : FilterChain). serve_need c.serve) chains ++ other ∷ [])
-      → map (served_chain after) chains ≡ map (served_chain before) chains
-  chains_same [] other same = refl
-  chains_same (c ∷ chains) other same = λ i.
-      record {
-        criteria = c.criteria;
-        routing = routing_same before after c.serve (λ q h. same q (any_first (is_dependency Rds q) (option_to_list (serve_need c.serve)) _ h)) i;
-      }
-      ∷ chains_same chains other (λ q h. same q (any_second (is_dependency Rds q) (option_to_list (serve_need c.serve)) _ h)) i
+  first_same : (ds es : List Dependency) → ValuesSame (ds ++ es) → ValuesSame ds
+  first_same ds es same needed q h = same needed q (any_first (is_dependency needed q) ds es h)
 
-  default_same : (chains : List FilterChain) (other : Option Serve) → PlacesSame (map (λ (c : FilterChain). serve_need c.serve) chains ++ option_and_then serve_need other ∷ [])
-      → option_map (routing_of after) other ≡ option_map (routing_of before) other
-  default_same [] None same = refl
-  default_same [] (Some v) same = ap Some (routing_same before after v (λ q h. same q (any_first (is_dependency Rds q) (option_to_list (serve_need v)) [] h)))
-  default_same (c ∷ chains) other same = default_same chains other (λ q h. same q (any_second (is_dependency Rds q) (option_to_list (serve_need c.serve)) _ h))
+  second_same : (ds es : List Dependency) → ValuesSame (ds ++ es) → ValuesSame es
+  second_same ds es same needed q h = same needed q (any_second (is_dependency needed q) ds es h)
 
-  listener_same : (row : GenRow) (content : Content) → SameNeeds Rds before after content → served_listener after row content ≡ served_listener before row content
-  listener_same row (a_cluster cluster) same = refl
-  listener_same row (an_assignment rows) same = refl
-  listener_same row (a_listener listener) same =
-      let at_places : PlacesSame (listener_places listener) = λ q h. same q (sym (any-places (is_dependency Rds q) (a_listener listener)) ∙ h) in
-      λ i. record {
-        number = row.number;
-        name = row.name;
-        address = listener.address.host;
-        takes_every_address = listener.takes_every_address;
-        udp = listener.address.udp;
-        restores = listener.restores;
-        hands_over = listener.hands_over;
-        filter_chains = chains_same listener.filter_chains (option_and_then serve_need listener.default_filter_chain) at_places i;
-        default_filter_chain = default_same listener.filter_chains listener.default_filter_chain at_places i;
-      } ∷ []
-  listener_same row (routes table) same = refl
+  discovered_same : (d : Discovery) → ValuesSame (discovery_dependencies d) → discovered after d ≡ discovered before d
+  discovered_same (Static rows) same = refl
+  discovered_same (by_eds service limited fresh) same = ap rows_in (same Eds service (or-false (bytes_eq service service) ∙ (bytes_decide service service).1 refl))
+  discovered_same Elsewhere same = refl
+
+  -- a secret is missing after where it was before
+  lacks_same : (references : List Reference) → ValuesSame (referred Sds references) → lacks_one after references ≡ lacks_one before references
+  lacks_same [] same = refl
+  lacks_same (r ∷ references) same = λ i.
+      not (is_some (same Sds r.name (ap (λ b. b || list_any (is_dependency Sds r.name) (referred Sds references)) ((bytes_decide r.name r.name).1 refl)) i))
+      || lacks_same references (second_same (record { kind = Sds; name = r.name; limited = r.limited; fresh = false } ∷ []) (referred Sds references) same) i
+
+  secrets_same : (secrets : List Reference) (by_match : Option (List Reference)) → ValuesSame (referred Sds (secrets ++ unwrap_or by_match []))
+      → secrets_with after secrets by_match ≡ secrets_with before secrets by_match
+  secrets_same secrets None same =
+      ap (λ b. cond b Missing There) (lacks_same secrets (subst (λ (rs : List Reference). ValuesSame (referred Sds rs)) (append-nil secrets) same))
+  secrets_same secrets (Some by_match) same = ap (λ b. cond b Unknown There) (lacks_same (secrets ++ by_match) same)
+
+  -- what a cluster depends on
+  cluster_same : (cluster : Cluster) → SameNeeds before after (a_cluster cluster) → ValuesSame (cluster_dependencies cluster)
+  cluster_same cluster same needed q h = same needed q (any-each_once (is_dependency needed q) (cluster_dependencies cluster) ∙ h)
+
+  assignment_same : (content : Content) → SameNeeds before after content → assignment_by after content ≡ assignment_by before content
+  assignment_same (a_cluster cluster) same =
+      discovered_same cluster.discovery (first_same (discovery_dependencies cluster.discovery) (referred Sds (cluster_secrets cluster)) (cluster_same cluster same))
+  assignment_same content same = refl
+
+  known_same : (content : Content) → SameNeeds before after content → secrets_by after content ≡ secrets_by before content
+  known_same (a_cluster cluster) same =
+      secrets_same cluster.secrets cluster.secrets_by_match
+      (second_same (discovery_dependencies cluster.discovery) (referred Sds (cluster_secrets cluster)) (cluster_same cluster same))
+  known_same content same = refl
+
+  routing_same : (serve : Serve) → ValuesSame (serve_dependencies serve) → routing_of after serve ≡ routing_of before serve
+  routing_same (by_rds name limited) same = ap (λ v. Table (table_in v)) (same Rds name (or-false (bytes_eq name name) ∙ (bytes_decide name name).1 refl))
+  routing_same (Inline table) same = refl
+  routing_same (Tcp target) same = refl
+  routing_same Other same = refl
+
+  module _ (row : GenRow) where
+    chain_same : (p : PlacedChain) → ValuesSame (chain_dependencies p.chain) → served_chain after row p ≡ served_chain before row p
+    chain_same p same =
+        let secrets = referred Sds p.chain.secrets in
+        let extensions = referred Ecds p.chain.extensions in
+        λ i. record (served_chain before row p) {
+          routing = routing_same p.chain.serve (first_same (serve_dependencies p.chain.serve) (secrets ++ extensions) same) i;
+          lacks_secret = lacks_same p.chain.secrets
+              (first_same secrets extensions (second_same (serve_dependencies p.chain.serve) (secrets ++ extensions) same)) i;
+        }
+
+    chains_same : (place : ℕ) (chains more : List FilterChain) → ValuesSame (flat_map chain_dependencies (chains ++ more))
+        → map (served_chain after row) (placed_from place chains) ≡ map (served_chain before row) (placed_from place chains)
+    chains_same place [] more same = refl
+    chains_same place (c ∷ chains) more same = λ i.
+        chain_same (record { place = At place; chain = c }) (first_same (chain_dependencies c) (flat_map chain_dependencies (chains ++ more)) same) i
+        ∷ chains_same (place + 1) chains more (second_same (chain_dependencies c) (flat_map chain_dependencies (chains ++ more)) same) i
+
+    default_same : (chains : List FilterChain) (other : Option FilterChain) → ValuesSame (flat_map chain_dependencies (chains ++ option_to_list other))
+        → option_map (λ (c : FilterChain). served_chain after row (placed_default c)) other ≡ option_map (λ (c : FilterChain). served_chain before row (placed_default c)) other
+    default_same [] None same = refl
+    default_same [] (Some c) same = ap Some (chain_same (placed_default c) (first_same (chain_dependencies c) [] same))
+    default_same (c ∷ chains) other same =
+        default_same chains other (second_same (chain_dependencies c) (flat_map chain_dependencies (chains ++ option_to_list other)) same)
+
+    listener_same : (content : Content) → SameNeeds before after content → served_listener after row content ≡ served_listener before row content
+    listener_same (a_listener listener) same =
+        let all : ValuesSame (listener_dependencies listener) = λ needed q h.
+        same needed q (any-each_once (is_dependency needed q) (listener_dependencies listener) ∙ h) in
+        let own : ValuesSame (flat_map chain_dependencies (chains_of listener)) =
+        first_same (flat_map chain_dependencies (chains_of listener)) (referred Ecds listener.extensions) all in
+        λ i. record {
+          number = row.number;
+          name = row.name;
+          address = listener.address.host;
+          takes_every_address = listener.takes_every_address;
+          udp = listener.address.udp;
+          restores = listener.restores;
+          hands_over = listener.hands_over;
+          filter_chains = chains_same 0 listener.filter_chains (option_to_list listener.default_filter_chain) own i;
+          default_filter_chain = default_same listener.filter_chains listener.default_filter_chain own i;
+        } ∷ []
+    listener_same content same = refl
 
 -- the last results of these hosts are the same
 abbrev pub SameResults : List HealthResult → List HealthResult → ℕ → List HostRowParts → Type 0
@@ -144,11 +181,12 @@ eligible_same before after row [] same = refl
 eligible_same before after row (h ∷ hosts) same =
     λ i. cond (h.usable && (not (is_checked row.content) || same.0 i)) (h ∷ eligible_same before after row hosts same.1 i) (eligible_same before after row hosts same.1 i)
 
--- the generations of the kind that serve are the same, but for these numbers, and so is what came for what they depend on
+-- the generations of the kind that serve are the same, but for these numbers, and so is what was received for what they
+-- depend on
 pub record AreAlike (kind : Kind) (changed : List ℕ) (before after : World) : Type 0 where
   pub rows : (number : ℕ) → is_one_of changed number ≡ false → serving kind (row_in number after.rows) ≡ serving kind (row_in number before.rows)
   pub values : (number : ℕ) (row : GenRow) → is_one_of changed number ≡ false → serving kind (row_in number before.rows) ≡ Some row
-      → SameNeeds (needs_of kind) before.arrivals after.arrivals row.content
+      → SameNeeds before.arrivals after.arrivals row.content
 
 -- and so are the results of the clusters that serve
 pub record AreSame (changed : List ℕ) (before after : World) : Type 0 where
@@ -178,10 +216,17 @@ same-changed changed before after same = record {
         → option_map (served_cluster after.arrivals after.results) found ≡ option_map (served_cluster before.arrivals before.results) found
     cluster n other None at = refl
     cluster n other (Some row) at =
-        let assigned = assignment_same before.arrivals after.arrivals row.content (same.clusters.values n row other at) in
+        let values = same.clusters.values n row other at in
+        let assigned = assignment_same before.arrivals after.arrivals row.content values in
         let chosen = ap (filter (is_eligible_by after.results row)) assigned
         ∙ eligible_same before.results after.results row (assignment_by before.arrivals row.content) (same.results n row other at) in
-        λ i. Some (record { number = row.number; name = row.name; hosts = chosen i; elsewhere = is_elsewhere row.content })
+        λ i. Some (record {
+          number = row.number;
+          name = row.name;
+          hosts = chosen i;
+          elsewhere = is_elsewhere row.content;
+          secrets = known_same before.arrivals after.arrivals row.content values i;
+        })
 
     listener : (n : ℕ) → is_one_of changed n ≡ false → (found : Option GenRow) → serving Lds (row_in n before.rows) ≡ found
         → option_and_then (first_served after.arrivals) found ≡ option_and_then (first_served before.arrivals) found

@@ -10,29 +10,28 @@ use Rattle.ev_types.specs.declared.rows.KeptVersion.{KeptVersion}
 use Rattle.ev_model.specs.Live.{lives_of}
 use Rattle.ev_state.proofs.HeardLemmas.{IsDue}
 use Rattle.ev_model.specs.World.{World}
-use Rattle.ev_model.specs.Signals.{health_of, is_awaited, moved, with_results, with_end, forget_version}
+use Rattle.ev_model.specs.Signals.{health_of, moved, with_results, with_end, forget_version}
 use Rattle.ev_model.specs.Versions.{is_version_of, is_bounded}
-use Rattle.ev_model.specs.Watching.{is_by_name, is_watched}
+use Rattle.ev_types.specs.Kinds.{is_by_name}
 use Rattle.std.proofs.lemmas.List.Elements.{All-filter, recursion_from_All}
 use Rattle.ev_types.specs.declared.contents.Kind.{Kind}
-use Rattle.ev_types.specs.declared.contents.Kind.TheVariants.{Cds, Eds, Lds, Rds}
-use Rattle.ev_indexes.specs.Worlds.{HasRows, InWorldsWatching, needs_of}
+use Rattle.ev_types.specs.declared.contents.Kind.TheVariants.{Cds}
+use Rattle.ev_mentions.specs.Keys.{named}
+use Rattle.ev_mentions.specs.declared.kind_keys.Key.{Key}
 use Rattle.ev_indexes.proofs.ReadLemmas.{watched-world, still-waits}
 use Rattle.ev_indexes.proofs.WaitLemmas.{waits-depends}
 use Rattle.ev_state.proofs.TidyLemmas.{found_watched}
 use Rattle.ev_model_laws.proofs.AnyLemmas.{any_so}
 use Rattle.ev_indexes.specs.Indexes.{depends_on}
 use Rattle.ev_indexes.specs.declared.state.State.{State as Part}
-use Rattle.ev_indexes.specs.Reads.{is_awaited_at, is_timeout_due, is_waiting_in}
+use Rattle.ev_indexes.specs.Reads.{is_timeout_due, is_waiting_in}
 use Rattle.ev_indexes.specs.Watched.{watch_in}
 use Rattle.ev_managers.specs.declared.managers.Managers.{Managers}
 use Rattle.ev_managers.specs.declared.moved.Moved.{Moved}
-use Rattle.ev_managers.specs.Managers.{AreForgotten, AreManagersKept, StandFor, is_watched_in, manager_of}
-use Rattle.ev_managers.proofs.FrameLemmas.{kept-of, needs-back, stand-of}
-use Rattle.ev_warming.specs.declared.manager.Manager.{Manager}
+use Rattle.ev_managers.specs.Managers.{AreForgotten, AreManagersKept, StandFor, is_watched_in}
 use Rattle.ev_model_laws.specs.VersionsKept.{AreKeptOnce}
 use Rattle.ev_subscription.specs.Subscriptions.{SubscriptionParts, HasVersions, kept_of}
-use Rattle.ev_targets.specs.Targets.{TargetsParts, HaveBooted}
+use Rattle.ev_state.specs.InitTargets.{InitTargetsParts, HaveBooted}
 use Rattle.ev_state.specs.declared.state.State.{State}
 use Rattle.ev_state.specs.Ages.{AreLater}
 use Rattle.ev_state.specs.States.{Follows, IsStep}
@@ -65,7 +64,7 @@ managers_follow s m world after follows stand node stream versions rest rows =
     }
 
 -- the targets alone have changed
-pub targets_follow : (s : State) (targets : TargetsParts) (world after : World) → Follows s world world → HaveBooted targets after
+pub targets_follow : (s : State) (targets : InitTargetsParts) (world after : World) → Follows s world world → HaveBooted targets after
     → StandFor s.managers after → HasVersions s.subscription after → after.versions ≡ world.versions
     → after.phase ≡ world.phase → after.rows ≡ world.rows → Follows (record s { targets = targets }) world after
 targets_follow s targets world after follows boots stand held versions phase rows = record {
@@ -142,10 +141,10 @@ both_first true b h = refl
 both_first false b h = h
 
 -- a name whose timeout is due is watched
-pub due_is_watched : (part : Part) (name : List ℕ) → is_timeout_due part.watches part.table.rows name ≡ true → list_any (depends_on name) part.table.rows ≡ true
-due_is_watched part name due =
-    any_so (is_waiting_in name (watch_in part.watches name)) (depends_on name) part.table.rows
-    (λ row h. waits-depends name true row (still-waits name (watch_in part.watches name) row h)) due
+pub due_is_watched : (part : Part) (key : Key) → is_timeout_due part.watches part.table.rows key ≡ true → list_any (depends_on key) part.table.rows ≡ true
+due_is_watched part key due =
+    any_so (is_waiting_in key (watch_in part.watches key)) (depends_on key) part.table.rows
+    (λ row h. waits-depends key true row (still-waits key (watch_in part.watches key) row h)) due
 
 pub not_false : (b : Bool) → not b ≡ false → b ≡ true
 not_false true h = refl
@@ -170,61 +169,27 @@ ended_follows s m subscription Cds name world follows stand held = record {
   heard = All-filter (λ (kept : KeptVersion). not (is_version_of Cds name kept)) (IsDue (lives_of world)) world.versions follows.heard;
   phase = refl;
 }
-ended_follows s m subscription Eds name world follows stand held = record {
+ended_follows s m subscription kind name world follows stand held = record {
   stands = record {
     managers = stand;
     subscription = record { node = held.node; stream = held.stream; versions = held.versions; kept_once = held.kept_once };
-    targets = rest_boots s.targets world (with_end Eds name (forget_version Eds name world)) (record { first_clusters = refl; first_listeners = refl; late_clusters = refl; late_listeners = refl; phase = refl }) follows.stands.targets;
+    targets = rest_boots s.targets world (with_end kind name (forget_version kind name world)) (record { first_clusters = refl; first_listeners = refl; late_clusters = refl; late_listeners = refl; phase = refl }) follows.stands.targets;
   };
   sound = follows.sound;
-  later = end-later world.made Eds name world;
-  heard = All-filter (λ (kept : KeptVersion). not (is_version_of Eds name kept)) (IsDue (lives_of world)) world.versions follows.heard;
-  phase = refl;
-}
-ended_follows s m subscription Lds name world follows stand held = record {
-  stands = record {
-    managers = stand;
-    subscription = record { node = held.node; stream = held.stream; versions = held.versions; kept_once = held.kept_once };
-    targets = rest_boots s.targets world (with_end Lds name (forget_version Lds name world)) (record { first_clusters = refl; first_listeners = refl; late_clusters = refl; late_listeners = refl; phase = refl }) follows.stands.targets;
-  };
-  sound = follows.sound;
-  later = end-later world.made Lds name world;
-  heard = All-filter (λ (kept : KeptVersion). not (is_version_of Lds name kept)) (IsDue (lives_of world)) world.versions follows.heard;
-  phase = refl;
-}
-ended_follows s m subscription Rds name world follows stand held = record {
-  stands = record {
-    managers = stand;
-    subscription = record { node = held.node; stream = held.stream; versions = held.versions; kept_once = held.kept_once };
-    targets = rest_boots s.targets world (with_end Rds name (forget_version Rds name world)) (record { first_clusters = refl; first_listeners = refl; late_clusters = refl; late_listeners = refl; phase = refl }) follows.stands.targets;
-  };
-  sound = follows.sound;
-  later = end-later world.made Rds name world;
-  heard = All-filter (λ (kept : KeptVersion). not (is_version_of Rds name kept)) (IsDue (lives_of world)) world.versions follows.heard;
+  later = end-later world.made kind name world;
+  heard = All-filter (λ (kept : KeptVersion). not (is_version_of kind name kept)) (IsDue (lives_of world)) world.versions follows.heard;
   phase = refl;
 }
 
 -- it draws no number
 pub end_draws : (kind : Kind) (name : List ℕ) (world : World) → (with_end kind name world).made ≡ world.made
 end_draws Cds name world = refl
-end_draws Eds name world = refl
-end_draws Lds name world = refl
-end_draws Rds name world = refl
+end_draws kind name world = refl
 
--- a name of endpoints or routes whose life is bounded is watched
-pub bounded_is_watched : (m : Managers) (kind : Kind) (name : List ℕ) (world : World) → AreManagersKept m → StandFor m world → All (IsDue (lives_of world)) world.versions
+-- a name whose life is bounded is watched, where resources of its kind are asked for by name
+pub bounded_is_watched : (m : Managers) (kind : Kind) (name : List ℕ) (world : World) → StandFor m world → All (IsDue (lives_of world)) world.versions
     → is_bounded world.versions kind name ≡ true → is_by_name kind ≡ true → is_watched_in m kind name ≡ true
-bounded_is_watched m kind name world kept stand due bounded by_name =
-    (λ i. by_name i && list_any (depends_on name) (manager_of m kind).state.table.rows)
-    ∙ watched-world (manager_of m kind).state world (stand-of m kind world stand) (kept-of m kind kept).kept.rows name
-    ∙ ap (λ (k : Kind). is_watched (lives_of world) k name) (needs-back m kind kept by_name)
+bounded_is_watched m kind name world stand due bounded by_name =
+    watched-world m.core.state world stand (named kind name)
     ∙ found_watched (lives_of world) kind name world.versions by_name (recursion_from_All (IsDue (lives_of world)) world.versions due)
     (any_so (λ (v : KeptVersion). is_version_of kind name v && v.bounded) (is_version_of kind name) world.versions (λ v h. both_first (is_version_of kind name v) v.bounded h) bounded)
-
--- whether the fetch timeout of a name is due is what the machine says
-pub due-awaited : (m : Managers) (kind : Kind) (own : Manager) (due : Bool) (name : List ℕ) (world : World) → own ≡ manager_of m kind → AreManagersKept m → is_by_name kind ≡ true
-    → StandFor m world → InWorldsWatching own.state (λ w k. due ≡ is_awaited_at w k name) → due ≡ is_awaited world.arrivals world.rows kind name
-due-awaited m kind own due name world same kept by_name stand told =
-    told world (ap (λ (o : Manager). is_by_name o.state.kind) same ∙ (kept-of m kind kept).kept.rows)
-    (subst (λ (o : Manager). HasRows o.state world) (sym same) (stand-of m kind world stand))
-    ∙ ap (λ k. is_awaited_at world k name) (ap (λ (o : Manager). needs_of o.state.kind) same ∙ needs-back m kind kept by_name)

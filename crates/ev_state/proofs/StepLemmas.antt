@@ -3,7 +3,7 @@ use Rattle.std.proofs.Common.{◌≡◌, Bool, true, false, cond, refl, sym, sub
 use Rattle.ev_types.specs.declared.events.Answer.{Answer}
 use Rattle.ev_model.specs.World.{World}
 use Rattle.ev_managers.specs.declared.moved.Moved.{Moved}
-use Rattle.ev_managers.proofs.FrameLemmas.{see_the_same}
+use Rattle.ev_indexes.proofs.SeenLemmas.{seen-stands}
 use Rattle.ev_subscription.specs.Subscriptions.{SubscriptionParts, HasVersions}
 use Rattle.ev_state.specs.declared.state.State.{State}
 use Rattle.ev_state.specs.States.{Follows, IsStep}
@@ -21,7 +21,7 @@ stream_follows s subscription open_now world follows held =
     let booted = follows.stands.targets in
     record {
       stands = record {
-        managers = see_the_same s.managers world (record world { stream = open_now }) (record { rows = refl; made = refl; arrivals = refl; results = refl }) follows.stands.managers;
+        managers = seen-stands s.managers.core.state world (record world { stream = open_now }) (record { rows = refl; made = refl; arrivals = refl; results = refl }) follows.stands.managers;
         subscription = held;
         targets = record { phase = booted.phase; first_clusters = booted.first_clusters; first_listeners = booted.first_listeners; late_clusters = booted.late_clusters; late_listeners = booted.late_listeners };
       };

@@ -1,7 +1,6 @@
 -- Generations that stay as they were or retire: those that serve after an event served before it.
 use Rattle.std.proofs.Common.{◌≡◌, ◌∙◌, ℕ, Bool, true, false, cond, not, ◌&&◌, nat_eq, List, [], ◌∷◌, ◌++◌, Option, None, Some, refl, sym, ap}
 use Rattle.std.specs.Prelude.{⊤}
-use Rattle.std.specs.List.{IsDistinct}
 use Rattle.std.proofs.lemmas.Bool.{false≢true}
 use Rattle.ev_types.specs.Kinds.{kind_same}
 use Rattle.ev_types.specs.Statuses.{is_live, is_active}
@@ -10,10 +9,8 @@ use Rattle.ev_types.specs.declared.rows.RowStatus.{RowStatus}
 use Rattle.ev_types.specs.declared.rows.RowStatus.TheVariants.{Warming, Active, Draining, Dropped}
 use Rattle.ev_types.specs.declared.rows.GenRow.{GenRow}
 use Rattle.ev_model.specs.Rows.{with_statuses}
-use Rattle.ev_generations.specs.Tables.{row_in, numbers_of}
-use Rattle.ev_warming.specs.Changes.{is_over, has_retired}
-use Rattle.ev_indexes.specs.Worlds.{rows_of_kind}
-use Rattle.ev_state.proofs.FindLemmas.{only, found-only}
+use Rattle.ev_indexes.specs.Tables.{row_in}
+use Rattle.ev_warming.specs.Changes.{is_over}
 
 -- it is the same generation, but for its status, and that too where it is live after
 pub record IsStill (before after : GenRow) : Type 0 where
@@ -82,27 +79,20 @@ abbrev pub serving : Kind → Option GenRow → Option GenRow
 serving kind None = None
 serving kind (Some row) = cond (kind_same row.kind kind && is_active row.status) (Some row) None
 
--- it is over now, and wasn't before: among those of the kind
-abbrev pub ended_of : Kind → Option GenRow → Option GenRow → Bool
-ended_of kind before after = is_over (only kind after) && not (is_over (only kind before))
-
 none_serves : (b : Bool) (row : GenRow) → cond (b && false) (Some row) None ≡ None
 none_serves true row = refl
 none_serves false row = refl
 
-pub still-serves : (kind : Kind) (a b : Option GenRow) → Still a b → ended_of kind a b ≡ false → serving kind b ≡ serving kind a
+-- where none retired, those that serve after served before
+pub still-serves : (kind : Kind) (a b : Option GenRow) → Still a b → (is_over b && not (is_over a)) ≡ false → serving kind b ≡ serving kind a
 still-serves kind None None x h = refl
 still-serves kind None (Some row) x h = (λ i. cond (kind_same row.kind kind && x i) (Some row) None) ∙ none_serves (kind_same row.kind kind) row
 still-serves kind (Some row) None x h = absurd x
 still-serves kind (Some row) (Some other) x h =
     (λ i. serving kind (Some (x.same i)))
-    ∙ by (kind_same row.kind kind) other.status row.status x.live ((λ i. ended_of kind (Some row) (Some (sym x.same i))) ∙ h)
+    ∙ by (kind_same row.kind kind) other.status row.status x.live h
   where
-    clash : {A : Type 0} {st old : RowStatus} → (is_live st ≡ true → st ≡ old) → is_live st ≡ true → (st ≡ old → ⊥) → A
-    clash live is apart = absurd (apart (live is))
-
-    by : (k : Bool) (st old : RowStatus) → (is_live st ≡ true → st ≡ old)
-        → (is_over (cond k (Some (record row { status = st })) None) && not (is_over (cond k (Some (record row { status = old })) None))) ≡ false
+    by : (k : Bool) (st old : RowStatus) → (is_live st ≡ true → st ≡ old) → (not (is_live st) && not (not (is_live old))) ≡ false
         → cond (k && is_active st) (Some (record row { status = st })) None ≡ cond (k && is_active old) (Some (record row { status = old })) None
     by false st old live h = refl
     by true Warming Warming live h = refl
@@ -121,11 +111,3 @@ still-serves kind (Some row) (Some other) x h =
     by true Dropped Active live h = absurd (false≢true (sym h))
     by true Dropped Draining live h = refl
     by true Dropped Dropped live h = refl
-
--- the same, where what retired is said of the rows of the kind
-pub still-kind : (kind : Kind) (number : ℕ) (before after : List GenRow) → IsDistinct nat_eq (numbers_of before) → IsDistinct nat_eq (numbers_of after)
-    → Still (row_in number before) (row_in number after) → has_retired number (rows_of_kind kind before) (rows_of_kind kind after) ≡ false
-    → serving kind (row_in number after) ≡ serving kind (row_in number before)
-still-kind kind number before after apart apart_after still h =
-    still-serves kind (row_in number before) (row_in number after) still
-    ((λ i. is_over (sym (found-only kind number after apart_after) i) && not (is_over (sym (found-only kind number before apart) i))) ∙ h)

@@ -5,7 +5,7 @@ use Rattle.ev_types.specs.Items.{ResponseParts}
 use Rattle.ev_types.specs.Kinds.{kind_same}
 use Rattle.ev_types.specs.Statuses.{is_live, is_active}
 use Rattle.ev_types.specs.declared.contents.Kind.{Kind}
-use Rattle.ev_types.specs.declared.contents.Kind.TheVariants.{Cds, Eds, Lds, Rds}
+use Rattle.ev_types.specs.declared.contents.Kind.TheVariants.{Cds, Lds}
 use Rattle.ev_types.specs.declared.events.Verdict.{Verdict}
 use Rattle.ev_types.specs.declared.hosts.Host.{Host}
 use Rattle.ev_types.specs.declared.rows.RowStatus.{RowStatus}
@@ -18,20 +18,20 @@ use Rattle.ev_model.specs.Signals.{rows_meant, with_results, with_end, forget_ve
 use Rattle.ev_model.specs.Tidy.{tidy, promoted, without_unwatched, without_old_results}
 use Rattle.ev_model.specs.Warming.{value_by, assignment_by, is_healthy}
 use Rattle.ev_types.specs.declared.rows.Arrival.TheVariants.{TimedOut}
-use Rattle.ev_generations.specs.Tables.{row_in}
+use Rattle.ev_indexes.specs.Tables.{row_in}
+use Rattle.ev_mentions.specs.Keys.{named}
 use Rattle.ev_indexes.specs.Due.{is_one_of}
-use Rattle.ev_warming.specs.Changes.{is_over, began_to_serve, began_to_drain}
+use Rattle.ev_warming.specs.Changes.{is_over, has_retired, began_to_serve, began_to_drain}
 use Rattle.ev_indexes.specs.Indexes.{serves, numbers_where}
-use Rattle.ev_indexes.specs.Worlds.{IsSound, rows_of_kind}
+use Rattle.ev_indexes.specs.Worlds.{IsSound}
 use Rattle.ev_warming.proofs.RemovalLemmas.{row_in-without}
 use Rattle.ev_managers.specs.declared.managers.Managers.{Managers}
-use Rattle.ev_managers.specs.Managers.{AreManagersKept, StandFor}
-use Rattle.ev_managers.specs.Moved.{Grows, is_moved, of_either}
+use Rattle.ev_managers.specs.Managers.{StandFor}
+use Rattle.ev_managers.specs.Moved.{Grows, is_moved}
 use Rattle.ev_state.specs.Changed.{HaveChanged, dependents_in, dependents_of, listeners_begun}
-use Rattle.ev_state.specs.Retirements.{HaveRetired, retired_of}
+use Rattle.ev_state.specs.Retirements.{HaveRetired}
 use Rattle.ev_state.specs.States.{without_over}
 use Rattle.ev_state.proofs.GoneLemmas.{over-stays, over-goes}
-use Rattle.ev_state.proofs.MoveLemmas.{rows-are}
 use Rattle.ev_state.proofs.SameLemmas.{SameResults, same-changed, changed-more, changed-then}
 use Rattle.ev_state.proofs.ValueLemmas.{value-quiet, mute-quiet}
 use Rattle.ev_state.proofs.StillLemmas.{serving}
@@ -44,8 +44,8 @@ use Rattle.ev_state.proofs.BeginLemmas.{begun-changed}
 pub quiet-changed : (changed : List ℕ) (before after : World) → after.rows ≡ before.rows → ((k : Kind) (q : List ℕ) → value_by after.arrivals k q ≡ value_by before.arrivals k q)
     → after.results ≡ before.results → after.phase ≡ before.phase → HaveChanged changed before after
 quiet-changed changed before after rows values results phase = same-changed changed before after (record {
-  clusters = record { rows = λ n other. λ i. serving Cds (row_in n (rows i)); values = λ n row other at q needs. values Eds q };
-  listeners = record { rows = λ n other. λ i. serving Lds (row_in n (rows i)); values = λ n row other at q needs. values Rds q };
+  clusters = record { rows = λ n other. λ i. serving Cds (row_in n (rows i)); values = λ n row other at needed q needs. values needed q };
+  listeners = record { rows = λ n other. λ i. serving Lds (row_in n (rows i)); values = λ n row other at needed q needs. values needed q };
   results = λ n row other at.
       subst (λ rs. SameResults before.results rs row.number (assignment_by before.arrivals row.content)) (sym results)
       (results-stay before.results row.number (assignment_by before.arrivals row.content));
@@ -88,109 +88,80 @@ left-changed number world sound = by (is_over (row_in number world.rows)) refl
     by : (b : Bool) → is_over (row_in number world.rows) ≡ b → HaveChanged [] world (record world { rows = without_over number world.rows })
     by false isnt = quiet-changed [] world (record world { rows = without_over number world.rows }) (over-stays number world.rows sound.table.apart isnt) (λ k q. refl) refl refl
     by true over = same-changed [] world (record world { rows = without_over number world.rows }) (record {
-      clusters = record { rows = λ n other. rows Cds n over; values = λ n row other at q needs. refl };
-      listeners = record { rows = λ n other. rows Lds n over; values = λ n row other at q needs. refl };
+      clusters = record { rows = λ n other. rows Cds n over; values = λ n row other at needed q needs. refl };
+      listeners = record { rows = λ n other. rows Lds n over; values = λ n row other at needed q needs. refl };
       results = λ n row other at. results-stay world.results row.number (assignment_by world.arrivals row.content);
       phase = refl;
     })
 
 -- these numbers have those that are put first, and those that retired
 module _ (changed put retired : List ℕ) (m : Managers) (before after : World) (are : changed ≡ put ++ retired)
-    (kept : AreManagersKept m) (stand : StandFor m before) (sound : IsSound after) (have : HaveRetired retired before after) where
-  parts : (n : ℕ) → is_one_of changed n ≡ false → (is_one_of put n ≡ false) × (retired_of Cds n before after ≡ false) × (retired_of Lds n before after ≡ false)
+    (stand : StandFor m before) (have : HaveRetired retired before after) where
+  parts : (n : ℕ) → is_one_of changed n ≡ false → (is_one_of put n ≡ false) × (has_retired n before.rows after.rows ≡ false)
   parts n other =
-      let outer = none-of put retired n ((λ i. is_one_of (sym are i) n) ∙ other) in
-      let inner = or_none (retired_of Cds n before after) (retired_of Lds n before after) (sym (have n) ∙ outer.1) in
-      (outer.0, inner.0, inner.1)
+      let both = none-of put retired n ((λ i. is_one_of (sym are i) n) ∙ other) in
+      (both.0, sym (have n) ∙ both.1)
 
   -- after a response, the dependents of each of its names
   pub entered-changed : (kind : Kind) (verdicts : List Verdict) (response : ResponseParts) (names : List (List ℕ))
       → after ≡ with_first kind names (add_items kind verdicts response.items (with_removals kind response before))
-      → put ≡ dependents_of m.clusters.state m.listeners.state kind response.items → HaveChanged changed before after
+      → put ≡ dependents_of m.core.state kind response.items → HaveChanged changed before after
   entered-changed kind verdicts response names leads told =
       same-changed changed before after
-      (entered-same changed m.clusters.state m.listeners.state before after (rows-are m Cds before kept stand) (rows-are m Lds before kept stand)
-      stand.clusters.sound.table.apart sound.table.apart
-      (λ n other. (parts n other).1) (λ n other. (parts n other).2)
+      (entered-same changed m.core.state before after stand.rows (λ n other. (parts n other).1)
       kind verdicts response names leads (λ n other. (λ i. is_one_of (sym told i) n) ∙ (parts n other).0))
 
   -- after the end of a resource, those of its name
   pub ended-changed : (kind : Kind) (name : List ℕ) → after ≡ with_end kind name (forget_version kind name before)
-      → put ≡ dependents_in m.clusters.state m.listeners.state kind name → HaveChanged changed before after
+      → put ≡ dependents_in m.core.state kind name → HaveChanged changed before after
   ended-changed kind name leads told =
       same-changed changed before after
-      (ended-same changed m.clusters.state m.listeners.state before after (rows-are m Cds before kept stand) (rows-are m Lds before kept stand)
-      stand.clusters.sound.table.apart sound.table.apart
-      (λ n other. (parts n other).1) (λ n other. (parts n other).2)
+      (ended-same changed m.core.state before after stand.rows (λ n other. (parts n other).1)
       kind name leads (λ n other. (λ i. is_one_of (sym told i) n) ∙ (parts n other).0))
 
 -- after a health result, the cluster that serves the name, where the host was not as healthy before
-pub resulted-changed : (changed : List ℕ) (m : Managers) (name : List ℕ) (host : Host) (healthy : Bool) (world : World) → AreManagersKept m
+pub resulted-changed : (changed : List ℕ) (m : Managers) (name : List ℕ) (host : Host) (healthy : Bool) (world : World)
     → StandFor m (with_results host healthy (rows_meant world.arrivals name host world.rows) world)
     → ((n : ℕ) → is_one_of changed n ≡ false
-    → (is_one_of (numbers_where (serves name) m.clusters.state.table.rows) n ≡ false) ⊎ (is_healthy world.results n host ≡ healthy))
+    → (is_one_of (numbers_where (serves (named Cds name)) m.core.state.table.rows) n ≡ false) ⊎ (is_healthy world.results n host ≡ healthy))
     → HaveChanged changed world (with_results host healthy (rows_meant world.arrivals name host world.rows) world)
-resulted-changed changed m name host healthy world kept stand are =
+resulted-changed changed m name host healthy world stand are =
     same-changed changed world (with_results host healthy (rows_meant world.arrivals name host world.rows) world)
-    (resulted-same changed m.clusters.state name host healthy world (rows-are m Cds (with_results host healthy (rows_meant world.arrivals name host world.rows) world) kept stand) stand.clusters.sound.table.apart
-    are)
+    (resulted-same changed m.core.state name host healthy world stand.rows stand.sound.table.apart are)
 
 -- what was reported, what came to serve or began to drain, and the listeners that come to serve together
-module _ (old more all : List ℕ) (m after last : Managers) (before world : World) (kept : AreManagersKept m) (kept_after : AreManagersKept after) (kept_last : AreManagersKept last)
+module _ (old more all : List ℕ) (m after last : Managers) (before world : World)
     (stand : StandFor m world) (stand_after : StandFor after (promoted world)) (stand_last : StandFor last (without_old_results (without_unwatched (promoted world))))
-    (moved : Grows old more (λ n. of_either is_moved n m after)) where
+    (moved : Grows old more (λ n. is_moved n m.core.state.table.rows after.core.state.table.rows)) where
   abbrev left : World
   left = without_old_results (without_unwatched (promoted world))
 
   told : (n : ℕ) → is_one_of more n ≡ false
       → (is_one_of old n ≡ false)
-      × (is_moved n m.clusters.state.table.rows after.clusters.state.table.rows ≡ false)
-      × (is_moved n m.listeners.state.table.rows after.listeners.state.table.rows ≡ false)
+      × (began_to_serve n world.rows (promoted world).rows ≡ false)
+      × (began_to_drain n world.rows (promoted world).rows ≡ false)
   told n other =
-      let outer = or_none (is_one_of old n) (is_moved n m.clusters.state.table.rows after.clusters.state.table.rows || is_moved n m.listeners.state.table.rows after.listeners.state.table.rows)
-      (sym (moved n) ∙ other) in
-      let inner = or_none (is_moved n m.clusters.state.table.rows after.clusters.state.table.rows) (is_moved n m.listeners.state.table.rows after.listeners.state.table.rows) outer.1 in
+      let outer = or_none (is_one_of old n) (is_moved n world.rows (promoted world).rows)
+      ((λ i. is_one_of old n || is_moved n (sym stand.rows i) (sym stand_after.rows i)) ∙ sym (moved n) ∙ other) in
+      let inner = or_none (began_to_serve n world.rows (promoted world).rows) (began_to_drain n world.rows (promoted world).rows) outer.1 in
       (outer.0, inner.0, inner.1)
 
-  -- of one kind
-  moved_of : (kind : Kind) (rows rows_after : List GenRow) (n : ℕ) → rows ≡ rows_of_kind kind world.rows → rows_after ≡ rows_of_kind kind (promoted world).rows
-      → is_moved n rows rows_after ≡ false
-      → (began_to_serve n (rows_of_kind kind world.rows) (rows_of_kind kind (promoted world).rows) ≡ false)
-      × (began_to_drain n (rows_of_kind kind world.rows) (rows_of_kind kind (promoted world).rows) ≡ false)
-  moved_of kind rows rows_after n of of_after none =
-      or_none (began_to_serve n (rows_of_kind kind world.rows) (rows_of_kind kind (promoted world).rows))
-      (began_to_drain n (rows_of_kind kind world.rows) (rows_of_kind kind (promoted world).rows)) ((λ i. is_moved n (sym of i) (sym of_after i)) ∙ none)
-
-  clusters_moved : (n : ℕ) → is_one_of more n ≡ false
-      → (began_to_serve n (rows_of_kind Cds world.rows) (rows_of_kind Cds (promoted world).rows) ≡ false)
-      × (began_to_drain n (rows_of_kind Cds world.rows) (rows_of_kind Cds (promoted world).rows) ≡ false)
-  clusters_moved n other =
-      moved_of Cds m.clusters.state.table.rows after.clusters.state.table.rows n (rows-are m Cds world kept stand) (rows-are after Cds (promoted world) kept_after stand_after) (told n other).1
-
-  listeners_moved : (n : ℕ) → is_one_of more n ≡ false
-      → (began_to_serve n (rows_of_kind Lds world.rows) (rows_of_kind Lds (promoted world).rows) ≡ false)
-      × (began_to_drain n (rows_of_kind Lds world.rows) (rows_of_kind Lds (promoted world).rows) ≡ false)
-  listeners_moved n other =
-      moved_of Lds m.listeners.state.table.rows after.listeners.state.table.rows n (rows-are m Lds world kept stand) (rows-are after Lds (promoted world) kept_after stand_after) (told n other).2
-
-  pub tidied-changed : all ≡ more ++ listeners_begun world.phase (phase_after left) last.listeners.state → HaveChanged old before world → HaveChanged all before (tidy world)
+  pub tidied-changed : all ≡ more ++ listeners_begun world.phase (phase_after left) last.core.state → HaveChanged old before world → HaveChanged all before (tidy world)
   tidied-changed are have =
       let fewer : (n : ℕ) → is_one_of all n ≡ false → is_one_of more n ≡ false = λ n other. (split n other).0 in
       let none : (n : ℕ) → is_one_of all n ≡ false → is_one_of [] n ≡ false = λ n other. refl in
       let first = changed-more old all before world (λ n other. (told n (fewer n other)).0) have in
       let second = changed-more more all world (promoted world) fewer (same-changed more world (promoted world)
-      (promoted-same more world stand.clusters.sound.table.apart stand_after.clusters.sound.table.apart
-      (λ n other. (clusters_moved n other).0) (λ n other. (clusters_moved n other).1) (λ n other. (listeners_moved n other).0) (λ n other. (listeners_moved n other).1))) in
+      (promoted-same more world (λ n other. (told n other).1) (λ n other. (told n other).2))) in
       let third = changed-more [] all (promoted world) (without_unwatched (promoted world)) none
       (same-changed [] (promoted world) (without_unwatched (promoted world)) (unwatched-same (promoted world))) in
       let fourth = changed-more [] all (without_unwatched (promoted world)) left none
       (same-changed [] (without_unwatched (promoted world)) left (old_results-same (without_unwatched (promoted world)))) in
-      let fifth = begun-changed all last.listeners.state left (rows-are last Lds left kept_last stand_last) stand_last.clusters.sound.table.apart
-      (λ n other. (split n other).1) in
+      let fifth = begun-changed all last.core.state left stand_last.rows (λ n other. (split n other).1) in
       changed-then all before world (tidy world) first
       (changed-then all world (promoted world) (tidy world) second
       (changed-then all (promoted world) (without_unwatched (promoted world)) (tidy world) third
       (changed-then all (without_unwatched (promoted world)) left (tidy world) fourth fifth)))
     where
-      split : (n : ℕ) → is_one_of all n ≡ false → (is_one_of more n ≡ false) × (is_one_of (listeners_begun world.phase (phase_after left) last.listeners.state) n ≡ false)
-      split n other = none-of more (listeners_begun world.phase (phase_after left) last.listeners.state) n ((λ i. is_one_of (sym are i) n) ∙ other)
+      split : (n : ℕ) → is_one_of all n ≡ false → (is_one_of more n ≡ false) × (is_one_of (listeners_begun world.phase (phase_after left) last.core.state) n ≡ false)
+      split n other = none-of more (listeners_begun world.phase (phase_after left) last.core.state) n ((λ i. is_one_of (sym are i) n) ∙ other)

@@ -7,19 +7,21 @@ use Rattle.std.proofs.lemmas.List.Elements.{filter-append, filter_map-append}
 use Rattle.ev_types.specs.Items.{ItemParts, ResponseParts}
 use Rattle.ev_types.specs.Kinds.{kind_same}
 use Rattle.ev_types.specs.declared.contents.Kind.{Kind}
-use Rattle.ev_types.specs.declared.contents.Kind.TheVariants.{Cds, Eds, Lds, Rds}
+use Rattle.ev_types.specs.declared.contents.Kind.TheVariants.{Cds, Eds, Lds, Rds, Sds, Ecds}
 use Rattle.ev_types.specs.declared.contents.Body.{Body}
 use Rattle.ev_types.specs.declared.contents.Body.TheVariants.{Good, Bad, Beat}
 use Rattle.ev_types.specs.declared.contents.Content.{Content}
 use Rattle.ev_types.specs.declared.events.Verdict.{Verdict}
-use Rattle.ev_types.specs.declared.events.Verdict.TheVariants.{New, Same, Kept, Unasked, Renewed, Refused}
+use Rattle.ev_types.specs.declared.events.Verdict.TheVariants.{New, InPlace, Back, Same, Kept, Unasked, Renewed, Refused}
+use Rattle.ev_types.specs.declared.origins.KeptChain.{KeptChain}
 use Rattle.ev_types.specs.declared.rows.Arrival.{Arrival}
 use Rattle.ev_types.specs.declared.rows.Arrival.TheVariants.{Value, Absent, Ended, Bad as bad}
 use Rattle.ev_model.specs.World.{World, Arrived}
 use Rattle.ev_model.specs.Live.{lives_of}
 use Rattle.ev_model.specs.Watching.{is_watched}
 use Rattle.ev_model.specs.Warming.{came_for, content_in, value_by}
-use Rattle.ev_model.specs.Rows.{arrived, absent_names, with_removals, add_row, keep_version, keep_value, with_content, refuse, add_item, add_items}
+use Rattle.ev_model.specs.Rows.{arrived, absent_names, with_removals, serving_row, add_row, go_back, keep_version, keep_value, with_content, refuse, add_item, add_items}
+use Rattle.ev_model.specs.Origins.{kept_from}
 use Rattle.ev_model.specs.Signals.{with_end, no_hosts, no_routes}
 use Rattle.ev_warming.proofs.ArrivalLemmas.{last_or-append}
 
@@ -84,11 +86,20 @@ module _ (kind k : Kind) (q : List ℕ) where
       by Eds = value-quiet world.arrivals (map (arrived world.made Eds Absent) (absent_names Eds response world)) k q (absences-quiet world.made Eds (absent_names Eds response world) k q)
       by Lds = refl
       by Rds = value-quiet world.arrivals (map (arrived world.made Rds Absent) (absent_names Rds response world)) k q (absences-quiet world.made Rds (absent_names Rds response world) k q)
+      by Sds = refl
+      by Ecds = value-quiet world.arrivals (map (arrived world.made Ecds Absent) (absent_names Ecds response world)) k q (absences-quiet world.made Ecds (absent_names Ecds response world) k q)
 
-  new_same : (item : ItemParts) (body : Body) (world : World) → IsSame world (with_content (add_row kind item) body world)
-  new_same item (Good content) world = refl
-  new_same item (Bad rule) world = refl
-  new_same item Beat world = refl
+  -- a new generation, whichever chains it keeps
+  new_same : (item : ItemParts) (kept : Content → World → List KeptChain) (body : Body) (world : World)
+      → IsSame world (with_content (λ content w. add_row kind item content (kept content w) w) body world)
+  new_same item kept (Good content) world = refl
+  new_same item kept (Bad rule) world = refl
+  new_same item kept Beat world = refl
+
+  back_same : (item : ItemParts) (body : Body) (world : World) → IsSame world (with_content (λ content. go_back kind item) body world)
+  back_same item (Good content) world = refl
+  back_same item (Bad rule) world = refl
+  back_same item Beat world = refl
 
   version_same : (item : ItemParts) (body : Body) (world : World) → IsSame world (with_content (λ content. keep_version kind item) body world)
   version_same item (Good content) world = refl
@@ -114,9 +125,13 @@ module _ (kind k : Kind) (q : List ℕ) where
       by Eds = told_same (is_watched (lives_of world) Eds name) Eds name world
       by Lds = refl
       by Rds = told_same (is_watched (lives_of world) Rds name) Rds name world
+      by Sds = told_same (is_watched (lives_of world) Sds name) Sds name world
+      by Ecds = told_same (is_watched (lives_of world) Ecds name) Ecds name world
 
   item_same : (verdict : Verdict) (item : ItemParts) → IsOther item → (world : World) → IsSame world (add_item kind verdict item world)
-  item_same New item other world = new_same item item.body world
+  item_same New item other world = new_same item (λ content w. []) item.body world
+  item_same InPlace item other world = new_same item (λ content w. kept_from (serving_row kind item.name w.rows) content) item.body world
+  item_same Back item other world = back_same item item.body world
   item_same Same item other world = version_same item item.body world
   item_same Kept item other world = kept_same item other item.body world
   item_same Unasked item other world = refl
@@ -144,3 +159,5 @@ module _ (kind k : Kind) (q : List ℕ) where
       by Eds other = value-quiet world.arrivals (arrived world.made Eds (Ended no_hosts) name ∷ []) k q (other-quiet world.made Eds (Ended no_hosts) name k q other)
       by Lds other = refl
       by Rds other = value-quiet world.arrivals (arrived world.made Rds (Ended no_routes) name ∷ []) k q (other-quiet world.made Rds (Ended no_routes) name k q other)
+      by Sds other = refl
+      by Ecds other = refl

@@ -1,32 +1,36 @@
--- Generations are of clusters or of listeners: no event makes one of endpoints or routes.
+-- Generations are of clusters or of listeners: no event makes one of what is asked for by name.
 use Rattle.std.proofs.Common.{◌≡◌, ℕ, Bool, true, false, not, List, [], ◌∷◌, ◌++◌, filter, cond}
 use Rattle.std.specs.List.{AllByRecursion as ByRecursion, fold, zip}
 use Rattle.std.proofs.lemmas.Bool.{cond_both}
 use Rattle.ev_types.specs.Items.{ItemParts, ResponseParts}
 use Rattle.ev_types.specs.declared.contents.Kind.{Kind}
-use Rattle.ev_types.specs.declared.contents.Kind.TheVariants.{Cds, Eds, Lds, Rds}
+use Rattle.ev_types.specs.declared.contents.Kind.TheVariants.{Cds, Eds, Lds, Rds, Sds, Ecds}
 use Rattle.ev_types.specs.declared.contents.Body.{Body}
 use Rattle.ev_types.specs.declared.contents.Body.TheVariants.{Good, Bad, Beat}
+use Rattle.ev_types.specs.declared.contents.Content.{Content}
 use Rattle.ev_types.specs.declared.events.Actor.{Actor}
 use Rattle.ev_types.specs.declared.events.Answer.{Answer}
 use Rattle.ev_types.specs.declared.events.Event.{Event}
 use Rattle.ev_types.specs.declared.events.Verdict.{Verdict}
-use Rattle.ev_types.specs.declared.events.Verdict.TheVariants.{New, Same, Kept, Unasked, Renewed, Refused}
+use Rattle.ev_types.specs.declared.events.Verdict.TheVariants.{New, InPlace, Back, Same, Kept, Unasked, Renewed, Refused}
 use Rattle.ev_types.specs.declared.journals.Format.{Format}
+use Rattle.ev_types.specs.declared.origins.KeptChain.{KeptChain}
 use Rattle.ev_types.specs.declared.rows.GenRow.{GenRow}
 use Rattle.ev_types.specs.declared.rows.RowStatus.{RowStatus}
 use Rattle.ev_model.specs.World.{World}
 use Rattle.ev_model.specs.Live.{lives_of}
 use Rattle.ev_model.specs.Dead.{is_dead}
 use Rattle.ev_model.specs.Verdicts.{lives_left, verdicts_for}
-use Rattle.ev_model.specs.Watching.{is_by_name, is_watched}
-use Rattle.ev_model.specs.Rows.{with_statuses, with_removals, status_left, replaced_status, new_row, add_row, keep_version, keep_value, with_content, refuse, add_item, add_items, made_names, with_first}
+use Rattle.ev_types.specs.Kinds.{is_by_name}
+use Rattle.ev_model.specs.Watching.{is_watched}
+use Rattle.ev_model.specs.Rows.{with_statuses, with_removals, status_left, replaced_status, new_row, serving_row, add_row, go_back, keep_version, keep_value, with_content, refuse, add_item, add_items, made_names, with_first}
+use Rattle.ev_model.specs.Origins.{kept_from}
 use Rattle.ev_model.specs.Signals.{with_end, forget_version, ended_status}
 use Rattle.ev_model.specs.Step.{step}
 use Rattle.ev_model.specs.Tidy.{promoted_status, tidy}
 use Rattle.ev_model_laws.proofs.CameLemmas.{by_name_not}
 use Rattle.ev_model_laws.proofs.EventLemmas.{step-leads}
-use Rattle.ev_model_laws.proofs.VerdictLemmas.{fits, judged_by, verdict_fits}
+use Rattle.ev_model_laws.proofs.VerdictLemmas.{fits, judged_by, listener_not, verdict_fits}
 
 -- each generation is of clusters or of listeners
 abbrev pub AreWhole : List GenRow → Type 0
@@ -51,14 +55,23 @@ removals_whole Cds response world whole = statuses_whole (status_left Cds respon
 removals_whole Eds response world whole = whole
 removals_whole Lds response world whole = statuses_whole (status_left Lds response) world.rows whole
 removals_whole Rds response world whole = whole
+removals_whole Sds response world whole = whole
+removals_whole Ecds response world whole = whole
 
 module _ (kind : Kind) (item : ItemParts) where
-  new_whole : (body : Body) (world : World) → is_by_name kind ≡ false → AreWhole world.rows → AreWhole (with_content (add_row kind item) body world).rows
-  new_whole (Good content) world isnt whole =
-      more_whole (with_statuses (replaced_status kind item.name) world.rows) (new_row kind world.made item.name content)
+  -- a new generation, whichever chains it keeps
+  new_whole : (kept : Content → World → List KeptChain) (body : Body) (world : World) → is_by_name kind ≡ false → AreWhole world.rows
+      → AreWhole (with_content (λ content w. add_row kind item content (kept content w) w) body world).rows
+  new_whole kept (Good content) world isnt whole =
+      more_whole (with_statuses (replaced_status kind item.name) world.rows) (new_row kind world.made item.name content (kept content world))
       (statuses_whole (replaced_status kind item.name) world.rows whole) isnt
-  new_whole (Bad rule) world isnt whole = whole
-  new_whole Beat world isnt whole = whole
+  new_whole kept (Bad rule) world isnt whole = whole
+  new_whole kept Beat world isnt whole = whole
+
+  back_whole : (body : Body) (world : World) → AreWhole world.rows → AreWhole (with_content (λ content. go_back kind item) body world).rows
+  back_whole (Good content) world whole = statuses_whole (replaced_status kind item.name) world.rows whole
+  back_whole (Bad rule) world whole = whole
+  back_whole Beat world whole = whole
 
   same_whole : (body : Body) (world : World) → AreWhole world.rows → AreWhole (with_content (λ content. keep_version kind item) body world).rows
   same_whole (Good content) world whole = whole
@@ -79,10 +92,15 @@ refused_whole Cds name world whole = whole
 refused_whole Eds name world whole = told_whole (is_watched (lives_of world) Eds name) _ world whole whole
 refused_whole Lds name world whole = whole
 refused_whole Rds name world whole = told_whole (is_watched (lives_of world) Rds name) _ world whole whole
+refused_whole Sds name world whole = told_whole (is_watched (lives_of world) Sds name) _ world whole whole
+refused_whole Ecds name world whole = told_whole (is_watched (lives_of world) Ecds name) _ world whole whole
 
 item_whole : (kind : Kind) (verdict : Verdict) (item : ItemParts) (world : World) → fits kind verdict ≡ true → AreWhole world.rows
     → AreWhole (add_item kind verdict item world).rows
-item_whole kind New item world fit whole = new_whole kind item item.body world (by_name_not kind fit) whole
+item_whole kind New item world fit whole = new_whole kind item (λ content w. []) item.body world (by_name_not kind fit) whole
+item_whole kind InPlace item world fit whole =
+    new_whole kind item (λ content w. kept_from (serving_row kind item.name w.rows) content) item.body world (listener_not kind fit) whole
+item_whole kind Back item world fit whole = back_whole kind item item.body world whole
 item_whole kind Same item world fit whole = same_whole kind item item.body world whole
 item_whole kind Kept item world fit whole = value_whole kind item item.body world whole
 item_whole kind Unasked item world fit whole = whole
@@ -100,12 +118,16 @@ first_whole Cds names world whole = whole
 first_whole Eds names world whole = whole
 first_whole Lds names world whole = whole
 first_whole Rds names world whole = whole
+first_whole Sds names world whole = whole
+first_whole Ecds names world whole = whole
 
 end_whole : (kind : Kind) (name : List ℕ) (world : World) → AreWhole world.rows → AreWhole (with_end kind name world).rows
 end_whole Cds name world whole = statuses_whole (ended_status Cds name) world.rows whole
 end_whole Eds name world whole = whole
 end_whole Lds name world whole = statuses_whole (ended_status Lds name) world.rows whole
 end_whole Rds name world whole = whole
+end_whole Sds name world whole = whole
+end_whole Ecds name world whole = whole
 
 -- every event keeps it
 pub step-whole : (format : Format) (world : World) (actor : Actor) (event : Event) → AreWhole world.rows → AreWhole (step format world actor event).0.rows

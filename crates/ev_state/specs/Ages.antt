@@ -1,4 +1,5 @@
--- What an event does to generations: each stays in its place with its content, none comes back to life, and new ones come last.
+-- What an event does to generations: each stays in its place with its content, none comes back to life, and new ones
+-- come last.
 use Rattle.std.specs.Prelude.{◌≡◌, ◌<◌, ℕ, false, List, [], ◌∷◌}
 use Rattle.std.specs.List.{AllByRecursion}
 use Rattle.ev_types.specs.Statuses.{is_live}

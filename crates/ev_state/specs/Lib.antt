@@ -1,3 +1,4 @@
+pub mod InitTargets
 pub mod Ages
 pub mod Known
 pub mod States

@@ -1,24 +1,17 @@
 -- Which generations an event retired, and of which a picture may show something else than before it.
-use Rattle.std.specs.Prelude.{◌≡◌, ◌||◌, ℕ, Bool, false, List, Some}
+use Rattle.std.specs.Prelude.{◌≡◌, ℕ, false, List, Some}
 use Rattle.ev_types.specs.Statuses.{is_live}
-use Rattle.ev_types.specs.declared.contents.Kind.{Kind}
-use Rattle.ev_types.specs.declared.contents.Kind.TheVariants.{Cds, Lds}
 use Rattle.ev_types.specs.declared.rows.GenRow.{GenRow}
 use Rattle.ev_model.specs.World.{World}
-use Rattle.ev_generations.specs.Tables.{row_in}
+use Rattle.ev_indexes.specs.Tables.{row_in}
 use Rattle.ev_indexes.specs.Due.{is_one_of}
-use Rattle.ev_indexes.specs.Worlds.{rows_of_kind}
 use Rattle.ev_warming.specs.Changes.{has_retired}
 use Rattle.ev_managers.specs.declared.moved.Moved.{Moved}
 use Rattle.ev_state.specs.Changed.{HaveChanged}
 
--- the generation of this kind and number retired between the worlds
-abbrev pub retired_of : Kind → ℕ → World → World → Bool
-retired_of kind number before world = has_retired number (rows_of_kind kind before.rows) (rows_of_kind kind world.rows)
-
--- these generations retired between the worlds, clusters or listeners, and no others
+-- these generations retired between the worlds, and no others
 abbrev pub HaveRetired : List ℕ → World → World → Type 0
-HaveRetired numbers before world = (number : ℕ) → is_one_of numbers number ≡ (retired_of Cds number before world || retired_of Lds number before world)
+HaveRetired numbers before world = (number : ℕ) → is_one_of numbers number ≡ has_retired number before.rows world.rows
 
 -- these retired between the worlds, and of these a picture may show something else
 pub record HaveMoved (moved : Moved) (before world : World) : Type 0 where

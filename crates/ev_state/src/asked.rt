@@ -1,28 +1,28 @@
-ghost use Rattle.std.specs.Prelude.{◌≡◌, true, IfOk, OnOk};
-ghost use Rattle.ev_model.specs.Watching.{is_by_name};
+ghost use Rattle.std.specs.Prelude.{IfOk, OnOk};
 ghost use Rattle.ev_managers.specs.Managers.{AreForgotten, AreManagersKept};
-ghost use Rattle.ev_state.specs.Moves.{ChangesNames, TidiesUp};
+ghost use Rattle.ev_state.specs.Moves.{ChangeNames, ChangesNames, TidiesUp};
 
 use crate::state::State;
-use ev_generations::Steps;
+use ev_indexes::Steps;
 use ev_managers::Moved;
-use ev_subscription::NameChange;
-use ev_types::{Gen, Kind};
+use ev_subscription::{NameChange, kinds_before, kinds_behind};
+use ev_types::{Gen, Kind, Seq};
 use std::alloc::{AllocError, Global};
 use std::sync::ledger::Ledger;
 
-/// What an event changed of what is asked for: the names of endpoints and of routes that began and ceased to be watched, and whether
-/// the first phase was left.
+/// What an event changed of what is asked for: how the names changed that are watched, of the kinds before listeners
+/// and of those behind them, and whether the first phase was left.
 #[derive(Drop)]
 pub(crate) struct Asked {
-    pub(crate) endpoints: NameChange,
-    pub(crate) routes: NameChange,
+    pub(crate) before: Seq<NameChange>,
+    pub(crate) behind: Seq<NameChange>,
     pub(crate) left: bool,
 }
 
 impl State {
-    /// What follows an event by itself: what is due serves, what nobody needs is forgotten, and the phase moves on. So many numbers
-    /// were drawn before the event, and this it has moved; what is moved now is put to it. Only what it changed is looked at.
+    /// What follows an event by itself: what is due serves, what nobody needs is forgotten, and the phase moves on.
+    /// So many numbers were allocated before the event, and this it has moved;
+    /// what is moved now is put to it. Only what it changed is looked at.
     pub(crate) fn tidy<L: Ledger>(
         &mut self,
         alloc: Global,
@@ -36,25 +36,42 @@ impl State {
         ensures over { IfOk result (λ asked. TidiesUp self.old self.new made moved.old moved.new asked) }
     {
         self.managers.promote(alloc, moved, steps)?;
-        let endpoints = self.names_changed(alloc, Kind::Eds, made, moved.retired.as_slice())?;
-        let routes = self.names_changed(alloc, Kind::Rds, made, moved.retired.as_slice())?;
-        self.subscription
-            .forget_unwatched(&endpoints.ended, &routes.ended);
+        let retired = moved.retired.as_slice();
+        let before = self.all_changed(alloc, &kinds_before(), made, retired)?;
+        let behind = self.all_changed(alloc, &kinds_behind(), made, retired)?;
+        self.subscription.forget_unwatched(&before, &behind);
         self.managers.forget(alloc, steps)?;
         let phase = self.targets.phase();
-        let left = self.targets.advance(
-            &self.managers.clusters.state,
-            &self.managers.listeners.state,
-        );
+        let left = self.targets.advance(&self.managers.core.state);
         self.put_listeners(alloc, phase, &mut moved.changed)?;
         Ok(Asked {
-            endpoints,
-            routes,
+            before,
+            behind,
             left,
         })
     }
 
-    // The names of this kind that began and ceased to be watched since this many numbers were drawn and these generations retired.
+    // How the names of each of these kinds changed that are watched, since this many numbers were allocated and these
+    // generations retired.
+    fn all_changed(
+        &self,
+        alloc: Global,
+        kinds: &[Kind],
+        made: u32,
+        retired: &[Gen],
+    ) -> Result<Seq<NameChange>, AllocError>
+        requires kept { AreManagersKept self.now.managers }
+        ensures { IfOk result (λ changes. ChangeNames self.now.managers kinds.now made retired.now changes) }
+    {
+        let mut changes = Vec::new(alloc);
+        for kind in kinds {
+            changes.push(self.names_changed(alloc, *kind, made, retired)?)?;
+        }
+        Ok(Seq::from_vec(changes))
+    }
+
+    // How the names of this kind changed that are watched, since this many numbers were allocated and these generations
+    // retired.
     fn names_changed(
         &self,
         alloc: Global,
@@ -63,13 +80,12 @@ impl State {
         retired: &[Gen],
     ) -> Result<NameChange, AllocError>
         requires kept { AreManagersKept self.now.managers }
-        requires by_name { is_by_name kind ≡ true }
         ensures { IfOk result (λ change. ChangesNames self.now.managers kind made retired.now change) }
     {
-        let own = &self.managers.of(kind).state;
-        let lost = own.names_lost(alloc, made, retired)?;
-        let gained = own.names_gained(alloc, made)?;
-        let change = NameChange::between(alloc, &lost, &gained)?;
+        let known = &self.managers.core.state;
+        let lost = known.names_lost(alloc, kind, made, retired)?;
+        let gained = known.names_gained(alloc, kind, made)?;
+        let change = NameChange::between(alloc, kind, &lost, &gained)?;
         Ok(change)
     }
 }

@@ -1,4 +1,6 @@
 ghost use Rattle.std.specs.Prelude.{◌≡◌, ◌++◌, OnOk};
+ghost use Rattle.ev_types.specs.declared.contents.Kind.TheVariants.{Cds};
+ghost use Rattle.ev_mentions.specs.Keys.{named};
 ghost use Rattle.ev_indexes.specs.Indexes.{numbers_where, serves};
 ghost use Rattle.ev_managers.specs.Managers.{AreManagersKept};
 ghost use Rattle.ev_state.specs.Changed.{dependents_in, dependents_of, listeners_begun};
@@ -9,7 +11,7 @@ use ev_types::{Gen, Kind, Name, Phase, Response, Seq};
 use std::alloc::{AllocError, Global};
 
 impl State {
-    /// Adds the numbers of the live generations that depend on this name of endpoints or of routes to the others.
+    /// Adds the numbers of the live generations that depend on this name of a kind to the others.
     pub(crate) fn put_dependents(
         &self,
         kind: Kind,
@@ -18,13 +20,9 @@ impl State {
     ) -> Result<(), AllocError>
         requires kept { AreManagersKept self.now.managers }
         ensures { OnOk result (changed.new ≡ changed.old
-            ++ dependents_in self.now.managers.clusters.state self.now.managers.listeners.state kind name.now) }
+            ++ dependents_in self.now.managers.core.state kind name.now) }
     {
-        match kind {
-            Kind::Eds => self.managers.clusters.state.put_dependents(name, changed),
-            Kind::Rds => self.managers.listeners.state.put_dependents(name, changed),
-            Kind::Cds | Kind::Lds => Ok(()),
-        }
+        self.managers.core.state.put_dependents(kind, name, changed)
     }
 
     /// The same for the name of each resource of a response of this kind.
@@ -35,8 +33,8 @@ impl State {
         changed: &mut Seq<Gen>,
     ) -> Result<(), AllocError>
         requires kept { AreManagersKept self.now.managers }
-        ensures { OnOk result (changed.new ≡ changed.old ++ dependents_of self.now.managers.clusters.state
-            self.now.managers.listeners.state kind response.now.items) }
+        ensures { OnOk result (changed.new ≡ changed.old ++ dependents_of self.now.managers.core.state
+            kind response.now.items) }
     {
         for item in response.items.as_slice() {
             self.put_dependents(kind, item.name.as_str(), changed)?;
@@ -48,9 +46,16 @@ impl State {
     pub(crate) fn put_active(&self, name: &Name, changed: &mut Seq<Gen>) -> Result<(), AllocError>
         requires kept { AreManagersKept self.now.managers }
         ensures { OnOk result (changed.new ≡ changed.old
-            ++ numbers_where (serves name.now) self.now.managers.clusters.state.table.rows) }
+            ++ numbers_where (serves (named Cds name.now)) self.now.managers.core.state.table.rows) }
     {
-        if let Some(number) = self.managers.clusters.state.names.standing(name).active {
+        if let Some(number) = self
+            .managers
+            .core
+            .state
+            .names
+            .standing(Kind::Cds, name)
+            .active
+        {
             changed.push(number)?;
         }
         Ok(())
@@ -64,11 +69,11 @@ impl State {
         changed: &mut Seq<Gen>,
     ) -> Result<(), AllocError>
         ensures { OnOk result (changed.new ≡ changed.old
-            ++ listeners_begun before self.now.targets.phase self.now.managers.listeners.state) }
+            ++ listeners_begun before self.now.targets.phase self.now.managers.core.state) }
     {
         match (before, self.targets.phase()) {
             (Phase::Clusters | Phase::Listeners, Phase::Serving) => {
-                let numbers = self.managers.listeners.state.numbers_live(alloc)?;
+                let numbers = self.managers.core.state.numbers_live(alloc, Kind::Lds)?;
                 put_all(changed, numbers.as_slice())
             }
             _ => Ok(()),

@@ -1,6 +1,10 @@
 ghost use Rattle.std.specs.Prelude.{◌≡◌};
+ghost use Rattle.ev_mentions.specs.Keys.{named};
+ghost use Rattle.ev_indexes.specs.Indexes.{IsIndexed};
 ghost use Rattle.ev_managers.specs.Managers.{AreManagersKept};
+ghost use Rattle.ev_state.specs.Known.{serving_in};
 
+use ev_indexes::{State, live_row_of};
 use ev_managers::Managers;
 use ev_mentions::LiveRow;
 use ev_subscription::Subscription;
@@ -9,8 +13,8 @@ use ev_verdicts::Known;
 use std::alloc::{AllocError, Global};
 use std::marker::Model;
 
-/// What is known before a response: each question of verdicts is one to a manager, or to the subscription. Contracts see the
-/// answers.
+/// What is known before a response: each question of verdicts is one to a manager, or to the subscription. Contracts
+/// see the answers.
 #[derive(Drop)]
 pub(crate) struct Before<'a> {
     managers: &'a Managers,
@@ -23,7 +27,7 @@ impl<'a> Model for Before<'a> {
 
     ghost Value = { BeforeParts };
 
-    ghost view = { λ b. record { clusters = b.managers.now.clusters.state; listeners = b.managers.now.listeners.state; subscription = b.subscription.now } };
+    ghost view = { λ b. record { managers = b.managers.now.core.state; subscription = b.subscription.now } };
 
     ghost invariant = { λ b. AreManagersKept b.managers.now };
 }
@@ -33,8 +37,7 @@ impl<'a> Before<'a> {
     pub(crate) fn new(managers: &'a Managers, subscription: &'a Subscription) -> Before<'a>
         requires kept { AreManagersKept managers.now }
         ensures { result ≡ record {
-          clusters = managers.now.clusters.state;
-          listeners = managers.now.listeners.state;
+          managers = managers.now.core.state;
           subscription = subscription.now;
         } }
     {
@@ -51,11 +54,11 @@ impl<'a> Known for Before<'a> {
     ghost answers = { answers_before };
 
     fn newest(&self, kind: Kind, name: &str) -> Option<LiveRow<'_>> {
-        match kind {
-            Kind::Cds => self.managers.clusters.state.newest(name),
-            Kind::Lds => self.managers.listeners.state.newest(name),
-            Kind::Eds | Kind::Rds => None,
-        }
+        self.managers.core.state.newest(kind, name)
+    }
+
+    fn serving(&self, kind: Kind, name: &str) -> Option<LiveRow<'_>> {
+        serving(&self.managers.core.state, kind, name)
     }
 
     fn holders(
@@ -63,7 +66,7 @@ impl<'a> Known for Before<'a> {
         alloc: Global,
         address: &SocketAddress,
     ) -> Result<Vec<LiveRow<'_>>, AllocError> {
-        self.managers.listeners.state.holders(alloc, address)
+        self.managers.core.state.holders(alloc, address)
     }
 
     fn is_watched(&self, kind: Kind, name: &str) -> bool {
@@ -73,4 +76,13 @@ impl<'a> Known for Before<'a> {
     fn is_kept(&self, kind: Kind, name: &str, version: &str) -> bool {
         self.subscription.is_kept(kind, name, version)
     }
+}
+
+// What is seen of the generation that serves a name of a kind, where one does. It costs a look-up of the name, and
+// one of the generation.
+fn serving<'a>(known: &'a State, kind: Kind, name: &str) -> Option<LiveRow<'a>>
+    requires indexed { IsIndexed known.now }
+    ensures { result ≡ serving_in known.now.table.rows (named kind name.now) }
+{
+    live_row_of(&known.table, known.names.standing_of(kind, name).active)
 }

@@ -8,15 +8,15 @@ ghost use Rattle.ev_state.specs.Retirements.{HaveCeased};
 ghost use Rattle.ev_state.specs.States.{ManagesAt, over_in, without_over};
 
 use crate::state::State;
-use ev_generations::Steps;
+use ev_indexes::Steps;
 use ev_managers::Moved;
-use ev_types::{Gen, GenRow, Kind};
+use ev_types::{Gen, GenRow};
 use std::alloc::{AllocError, Global};
 use std::sync::ledger::Ledger;
 
 impl State {
-    /// What follows an event by itself, where the event was of no manager: what is due serves, what nobody needs is forgotten, and
-    /// the phase moves on. Answers what that moved. Out of memory, nothing is promised.
+    /// What follows an event by itself, where the event was of no manager: what is due serves, what nobody needs is
+    /// forgotten, and the phase moves on. Answers what that moved. Out of memory, it is unspecified.
     pub fn tidy_up<L: Ledger>(
         &mut self,
         alloc: Global,
@@ -29,14 +29,14 @@ impl State {
         ensures changed { IfOk result (λ moved. (world : World) → ManagesAt self.old world
             → HaveChanged moved.changed world (tidy world)) }
     {
-        let made = self.managers.made;
+        let made = self.managers.made();
         let mut moved = Moved::none(alloc);
         self.tidy(alloc, made, &mut moved, steps)?;
         Ok(moved)
     }
 
-    /// Takes out and answers the generation of this number, where it drains or was dropped; where none has the number, or it is live,
-    /// nothing is done. It takes no memory.
+    /// Takes out and returns the generation of this number, where it drains or was dropped; where none has the
+    /// number, or it is live, nothing is done. It takes no memory.
     pub fn remove(&mut self, number: Gen) -> Option<GenRow>
         requires kept { AreManagersKept self.old.managers }
         requires forgotten { AreForgotten self.old.managers }
@@ -49,11 +49,8 @@ impl State {
         ensures shown { (world : World) → ManagesAt self.old world
             → HaveChanged [] world (record world { rows = without_over number world.rows }) }
     {
-        if has_ended(self.managers.clusters.state.table.get(number)) {
-            return Some(self.managers.remove(Kind::Cds, number));
-        }
-        if has_ended(self.managers.listeners.state.table.get(number)) {
-            return Some(self.managers.remove(Kind::Lds, number));
+        if has_ended(self.managers.core.state.table.get(number)) {
+            return Some(self.managers.remove(number));
         }
         None
     }

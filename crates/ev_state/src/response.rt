@@ -5,9 +5,11 @@ ghost use Rattle.ev_model.specs.World.{World};
 ghost use Rattle.ev_model.specs.Live.{lives_of};
 ghost use Rattle.ev_model.specs.Verdicts.{verdicts_of};
 ghost use Rattle.ev_model.specs.Rows.{with_removals, add_items, made_names, with_first};
-ghost use Rattle.ev_model.specs.Requests.{Watched, other_than, requests_by, reply_of};
+ghost use Rattle.ev_model.specs.Requests.{Watched, requests_by, reply_of};
 ghost use Rattle.ev_model.specs.Step.{respond};
+ghost use Rattle.ev_model.specs.Watching.{kinds_before, kinds_behind};
 ghost use Rattle.ev_managers.specs.Managers.{AreManagersKept};
+ghost use Rattle.ev_subscription.specs.Asked.{changes_of};
 ghost use Rattle.ev_subscription.specs.Subscriptions.{HasVersions};
 ghost use Rattle.ev_state.specs.States.{Follows, IsStep, ManagesAt};
 ghost use Rattle.ev_state.specs.Retirements.{HaveMoved};
@@ -15,7 +17,7 @@ ghost use Rattle.ev_state.specs.Retirements.{HaveMoved};
 use crate::asked::Asked;
 use crate::known::Before;
 use crate::state::State;
-use ev_generations::Steps;
+use ev_indexes::Steps;
 use ev_managers::Moved;
 use ev_mentions::Mentions;
 use ev_subscription::reply_of;
@@ -74,21 +76,15 @@ impl State {
         requires one_each { length verdicts ≡ length response.now.items }
         ensures { IfOk result (λ answer. (world : World) (before after : Watched)
             → HasVersions self.now.subscription world
-            → asked.endpoints.begun ≡ other_than before.endpoints after.endpoints
-            → asked.endpoints.ended ≡ other_than after.endpoints before.endpoints
-            → asked.routes.begun ≡ other_than before.routes after.routes
-            → asked.routes.ended ≡ other_than after.routes before.routes
+            → asked.before ≡ changes_of kinds_before before after
+            → asked.behind ≡ changes_of kinds_behind before after
             → answer ≡ Replied (requests_by world.stream before after asked.left world.versions
             (Some (reply_of kind response.now verdicts))) verdicts) }
     {
         let reply = reply_of(alloc, kind, response, verdicts.as_slice())?;
-        let requests = self.subscription.requests_after(
-            alloc,
-            Some(reply),
-            asked.endpoints,
-            asked.routes,
-            asked.left,
-        )?;
+        let requests = self
+            .subscription
+            .requests_after(alloc, Some(reply), asked.before, asked.behind, asked.left)?;
         Ok(Answer::Replied { requests, verdicts })
     }
 

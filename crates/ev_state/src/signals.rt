@@ -5,14 +5,15 @@ ghost use Rattle.ev_state.specs.States.{StepBy};
 ghost use Rattle.ev_state.specs.Moves.{MovesOn};
 
 use crate::state::State;
-use ev_generations::Steps;
+use ev_indexes::Steps;
 use ev_managers::Moved;
 use ev_types::{Answer, Host, Kind, Name, Seq};
 use std::alloc::{AllocError, Global};
 use std::sync::ledger::Ledger;
 
 impl State {
-    /// An event that drew no number, and moved these, has led here: what follows it by itself follows, and its requests are sent.
+    /// An event that allocated no number, and moved these, has led here: what follows it by itself follows, and its
+    /// requests are sent.
     pub(crate) fn finish<L: Ledger>(
         &mut self,
         alloc: Global,
@@ -22,16 +23,16 @@ impl State {
         requires kept { AreManagersKept self.old.managers }
         ensures { IfOk result (λ told. MovesOn self.old self.new moved told.0 told.1) }
     {
-        let made = self.managers.made;
+        let made = self.managers.made();
         let asked = self.tidy(alloc, made, &mut moved, steps)?;
         let requests = self
             .subscription
-            .requests_after(alloc, None, asked.endpoints, asked.routes, asked.left)?;
+            .requests_after(alloc, None, asked.before, asked.behind, asked.left)?;
         Ok((Answer::Moved { requests }, moved))
     }
 
-    /// A health result of a cluster's host; where it is for no generation, nothing is done. A picture may show something else only
-    /// where the host was not as healthy before.
+    /// A health result of a cluster's host; where it is for no generation, nothing is done. A picture may show
+    /// something else only where the host was not as healthy before.
     pub fn health<L: Ledger>(
         &mut self,
         alloc: Global,
@@ -44,8 +45,8 @@ impl State {
         requires forgotten { AreForgotten self.old.managers }
         ensures { IfOk result (λ told. StepBy (health cluster.now host.now healthy) self.old self.new told.0 told.1) }
     {
-        let clusters = &self.managers.clusters.state;
-        let same = clusters.is_as_healthy(cluster, host, healthy);
+        let known = &self.managers.core.state;
+        let same = known.is_as_healthy(cluster, host, healthy);
         if !self.managers.health(alloc, cluster, host, healthy, steps)? {
             return Ok((Answer::Ignored, Moved::none(alloc)));
         }

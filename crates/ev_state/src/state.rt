@@ -1,19 +1,20 @@
 ghost use Rattle.std.specs.Prelude.{◌≡◌, ℕ, IfOk};
 ghost use Rattle.ev_model.specs.World.{opening};
 
+use crate::InitTargets;
 use ev_keys::Keys;
 use ev_managers::Managers;
 use ev_subscription::Subscription;
-use ev_targets::Targets;
 use ev_types::{Text, TryCopy};
 use std::alloc::{AllocError, Global};
 
-/// What is known: the managers, the subscription, and how far the proxy has booted. Once out of memory, nothing is promised of it.
+/// What is known: the managers, the subscription, and how far the proxy has booted. Once out of memory, it is
+/// unspecified.
 #[derive(Drop)]
 pub struct State {
     pub managers: Managers,
     pub subscription: Subscription,
-    pub targets: Targets,
+    pub targets: InitTargets,
 }
 
 impl State {
@@ -27,7 +28,7 @@ impl State {
         Ok(State {
             managers: Managers::new(alloc, keys),
             subscription: Subscription::new(alloc, node),
-            targets: Targets::new(),
+            targets: InitTargets::new(),
         })
     }
 }

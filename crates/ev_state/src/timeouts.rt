@@ -1,11 +1,11 @@
 ghost use Rattle.std.specs.Prelude.{◌≡◌, true, IfOk};
 ghost use Rattle.ev_model.specs.Signals.{clusters_timeout, fetch_timeout, listeners_timeout, name_timeout};
-ghost use Rattle.ev_model.specs.Watching.{is_by_name};
+ghost use Rattle.ev_types.specs.Kinds.{is_by_name};
 ghost use Rattle.ev_managers.specs.Managers.{AreForgotten, AreManagersKept};
 ghost use Rattle.ev_state.specs.States.{StepBy};
 
 use crate::state::State;
-use ev_generations::Steps;
+use ev_indexes::Steps;
 use ev_managers::Moved;
 use ev_types::{Answer, Arrival, FetchTimeout, Kind, Name};
 use std::alloc::{AllocError, Global};
@@ -27,9 +27,8 @@ impl State {
         match (timeout.kind, &timeout.name) {
             (Kind::Cds, _) => self.clusters_timeout(alloc, steps),
             (Kind::Lds, _) => self.listeners_timeout(alloc, steps),
-            (Kind::Eds, Some(name)) => self.name_timeout(alloc, Kind::Eds, name, steps),
-            (Kind::Rds, Some(name)) => self.name_timeout(alloc, Kind::Rds, name, steps),
-            (Kind::Eds | Kind::Rds, None) => Ok((Answer::Ignored, Moved::none(alloc))),
+            (kind, Some(name)) => self.name_timeout(alloc, kind, name, steps),
+            (_, None) => Ok((Answer::Ignored, Moved::none(alloc))),
         }
     }
 
@@ -67,7 +66,8 @@ impl State {
         Ok(told)
     }
 
-    // The fetch timeout of a name of endpoints or of routes; where no generation waits for it within a limit, nothing is done.
+    // The fetch timeout of a name of a kind that is asked for by name; where no generation waits for it within a
+    // limit, nothing is done.
     fn name_timeout<L: Ledger>(
         &mut self,
         alloc: Global,
@@ -80,7 +80,7 @@ impl State {
         requires by_name { is_by_name kind ≡ true }
         ensures { IfOk result (λ told. StepBy (name_timeout kind name.now) self.old self.new told.0 told.1) }
     {
-        if !self.managers.of(kind).state.timeout_due(name, steps) {
+        if !self.managers.core.state.timeout_due(kind, name, steps) {
             return Ok((Answer::Ignored, Moved::none(alloc)));
         }
         self.managers

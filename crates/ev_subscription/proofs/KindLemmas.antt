@@ -11,7 +11,6 @@ use Rattle.std.proofs.lemmas.Bool.{false≢true, true≢false}
 use Rattle.ev_types.specs.Items.{ResponseParts}
 use Rattle.ev_types.specs.Kinds.{kind_same, kind_decides}
 use Rattle.ev_types.specs.declared.contents.Kind.{Kind}
-use Rattle.ev_types.specs.declared.contents.Kind.TheVariants.{Cds, Eds, Lds, Rds}
 use Rattle.ev_types.specs.declared.rows.KeptVersion.{KeptVersion}
 use Rattle.ev_model.specs.World.{World}
 use Rattle.std.specs.Prelude.{nat_le}
@@ -26,7 +25,7 @@ use Rattle.ev_model.specs.Verdicts.{is_among, is_removed, items_named}
 use Rattle.ev_model.specs.Versions.{is_before, is_bounded, is_kept, is_version_of, bounded_as, renewed, with_version, without_version}
 use Rattle.ev_model_laws.specs.VersionsKept.{AreByName}
 use Rattle.ev_model_laws.proofs.VersionLemmas.{is_less, placed, version_decides, not_before_itself, with_kept, left_kept, renewed_kept}
-use Rattle.ev_subscription.specs.Subscriptions.{SubscriptionParts, HasVersions, held_of, kept_of, with_held}
+use Rattle.ev_subscription.specs.Subscriptions.{Accepts, SubscriptionParts, HasVersions, held_of, kept_of}
 
 -- a version of the kind and name of a new one has its kind
 has_kind : (new kept : KeptVersion) (k : Kind) → is_version_of new.kind new.name kept ≡ true → kind_same kept.kind k ≡ kind_same new.kind k
@@ -47,7 +46,7 @@ kept_with_other new k other (kept ∷ others) =
     further false is rest = simp (is) rest
 
 -- a version that comes before all others is put first
-before_all : (new : KeptVersion) (versions : List KeptVersion) → ByRecursion (λ (other : KeptVersion). is_before new.name other.name ≡ true) versions
+pub before_all : (new : KeptVersion) (versions : List KeptVersion) → ByRecursion (λ (other : KeptVersion). is_before new.name other.name ≡ true) versions
     → with_version new versions ≡ new ∷ versions
 before_all new [] all = refl
 before_all new (kept ∷ others) all =
@@ -103,7 +102,7 @@ kept_with_same new k is (kept ∷ others) by_name =
     further true of isnt behind rest = simp (of, isnt, behind) (ap (λ vs. kept ∷ vs) rest)
     further false of isnt behind rest = simp (of) rest
 
-kind_symm : (a b : Kind) → kind_same a b ≡ kind_same b a
+pub kind_symm : (a b : Kind) → kind_same a b ≡ kind_same b a
 kind_symm a b =
     both_ways (kind_same a b) (kind_same b a) (λ h. (kind_decides b a).1 (sym ((kind_decides a b).0 h))) (λ h. (kind_decides a b).1 (sym ((kind_decides b a).0 h)))
 
@@ -131,30 +130,6 @@ filters_swap p q (v ∷ vs) = by (p v) (q v) refl refl (filters_swap p q vs)
     by false true is also rest = simp (is, also) rest
     by false false is also rest = simp (is, also) rest
 
--- no version of another kind is of the kind and name
-left_whole : (kind k : Kind) (name : List ℕ) → kind_same k kind ≡ false → (versions : List KeptVersion) → without_version kind name (kept_of k versions) ≡ kept_of k versions
-left_whole kind k name apart [] = refl
-left_whole kind k name apart (v ∷ vs) = by (kind_same v.kind k) refl (left_whole kind k name apart vs)
-  where
-    by : (t : Bool) → kind_same v.kind k ≡ t → without_version kind name (kept_of k vs) ≡ kept_of k vs → without_version kind name (kept_of k (v ∷ vs)) ≡ kept_of k (v ∷ vs)
-    by true is rest =
-        let isnt : is_version_of kind name v ≡ false =
-        ap (λ kd. kind_same kd kind && bytes_eq v.name name) ((kind_decides v.kind k).0 is) ∙ ap (λ b. b && bytes_eq v.name name) apart in
-        simp (is, isnt) (ap (λ ws. v ∷ ws) rest)
-    by false is rest = simp (is) rest
-
--- of each kind, the versions without one
-pub kept_without : (kind : Kind) (name : List ℕ) (versions : List KeptVersion) (k : Kind)
-    → kept_of k (without_version kind name versions) ≡ (cond (kind_same k kind) (without_version kind name (kept_of kind versions)) (kept_of k versions))
-kept_without kind name versions k = by (kind_same k kind) refl
-  where
-    swapped : kept_of k (without_version kind name versions) ≡ without_version kind name (kept_of k versions)
-    swapped = filters_swap (λ (kept : KeptVersion). kind_same kept.kind k) (λ (kept : KeptVersion). not (is_version_of kind name kept)) versions
-
-    by : (t : Bool) → kind_same k kind ≡ t → kept_of k (without_version kind name versions) ≡ cond t (without_version kind name (kept_of kind versions)) (kept_of k versions)
-    by true is = swapped ∙ ap (λ kd. without_version kind name (kept_of kd versions)) ((kind_decides k kind).0 is)
-    by false is = swapped ∙ left_whole kind k name is versions
-
 marks_by : (kind k : Kind) (name : List ℕ) (v : KeptVersion) → kind_same (bounded_as kind name v).kind k ≡ kind_same v.kind k
 marks_by kind k name v = by (is_version_of kind name v)
   where
@@ -171,26 +146,6 @@ renewed_of kind k name (v ∷ vs) = by (kind_same v.kind k) refl (renewed_of kin
     by true is rest = simp (is, marks_by kind k name v ∙ is) (ap (λ ws. bounded_as kind name v ∷ ws) rest)
     by false is rest = simp (is, marks_by kind k name v ∙ is) rest
 
-unmarked : (kind k : Kind) (name : List ℕ) → kind_same k kind ≡ false → (versions : List KeptVersion) → renewed kind name (kept_of k versions) ≡ kept_of k versions
-unmarked kind k name apart [] = refl
-unmarked kind k name apart (v ∷ vs) = by (kind_same v.kind k) refl (unmarked kind k name apart vs)
-  where
-    by : (t : Bool) → kind_same v.kind k ≡ t → renewed kind name (kept_of k vs) ≡ kept_of k vs → renewed kind name (kept_of k (v ∷ vs)) ≡ kept_of k (v ∷ vs)
-    by true is rest =
-        let isnt : is_version_of kind name v ≡ false =
-        ap (λ kd. kind_same kd kind && bytes_eq v.name name) ((kind_decides v.kind k).0 is) ∙ ap (λ b. b && bytes_eq v.name name) apart in
-        simp (is, isnt) (ap (λ ws. v ∷ ws) rest)
-    by false is rest = simp (is) rest
-
--- of each kind, the versions with the life of one bounded
-pub kept_renewed : (kind : Kind) (name : List ℕ) (versions : List KeptVersion) (k : Kind)
-    → kept_of k (renewed kind name versions) ≡ (cond (kind_same k kind) (renewed kind name (kept_of kind versions)) (kept_of k versions))
-kept_renewed kind name versions k = by (kind_same k kind) refl
-  where
-    by : (t : Bool) → kind_same k kind ≡ t → kept_of k (renewed kind name versions) ≡ cond t (renewed kind name (kept_of kind versions)) (kept_of k versions)
-    by true is = renewed_of kind k name versions ∙ ap (λ kd. renewed kind name (kept_of kd versions)) ((kind_decides k kind).0 is)
-    by false is = renewed_of kind k name versions ∙ unmarked kind k name is versions
-
 -- what is said of one kind and name is said of the versions of the kind
 any_of_kind : (kind : Kind) (name : List ℕ) (test : KeptVersion → Bool) (versions : List KeptVersion)
     → list_any (λ (kept : KeptVersion). is_version_of kind name kept && test kept) (kept_of kind versions) ≡ list_any (λ (kept : KeptVersion). is_version_of kind name kept && test kept) versions
@@ -203,92 +158,53 @@ any_of_kind kind name test (v ∷ vs) = by (kind_same v.kind kind) refl (any_of_
     by true is rest = simp (is) (ap (λ b. (bytes_eq v.name name && test v) || b) rest)
     by false is rest = simp (is) rest
 
-with_by_kinds : (kind k : Kind) (versions : List KeptVersion) (s : SubscriptionParts) → held_of (with_held kind versions s) k ≡ (cond (kind_same k kind) versions (held_of s k))
-with_by_kinds Cds Cds versions s = refl
-with_by_kinds Cds Eds versions s = refl
-with_by_kinds Cds Lds versions s = refl
-with_by_kinds Cds Rds versions s = refl
-with_by_kinds Eds Cds versions s = refl
-with_by_kinds Eds Eds versions s = refl
-with_by_kinds Eds Lds versions s = refl
-with_by_kinds Eds Rds versions s = refl
-with_by_kinds Lds Cds versions s = refl
-with_by_kinds Lds Eds versions s = refl
-with_by_kinds Lds Lds versions s = refl
-with_by_kinds Lds Rds versions s = refl
-with_by_kinds Rds Cds versions s = refl
-with_by_kinds Rds Eds versions s = refl
-with_by_kinds Rds Lds versions s = refl
-with_by_kinds Rds Rds versions s = refl
-
-same_node : (kind : Kind) (versions : List KeptVersion) (s : SubscriptionParts) → (with_held kind versions s).node ≡ s.node
-same_node Cds versions s = refl
-same_node Eds versions s = refl
-same_node Lds versions s = refl
-same_node Rds versions s = refl
-
-same_stream : (kind : Kind) (versions : List KeptVersion) (s : SubscriptionParts) → (with_held kind versions s).stream ≡ s.stream
-same_stream Cds versions s = refl
-same_stream Eds versions s = refl
-same_stream Lds versions s = refl
-same_stream Rds versions s = refl
-
--- what was taken out of a kind, and something put in its place
-pub with_put : (kind : Kind) (versions others : List KeptVersion) (s : SubscriptionParts) → with_held kind versions (with_held kind others s) ≡ with_held kind versions s
-with_put Cds versions others s = refl
-with_put Eds versions others s = refl
-with_put Lds versions others s = refl
-with_put Rds versions others s = refl
-
--- after the change of one kind, the subscription stands for the world with the change
-pub stands_with : (old new : SubscriptionParts) (version : KeptVersion) → new ≡ with_held version.kind (with_version version (held_of old version.kind)) old
+-- after the change, the subscription represents the world with the change
+pub stands_with : (old new : SubscriptionParts) (version : KeptVersion) → Accepts version old new
     → (world : World) → HasVersions old world → HasVersions new (record world { versions = with_version version world.versions })
-stands_with old new version is world was = record {
-  node = ap (λ (s : SubscriptionParts). s.node) is ∙ same_node version.kind (with_version version (held_of old version.kind)) old ∙ was.node;
-  stream = ap (λ (s : SubscriptionParts). s.stream) is ∙ same_stream version.kind (with_version version (held_of old version.kind)) old ∙ was.stream;
+stands_with old new version accepts world was = record {
+  node = ap (λ (s : SubscriptionParts). s.node) accepts.others ∙ was.node;
+  stream = ap (λ (s : SubscriptionParts). s.stream) accepts.others ∙ was.stream;
   versions = λ k.
-      ap (λ s. held_of s k) is
-      ∙ with_by_kinds version.kind k (with_version version (held_of old version.kind)) old
+      accepts.held k
       ∙ (λ i. cond (kind_same k version.kind) (with_version version (was.versions version.kind i)) (was.versions k i))
       ∙ sym (kept_with version world.versions was.kept_once.by_name k);
   kept_once = with_kept version world.versions was.kept_once;
 }
 
-pub stands_without : (old new : SubscriptionParts) (kind : Kind) (name : List ℕ) → new ≡ with_held kind (without_version kind name (held_of old kind)) old
+pub stands_without : (old new : SubscriptionParts) (kind : Kind) (name : List ℕ) → new ≡ record old { versions = without_version kind name old.versions }
     → (world : World) → HasVersions old world → HasVersions new (record world { versions = without_version kind name world.versions })
 stands_without old new kind name is world was = record {
-  node = ap (λ (s : SubscriptionParts). s.node) is ∙ same_node kind (without_version kind name (held_of old kind)) old ∙ was.node;
-  stream = ap (λ (s : SubscriptionParts). s.stream) is ∙ same_stream kind (without_version kind name (held_of old kind)) old ∙ was.stream;
-  versions = λ k.
-      ap (λ s. held_of s k) is
-      ∙ with_by_kinds kind k (without_version kind name (held_of old kind)) old
-      ∙ (λ i. cond (kind_same k kind) (without_version kind name (was.versions kind i)) (was.versions k i))
-      ∙ sym (kept_without kind name world.versions k);
+  node = ap (λ (s : SubscriptionParts). s.node) is ∙ was.node;
+  stream = ap (λ (s : SubscriptionParts). s.stream) is ∙ was.stream;
+  versions = λ k. ap (λ (s : SubscriptionParts). held_of s k) is ∙ swapped k old.versions ∙ ap (without_version kind name) (was.versions k) ∙ sym (swapped k world.versions);
   kept_once = left_kept (λ (kept : KeptVersion). not (is_version_of kind name kept)) world.versions was.kept_once;
 }
+  where
+    swapped : (k : Kind) (versions : List KeptVersion) → kept_of k (without_version kind name versions) ≡ without_version kind name (kept_of k versions)
+    swapped k versions = filters_swap (λ (kept : KeptVersion). kind_same kept.kind k) (λ (kept : KeptVersion). not (is_version_of kind name kept)) versions
 
-pub stands_renewed : (old new : SubscriptionParts) (kind : Kind) (name : List ℕ) → new ≡ with_held kind (renewed kind name (held_of old kind)) old
+pub stands_renewed : (old new : SubscriptionParts) (kind : Kind) (name : List ℕ) → new ≡ record old { versions = renewed kind name old.versions }
     → (world : World) → HasVersions old world → HasVersions new (record world { versions = renewed kind name world.versions })
 stands_renewed old new kind name is world was = record {
-  node = ap (λ (s : SubscriptionParts). s.node) is ∙ same_node kind (renewed kind name (held_of old kind)) old ∙ was.node;
-  stream = ap (λ (s : SubscriptionParts). s.stream) is ∙ same_stream kind (renewed kind name (held_of old kind)) old ∙ was.stream;
+  node = ap (λ (s : SubscriptionParts). s.node) is ∙ was.node;
+  stream = ap (λ (s : SubscriptionParts). s.stream) is ∙ was.stream;
   versions = λ k.
-      ap (λ s. held_of s k) is
-      ∙ with_by_kinds kind k (renewed kind name (held_of old kind)) old
-      ∙ (λ i. cond (kind_same k kind) (renewed kind name (was.versions kind i)) (was.versions k i))
-      ∙ sym (kept_renewed kind name world.versions k);
+      ap (λ (s : SubscriptionParts). held_of s k) is
+      ∙ renewed_of kind k name old.versions ∙ ap (renewed kind name) (was.versions k) ∙ sym (renewed_of kind k name world.versions);
   kept_once = renewed_kept kind name world.versions was.kept_once;
 }
 
 pub kept_is : (subscription : SubscriptionParts) (world : World) (kind : Kind) (name version : List ℕ) → HasVersions subscription world
-    → is_kept (held_of subscription kind) kind name version ≡ is_kept world.versions kind name version
+    → is_kept subscription.versions kind name version ≡ is_kept world.versions kind name version
 kept_is subscription world kind name version stands =
-    ap (λ vs. is_kept vs kind name version) (stands.versions kind) ∙ any_of_kind kind name (λ (kept : KeptVersion). bytes_eq kept.version version) world.versions
+    sym (any_of_kind kind name (λ (kept : KeptVersion). bytes_eq kept.version version) subscription.versions)
+    ∙ ap (λ vs. is_kept vs kind name version) (stands.versions kind) ∙ any_of_kind kind name (λ (kept : KeptVersion). bytes_eq kept.version version) world.versions
 
 pub bounded_is : (subscription : SubscriptionParts) (world : World) (kind : Kind) (name : List ℕ) → HasVersions subscription world
-    → is_bounded (held_of subscription kind) kind name ≡ is_bounded world.versions kind name
+    → is_bounded subscription.versions kind name ≡ is_bounded world.versions kind name
 bounded_is subscription world kind name stands =
-    ap (λ vs. is_bounded vs kind name) (stands.versions kind) ∙ any_of_kind kind name (λ (kept : KeptVersion). kept.bounded) world.versions
+    sym (any_of_kind kind name (λ (kept : KeptVersion). kept.bounded) subscription.versions)
+    ∙ ap (λ vs. is_bounded vs kind name) (stands.versions kind) ∙ any_of_kind kind name (λ (kept : KeptVersion). kept.bounded) world.versions
 
 -- the versions that are left once these of the removed names were forgotten
 abbrev pub is_left : Kind → ResponseParts → List (List ℕ) → KeptVersion → Bool

@@ -1,5 +1,6 @@
 pub mod TextLemmas
 pub mod HeldLemmas
 pub mod KindLemmas
+pub mod RequestLemmas
 pub mod ResponseLemmas
 pub mod UnwatchedLemmas

@@ -1,4 +1,5 @@
 pub mod Held
+pub mod KeyOrder
 pub mod Subscriptions
 pub mod Texts
 pub mod Asked

@@ -1,58 +1,46 @@
--- What a subscription knows, and which worlds it stands for. Source: the xDS transport protocol, incremental variant.
-use Rattle.std.specs.Prelude.{◌≡◌, ℕ, Bool, true, false, not, ◌&&◌, if◌then◌else◌, List, filter}
-use Rattle.std.specs.List.{list_any}
+-- What a subscription knows, and which worlds it represents. Source: the xDS transport protocol, incremental variant.
+use Rattle.std.specs.Prelude.{◌≡◌, ℕ, Bool, not, ◌&&◌, ◌||◌, if◌then◌else◌, List, filter}
+use Rattle.std.specs.List.{list_any, AllByRecursion}
 use Rattle.ev_types.specs.Items.{ItemParts, ResponseParts}
 use Rattle.ev_types.specs.Kinds.{kind_same}
 use Rattle.ev_types.specs.declared.contents.Kind.{Kind}
-use Rattle.ev_types.specs.declared.contents.Kind.TheVariants.{Cds, Eds, Lds, Rds}
 use Rattle.ev_types.specs.declared.events.Verdict.{Verdict}
 use Rattle.ev_types.specs.declared.rows.KeptVersion.{KeptVersion}
 use Rattle.ev_model.specs.World.{World}
 use Rattle.ev_model.specs.Live.{lives_of}
 use Rattle.ev_model.specs.Rows.{add_items, keep_version, with_content, with_removals}
-use Rattle.ev_model.specs.Tidy.{without_unwatched}
+use Rattle.ev_model.specs.Tidy.{is_version_due, without_unwatched}
 use Rattle.ev_model.specs.Verdicts.{is_among, is_removed}
-use Rattle.ev_model.specs.Versions.{is_version_of, with_version, without_version}
-use Rattle.ev_model.specs.Watching.{is_watched}
+use Rattle.ev_model.specs.Versions.{with_version, without_version}
 use Rattle.ev_model_laws.specs.VersionsKept.{AreKeptOnce}
+use Rattle.ev_subscription.specs.declared.changes.NameChange.{NameChange}
 
--- the node, whether a stream is open, and the versions that are held of each kind
+-- the node, whether a stream is open, and the versions that are held: those of a kind in the order of their names
 pub record SubscriptionParts : Type 0 where
   pub node : List ℕ
   pub stream : Bool
-  pub clusters : List KeptVersion
-  pub endpoints : List KeptVersion
-  pub listeners : List KeptVersion
-  pub routes : List KeptVersion
-
--- the versions that are held of this kind
-abbrev pub held_of : SubscriptionParts → Kind → List KeptVersion
-held_of subscription Cds = subscription.clusters
-held_of subscription Eds = subscription.endpoints
-held_of subscription Lds = subscription.listeners
-held_of subscription Rds = subscription.routes
-
--- with these held of this kind
-abbrev pub with_held : Kind → List KeptVersion → SubscriptionParts → SubscriptionParts
-with_held Cds versions subscription = record subscription { clusters = versions }
-with_held Eds versions subscription = record subscription { endpoints = versions }
-with_held Lds versions subscription = record subscription { listeners = versions }
-with_held Rds versions subscription = record subscription { routes = versions }
-
--- this version of a kind and name, and whether the life of the resource is bounded
-abbrev pub kept_version : Kind → List ℕ → List ℕ → Bool → KeptVersion
-kept_version kind name version bounded = record { kind = kind; name = name; version = version; bounded = bounded }
-
--- with this version in place of the one that was held of its kind and name
-abbrev pub with_accepted : KeptVersion → SubscriptionParts → SubscriptionParts
-with_accepted version subscription =
-    with_held version.kind (with_version version (held_of subscription version.kind)) subscription
+  pub versions : List KeptVersion
 
 -- the versions of this kind
 abbrev pub kept_of : Kind → List KeptVersion → List KeptVersion
 kept_of kind versions = filter (λ (kept : KeptVersion). kind_same kept.kind kind) versions
 
--- the subscription has the node, the stream and the versions of the world, in which each is kept once and in the order of the names
+-- the versions that are held of this kind
+abbrev pub held_of : SubscriptionParts → Kind → List KeptVersion
+held_of subscription kind = kept_of kind subscription.versions
+
+-- this version of a kind and name, and whether the life of the resource is bounded
+abbrev pub kept_version : Kind → List ℕ → List ℕ → Bool → KeptVersion
+kept_version kind name version bounded = record { kind = kind; name = name; version = version; bounded = bounded }
+
+-- the new one holds this version in place of the one that was held of its kind and name, and no other thing changes
+pub record Accepts (version : KeptVersion) (old new : SubscriptionParts) : Type 0 where
+  pub others : new ≡ record old { versions = new.versions }
+  pub held : (kind : Kind) → held_of new kind
+      ≡ (if kind_same kind version.kind then with_version version (held_of old version.kind) else held_of old kind)
+
+-- the subscription has the node, the stream and the versions of the world, in which each is kept once and in the
+-- order of the names
 pub record HasVersions (subscription : SubscriptionParts) (world : World) : Type 0 where
   pub node : subscription.node ≡ world.node
   pub stream : subscription.stream ≡ world.stream
@@ -74,16 +62,24 @@ abbrev pub without_removed : Kind → ResponseParts → List ℕ → List KeptVe
 without_removed kind response name versions =
     if is_removed response name then without_version kind name versions else versions
 
--- of this kind none of these names is watched in the world, and each other one that has a version is
-pub record AreEnded (kind : Kind) (names : List (List ℕ)) (world : World) : Type 0 where
-  pub ended : (name : List ℕ) → is_among name names ≡ true → is_watched (lives_of world) kind name ≡ false
-  pub others : (name : List ℕ) → list_any (is_version_of kind name) world.versions ≡ true → is_among name names ≡ false → is_watched (lives_of world) kind name ≡ true
+-- one of these changes says that the version's name ceased to be watched
+abbrev pub has_ended : List NameChange → KeptVersion → Bool
+has_ended changes kept = list_any (λ (change : NameChange). kind_same kept.kind change.kind && is_among kept.name change.ended) changes
 
--- it is so in every world that the subscription stands for
+-- versions but those of the names that ceased to be watched
+abbrev pub without_ended : List NameChange → List KeptVersion → List KeptVersion
+without_ended changes versions = filter (λ (kept : KeptVersion). not (has_ended changes kept)) versions
+
+-- of the versions that the world has, those ceased to be watched that aren't due any more
+abbrev pub AreEnded : List NameChange → List NameChange → World → Type 0
+AreEnded before behind world =
+    AllByRecursion (λ (kept : KeptVersion). (has_ended before kept || has_ended behind kept) ≡ not (is_version_due (lives_of world) kept)) world.versions
+
+-- it is so in every world that the subscription represents
 abbrev pub InWorlds : SubscriptionParts → (World → Type 0) → Type 0
 InWorlds subscription Said = (world : World) → HasVersions subscription world → Said world
 
--- whatever world the old one stood for, the new one stands for what the change makes of it
+-- whatever world the old one represented, the new one represents what the change makes of it
 abbrev pub StandsAfter : (World → World) → SubscriptionParts → SubscriptionParts → Type 0
 StandsAfter change old new = (world : World) → HasVersions old world → HasVersions new (change world)
 
@@ -99,7 +95,7 @@ with_stream is_open world = record world { stream = is_open }
 abbrev pub with_versions : (List KeptVersion → List KeptVersion) → World → World
 with_versions change world = record world { versions = change world.versions }
 
--- whatever world the old one stood for, the new one stands for that world with this version
+-- whatever world the old one represented, the new one represents that world with this version
 abbrev pub StandsWith : KeptVersion → SubscriptionParts → SubscriptionParts → Type 0
 StandsWith version old new = StandsAfter (with_versions (with_version version)) old new
 
@@ -107,8 +103,8 @@ StandsWith version old new = StandsAfter (with_versions (with_version version)) 
 abbrev pub with_response : Kind → List Verdict → ResponseParts → World → World
 with_response kind verdicts response world = add_items kind verdicts response.items (with_removals kind response world)
 
--- whatever world the old one stood for, where these are the names of endpoints and routes that nobody watches any more, the new one
--- stands for that world without what isn't watched
-abbrev pub StandsWithoutEnded : List (List ℕ) → List (List ℕ) → SubscriptionParts → SubscriptionParts → Type 0
-StandsWithoutEnded endpoints routes old new =
-    (world : World) → HasVersions old world → AreEnded Eds endpoints world → AreEnded Rds routes world → HasVersions new (without_unwatched world)
+-- whatever world the old one represented, where these names ceased to be watched, of the kinds before listeners and of
+-- those behind them, the new one represents that world without what isn't watched
+abbrev pub StandsWithoutEnded : List NameChange → List NameChange → SubscriptionParts → SubscriptionParts → Type 0
+StandsWithoutEnded before behind old new =
+    (world : World) → HasVersions old world → AreEnded before behind world → HasVersions new (without_unwatched world)

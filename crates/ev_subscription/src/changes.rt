@@ -8,31 +8,42 @@ ghost use Rattle.ev_subscription.specs.Sets.{names_outside};
 
 use ev_keys::Keys;
 use ev_mentions::NameKey;
-use ev_types::{Name, Seq, TryCopy};
+use ev_types::{Kind, Name, Seq, TryCopy};
 use indexmap::IndexSet;
 use std::alloc::{AllocError, Global};
 
 type NameSet<'a> = IndexSet<NameKey<'a>, Keys>;
 
+/// The names of a kind that are watched, in the order of their bytes.
+#[derive(Drop)]
+pub struct WatchedNames {
+    pub kind: Kind,
+    pub names: Seq<Name>,
+}
+
 /// The names of a kind that began to be watched, and those that ceased to be, each in the order of their bytes.
 #[derive(Drop)]
 pub struct NameChange {
+    pub kind: Kind,
     pub begun: Seq<Name>,
     pub ended: Seq<Name>,
 }
 
 impl NameChange {
-    /// What changed from the names that were watched before to those that are watched after. Each name is found by a look-up, and
-    /// both keep their order. It is out of memory where a list or table has no room.
+    /// What changed of a kind from the names that were watched before to those that are watched after. Each name is
+    /// found by a look-up, and both keep their order. It is out of memory where a list or table has no room.
     pub fn between(
         alloc: Global,
+        kind: Kind,
         before: &Seq<Name>,
         after: &Seq<Name>,
     ) -> Result<NameChange, AllocError>
+        ensures kind { IfOk result (λ change. change.kind ≡ kind) }
         ensures begun { IfOk result (λ change. change.begun ≡ other_than before.now after.now) }
         ensures ended { IfOk result (λ change. change.ended ≡ other_than after.now before.now) }
     {
         Ok(NameChange {
+            kind,
             begun: other_than(alloc, before.as_slice(), after.as_slice())?,
             ended: other_than(alloc, after.as_slice(), before.as_slice())?,
         })

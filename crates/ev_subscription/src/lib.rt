@@ -1,11 +1,11 @@
-//! What a client of the incremental xDS protocol holds, and what it asks for: the node, the stream, the versions, and the
-//! requests of each event.
+//! What a client of the incremental xDS protocol holds, and what it asks for: the node, the stream, the versions, and
+//! the requests of each event.
 //!
 //! # Choices
 //!
-//! - Versions are kept by kind in ordered maps, so that they are listed in the order of their names without a sort,
-//!   and one is found by a look-up. The machine's list has all kinds in one order by name; of one kind both say the
-//!   same, which is what a subscription stands for.
+//! - Versions are kept in one map in the order of kinds and names, so that those of a kind are listed in the order of
+//!   their names without a sort, and one is found by a look-up. The machine's list has all kinds in one order by
+//!   name; of one kind both say the same, which is what a subscription represents.
 //! - Copies share names and versions.
 //! - A change of watched names is given as the names that began and those that ceased to be watched; who watches
 //!   knows them, and a walk over all watched names isn't needed. Who has the names before and after as lists gets it
@@ -19,13 +19,15 @@
 #![tactic(auto)]
 
 mod changes;
-mod names;
+mod keys;
+mod kinds;
 mod replies;
 mod requests;
 mod responses;
 mod subscription;
 mod versions;
 
-pub use changes::NameChange;
+pub use changes::{NameChange, WatchedNames};
+pub use kinds::{kinds_before, kinds_behind};
 pub use replies::reply_of;
 pub use subscription::Subscription;

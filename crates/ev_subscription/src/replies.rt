@@ -2,11 +2,11 @@ ghost use Rattle.std.specs.Prelude.{◌≡◌, ◌++◌, [], ◌∷◌, IfOk, On
 ghost use Rattle.ev_model.specs.Requests.{reply_of, refusals, refusal_text, joined, message_of};
 ghost use Rattle.ev_subscription.specs.Texts.{separated};
 
-use ev_types::{Item, Kind, Request, Response, Seq, Text, TryCopy, Verdict};
+use ev_types::{Item, Kind, Request, Response, Rule, Seq, Text, TryCopy, Verdict};
 use std::alloc::{AllocError, Global};
 
-/// The reply to a response of this kind: it names the response's nonce, and refuses exactly where a resource is refused, with the
-/// outer name and the rule of each that is.
+/// The reply to a response of this kind: it names the response's nonce, and refuses exactly where a resource is
+/// refused, with the outer name and the rule of each that is.
 pub fn reply_of(
     alloc: Global,
     kind: Kind,
@@ -51,7 +51,7 @@ fn refusals(alloc: Global, verdicts: &[Verdict], items: &[Item]) -> Result<Vec<T
 {
     let mut texts = Vec::new(alloc);
     for (place, verdict) in verdicts.iter().enumerate() {
-        push_refusal(alloc, *verdict, &items[place], &mut texts)?;
+        push_refusal(alloc, verdict, &items[place], &mut texts)?;
     }
     Ok(texts)
 }
@@ -59,23 +59,24 @@ fn refusals(alloc: Global, verdicts: &[Verdict], items: &[Item]) -> Result<Vec<T
 // Adds what is said of a resource to the others, where it is refused.
 fn push_refusal(
     alloc: Global,
-    verdict: Verdict,
+    verdict: &Verdict,
     item: &Item,
     texts: &mut Vec<Text>,
 ) -> Result<(), AllocError>
-    ensures { OnOk result (texts.new.items ≡ texts.old.items ++ refusals (verdict ∷ []) (item.now ∷ [])) }
+    ensures { OnOk result (texts.new.items ≡ texts.old.items ++ refusals (verdict.now ∷ []) (item.now ∷ [])) }
 {
     if let Verdict::Refused(rule) = verdict {
-        texts.push(refusal_text(alloc, item.name.as_str(), rule)?)?;
+        texts.push(refusal_text(alloc, item.name.as_str(), *rule)?)?;
     }
     Ok(())
 }
 
 // What is said of one refused resource.
-fn refusal_text(alloc: Global, name: &str, rule: u8) -> Result<Text, AllocError>
+fn refusal_text(alloc: Global, name: &str, rule: Rule) -> Result<Text, AllocError>
     ensures { IfOk result (λ text. text ≡ refusal_text name.now rule) }
 {
-    let text = format!(in alloc; "{name}: V{rule}")?;
+    let number = rule.number();
+    let text = format!(in alloc; "{name}: V{number}")?;
     Text::new(alloc, text.as_str())
 }
 

@@ -1,57 +1,60 @@
 ghost use Rattle.std.specs.Prelude.{◌≡◌, ◌++◌, [], Some, None, IfOk, OnOk};
-ghost use Rattle.ev_model.specs.Requests.{clusters_request, listeners_request, names_request};
+ghost use Rattle.std.specs.List.{flat_map};
+ghost use Rattle.ev_model.specs.Requests.{clusters_request, listeners_request};
 ghost use Rattle.ev_subscription.specs.Subscriptions.{InWorlds};
-ghost use Rattle.ev_subscription.specs.Asked.{AsksChanges, AsksFirst, AsksWhole, bare_request, clusters_request_in};
+ghost use Rattle.ev_subscription.specs.Asked.{AsksChanges, AsksFirst, AsksWhole, AsksWholes, bare_request, change_request, clusters_request_in};
 
-use crate::changes::NameChange;
+use crate::changes::{NameChange, WatchedNames};
 use crate::subscription::Subscription;
 use ev_types::{Kind, Name, Request, Seq, Text, TryCopy};
 use std::alloc::{AllocError, Global};
 
 impl Subscription {
-    /// What is asked for when a stream opens: all clusters, with the node; the watched endpoints; all listeners, where they are
-    /// asked for; the watched routes. Each request states the versions that are held. The names are in the order of their bytes.
+    /// What is asked for when a stream opens: all clusters, with the node; the watched names of the kinds before
+    /// listeners; all listeners, where they are asked for; the watched names of the kinds behind them. Each request
+    /// states the versions that are held. The names are in the order of their bytes.
     pub fn connect(
         &self,
         alloc: Global,
-        endpoints: &Seq<Name>,
-        routes: &Seq<Name>,
+        before: &Seq<WatchedNames>,
+        behind: &Seq<WatchedNames>,
         asked: bool,
     ) -> Result<Seq<Request>, AllocError>
-        ensures { IfOk result (AsksFirst endpoints.now routes.now asked self.now) }
+        ensures { IfOk result (AsksFirst before.now behind.now asked self.now) }
     {
         let mut requests = Seq::new(alloc);
         requests.push(self.clusters_request(alloc)?)?;
-        self.push_whole(alloc, Kind::Eds, endpoints, &mut requests)?;
+        self.push_wholes(alloc, before.as_slice(), &mut requests)?;
         if asked {
             requests.push(self.listeners_request(alloc)?)?;
         }
-        self.push_whole(alloc, Kind::Rds, routes, &mut requests)?;
+        self.push_wholes(alloc, behind.as_slice(), &mut requests)?;
         Ok(requests)
     }
 
-    /// The requests of an event: its reply first, where there is one; then, where a stream is open, the change of the watched
-    /// endpoints, all listeners, where they are asked for, and the change of the watched routes.
+    /// The requests of an event: its reply first, where there is one; then, where a stream is open, the changes of
+    /// the watched names of the kinds before listeners, all listeners, where they are asked for, and the changes of
+    /// the kinds behind them.
     pub fn requests_after(
         &self,
         alloc: Global,
         reply: Option<Request>,
-        endpoints: NameChange,
-        routes: NameChange,
+        before: Seq<NameChange>,
+        behind: Seq<NameChange>,
         asked: bool,
     ) -> Result<Seq<Request>, AllocError>
-        ensures { IfOk result (AsksChanges endpoints routes asked reply self.now) }
+        ensures { IfOk result (AsksChanges before behind asked reply self.now) }
     {
         let mut requests = Seq::new(alloc);
         if let Some(reply) = reply {
             requests.push(reply)?;
         }
         if self.is_open() {
-            push_change(alloc, Kind::Eds, endpoints, &mut requests)?;
+            push_changes(alloc, before.as_slice(), &mut requests)?;
             if asked {
                 requests.push(self.listeners_request(alloc)?)?;
             }
-            push_change(alloc, Kind::Rds, routes, &mut requests)?;
+            push_changes(alloc, behind.as_slice(), &mut requests)?;
         }
         Ok(requests)
     }
@@ -72,21 +75,36 @@ impl Subscription {
         Ok(request_of(alloc, Kind::Lds, self.versions(alloc, Kind::Lds)?))
     }
 
+    // All of these names of each kind are asked for, kind after kind.
+    fn push_wholes(
+        &self,
+        alloc: Global,
+        watched: &[WatchedNames],
+        requests: &mut Seq<Request>,
+    ) -> Result<(), AllocError>
+        ensures { OnOk result (AsksWholes watched.now self.now requests.old requests.new) }
+    {
+        for one in watched {
+            self.push_whole(alloc, one, requests)?;
+        }
+        Ok(())
+    }
+
     // All of these names are asked for, where there are some, with the versions that are held.
     fn push_whole(
         &self,
         alloc: Global,
-        kind: Kind,
-        names: &Seq<Name>,
+        watched: &WatchedNames,
         requests: &mut Seq<Request>,
     ) -> Result<(), AllocError>
-        ensures { OnOk result (AsksWhole kind names.now self.now requests.old requests.new) }
+        ensures { OnOk result (AsksWhole watched.now self.now requests.old requests.new) }
     {
-        if names.len() == 0 {
+        if watched.names.len() == 0 {
             return Ok(());
         }
+        let kind = watched.kind;
         let mut request = request_of(alloc, kind, self.versions(alloc, kind)?);
-        request.subscribe = names.copy(alloc)?;
+        request.subscribe = watched.names.copy(alloc)?;
         requests.push(request)
     }
 }
@@ -106,20 +124,33 @@ fn request_of(alloc: Global, kind: Kind, versions: Seq<(Name, Text)>) -> Request
     }
 }
 
+// The changes of the names of each kind are asked for, kind after kind.
+fn push_changes(
+    alloc: Global,
+    changes: &[NameChange],
+    requests: &mut Seq<Request>,
+) -> Result<(), AllocError>
+    ensures { OnOk result (requests.new ≡ requests.old ++ flat_map change_request changes.now) }
+{
+    for change in changes {
+        push_change(alloc, change, requests)?;
+    }
+    Ok(())
+}
+
 // A change of the names of a kind is asked for, where there is one.
 fn push_change(
     alloc: Global,
-    kind: Kind,
-    change: NameChange,
+    change: &NameChange,
     requests: &mut Seq<Request>,
 ) -> Result<(), AllocError>
-    ensures { OnOk result (requests.new ≡ requests.old ++ names_request kind change.begun change.ended []) }
+    ensures { OnOk result (requests.new ≡ requests.old ++ change_request change.now) }
 {
     if change.begun.len() == 0 && change.ended.len() == 0 {
         return Ok(());
     }
-    let mut request = request_of(alloc, kind, Seq::new(alloc));
-    request.subscribe = change.begun;
-    request.unsubscribe = change.ended;
+    let mut request = request_of(alloc, change.kind, Seq::new(alloc));
+    request.subscribe = change.begun.copy(alloc)?;
+    request.unsubscribe = change.ended.copy(alloc)?;
     requests.push(request)
 }

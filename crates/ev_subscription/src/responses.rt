@@ -8,9 +8,9 @@ use ev_types::{Body, Item, Kind, TryCopy, Verdict};
 use std::alloc::{AllocError, Global};
 
 impl Subscription {
-    /// A response of this kind, by what it mentions, with the verdicts on its resources: the versions of removed names are
-    /// forgotten; then, in order, the version of each resource that is new, the same or kept is held, and a heartbeat bounds a
-    /// life anew. Out of memory, nothing is promised.
+    /// A response of this kind, by what it mentions, with the verdicts on its resources: the versions of removed
+    /// names are forgotten; then, in order, the version of each resource that is taken is held (it is new, in place,
+    /// what serves, the same or kept), and a heartbeat bounds a life anew. Out of memory, it is unspecified.
     pub fn respond(
         &mut self,
         alloc: Global,
@@ -19,7 +19,7 @@ impl Subscription {
         mentions: &Mentions<'_>,
     ) -> Result<(), AllocError>
         requires { length verdicts.now ≡ length mentions.now.items }
-        // Whatever world it stood for, it stands for that world once the response's removals and resources are in.
+        // Whatever world it represented, it represents that world once the response's removals and resources are in.
         ensures { OnOk result (StandsAfter (with_response kind verdicts.now mentions.now) self.old self.new) }
     {
         self.forget_removed(kind, mentions);
@@ -39,7 +39,7 @@ impl Subscription {
         ensures { OnOk result (StandsAfter (add_items kind verdicts.now items.now) self.old self.new) }
     {
         for (place, item) in items.iter().enumerate() {
-            self.keep(alloc, kind, verdicts[place], item)?;
+            self.keep(alloc, kind, &verdicts[place], item)?;
         }
         Ok(())
     }
@@ -49,13 +49,14 @@ impl Subscription {
         &mut self,
         alloc: Global,
         kind: Kind,
-        verdict: Verdict,
+        verdict: &Verdict,
         item: &Item,
     ) -> Result<(), AllocError>
-        ensures { OnOk result (StandsAfter (add_item kind verdict item.now) self.old self.new) }
+        ensures { OnOk result (StandsAfter (add_item kind verdict.now item.now) self.old self.new) }
     {
         match verdict {
-            Verdict::New | Verdict::Same | Verdict::Kept => self.keep_good(alloc, kind, item),
+            Verdict::New | Verdict::InPlace | Verdict::Back | Verdict::Same | Verdict::Kept =>
+                self.keep_good(alloc, kind, item),
             Verdict::Renewed => {
                 self.renew(kind, item.name.as_str());
                 Ok(())

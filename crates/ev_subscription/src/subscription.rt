@@ -1,37 +1,31 @@
-ghost use Rattle.std.specs.Prelude.{◌≡◌, [], false, map, IfOk, OnOk, OnErr};
+ghost use Rattle.std.specs.Prelude.{◌≡◌, [], false, IfOk, OnOk, OnErr};
 ghost use Rattle.ev_types.specs.declared.contents.Kind.{Kind};
-ghost use Rattle.ev_types.specs.declared.contents.Kind.TheVariants.{Eds, Rds};
 ghost use Rattle.ev_model.specs.Rows.{versions_left};
 ghost use Rattle.ev_model.specs.Versions.{is_bounded, is_kept, renewed, versions_of, without_version};
-ghost use Rattle.ev_subscription.specs.Held.{versions_in};
-ghost use Rattle.ev_subscription.specs.Subscriptions.{held_of, kept_version, with_accepted, with_held, without_removed, without_versions};
+ghost use Rattle.ev_subscription.specs.Subscriptions.{Accepts, held_of, kept_version, without_ended, without_removed, without_versions};
 ghost use Rattle.ev_subscription.specs.Subscriptions.{InWorlds, StandsAfter, StandsWith, StandsWithoutEnded, with_stream, with_versions};
 
-use crate::names::VersionName;
+use crate::changes::NameChange;
+use crate::keys::VersionKey;
 use crate::versions::{self, Held, Versions};
 use ev_mentions::Mentions;
 use ev_types::{Kind, Name, Seq, Shared, Text};
 use std::alloc::{AllocError, Global};
 use std::collections::BTreeMap;
 use std::marker::Model;
-use std::mem;
 
-/// What a client of the incremental protocol knows of its stream: the node that it names, whether a stream is open, and the
-/// versions that it holds, one for each kind and name. Each is found by a look-up, and those of a kind are listed in the order of
-/// their names.
+/// What a client of the incremental protocol knows of its stream: the node that it names, whether a stream is open,
+/// and the versions that it holds, one for each kind and name. Each is found by a look-up, and those of a kind are
+/// listed in the order of their names.
 #[derive(Drop)]
 pub struct Subscription {
     alloc: Global,
     node: Text,
     stream: bool,
-    clusters: Versions,
-    endpoints: Versions,
-    listeners: Versions,
-    routes: Versions,
+    versions: Versions,
 }
 
 impl Model for Subscription {
-    ghost use Rattle.ev_types.specs.declared.contents.Kind.TheVariants.{Cds, Eds, Lds, Rds};
     ghost use Rattle.ev_subscription.specs.Held.{versions_in};
     ghost use Rattle.ev_subscription.specs.Subscriptions.{SubscriptionParts};
 
@@ -40,10 +34,7 @@ impl Model for Subscription {
     ghost view = { λ s. record {
       node = s.node;
       stream = s.stream;
-      clusters = versions_in Cds s.clusters.entries;
-      endpoints = versions_in Eds s.endpoints.entries;
-      listeners = versions_in Lds s.listeners.entries;
-      routes = versions_in Rds s.routes.entries;
+      versions = versions_in s.versions.entries;
     } };
 }
 
@@ -58,10 +49,7 @@ impl Subscription {
             alloc,
             node,
             stream: false,
-            clusters: BTreeMap::new(alloc),
-            endpoints: BTreeMap::new(alloc),
-            listeners: BTreeMap::new(alloc),
-            routes: BTreeMap::new(alloc),
+            versions: BTreeMap::new(alloc),
         }
     }
 
@@ -86,58 +74,20 @@ impl Subscription {
         self.stream = is_open;
     }
 
-    // The versions of a kind.
-    fn of(&self, kind: Kind) -> &Versions
-        ensures { versions_in kind result.now.entries ≡ held_of self.now kind }
-    {
-        match kind {
-            Kind::Cds => &self.clusters,
-            Kind::Eds => &self.endpoints,
-            Kind::Lds => &self.listeners,
-            Kind::Rds => &self.routes,
-        }
-    }
-
-    // Takes the versions of a kind out.
-    fn take(&mut self, kind: Kind) -> Versions
-        ensures taken { versions_in kind result.entries ≡ held_of self.old kind }
-        ensures left { self.new ≡ with_held kind [] self.old }
-    {
-        let empty = BTreeMap::new(self.alloc);
-        match kind {
-            Kind::Cds => replace(&mut self.clusters, empty),
-            Kind::Eds => replace(&mut self.endpoints, empty),
-            Kind::Lds => replace(&mut self.listeners, empty),
-            Kind::Rds => replace(&mut self.routes, empty),
-        }
-    }
-
-    // Puts the versions of a kind in.
-    fn put(&mut self, kind: Kind, versions: Versions)
-        ensures { self.new ≡ with_held kind (versions_in kind versions.entries) self.old }
-    {
-        match kind {
-            Kind::Cds => self.clusters = versions,
-            Kind::Eds => self.endpoints = versions,
-            Kind::Lds => self.listeners = versions,
-            Kind::Rds => self.routes = versions,
-        }
-    }
-
     /// Whether this version is held of the kind and name.
     pub fn is_kept(&self, kind: Kind, name: &str, version: &str) -> bool
-        ensures held { result ≡ is_kept (held_of self.now kind) kind name.now version.now }
+        ensures held { result ≡ is_kept self.now.versions kind name.now version.now }
         ensures stands { InWorlds self.now (λ world. result ≡ is_kept world.versions kind name.now version.now) }
     {
-        versions::is_kept(self.of(kind), name, version)
+        versions::is_kept(&self.versions, kind, name, version)
     }
 
     /// Whether the life of the resource of this kind and name is bounded.
     pub fn is_bounded(&self, kind: Kind, name: &str) -> bool
-        ensures held { result ≡ is_bounded (held_of self.now kind) kind name.now }
+        ensures held { result ≡ is_bounded self.now.versions kind name.now }
         ensures stands { InWorlds self.now (λ world. result ≡ is_bounded world.versions kind name.now) }
     {
-        versions::is_bounded(self.of(kind), name)
+        versions::is_bounded(&self.versions, kind, name)
     }
 
     /// Holds a version, in place of the one that was held of its kind and name, and whether its life is bounded. Out of
@@ -149,46 +99,39 @@ impl Subscription {
         version: Text,
         bounded: bool,
     ) -> Result<(), AllocError>
-        ensures held { OnOk result (self.new ≡ with_accepted (kept_version kind name version bounded) self.old) }
+        ensures held { OnOk result (Accepts (kept_version kind name version bounded) self.old self.new) }
         ensures unchanged { OnErr result (self.new ≡ self.old) }
-        // Whatever world it stood for, it stands for that world with this version.
+        // Whatever world it represented, it represents that world with this version.
         ensures stands { OnOk result (StandsWith (kept_version kind name version bounded) self.old self.new) }
     {
-        let name = VersionName::new(self.alloc, name)?;
+        let key = VersionKey::new(self.alloc, kind, name)?;
         let held = Held {
             version: Shared::new(self.alloc, version)?,
             bounded,
         };
-        let mut versions = self.take(kind);
-        let done = versions::hold(&mut versions, name, held);
-        self.put(kind, versions);
-        done
+        versions::hold(&mut self.versions, key, held)
     }
 
     /// Forgets the version of a kind and name. It takes no memory.
     pub fn forget(&mut self, kind: Kind, name: &str)
-        ensures held { self.new ≡ with_held kind (without_version kind name.now (held_of self.old kind)) self.old }
-        // Whatever world it stood for, it stands for that world without this version.
+        ensures held { self.new ≡ record self.old { versions = without_version kind name.now self.old.versions } }
+        // Whatever world it represented, it represents that world without this version.
         ensures stands { StandsAfter (with_versions (without_version kind name.now)) self.old self.new }
     {
-        let mut versions = self.take(kind);
-        versions::forget(&mut versions, name);
-        self.put(kind, versions);
+        versions::forget(&mut self.versions, kind, name);
     }
 
     /// Bounds the life of a resource, where its version is held. It takes no memory.
     pub fn renew(&mut self, kind: Kind, name: &str)
-        ensures held { self.new ≡ with_held kind (renewed kind name.now (held_of self.old kind)) self.old }
-        // Whatever world it stood for, it stands for that world where the life of this resource is bounded.
+        ensures held { self.new ≡ record self.old { versions = renewed kind name.now self.old.versions } }
+        // Whatever world it represented, it represents that world where the life of this resource is bounded.
         ensures stands { StandsAfter (with_versions (renewed kind name.now)) self.old self.new }
     {
-        let mut versions = self.take(kind);
-        versions::bound(&mut versions, name);
-        self.put(kind, versions);
+        versions::bound(&mut self.versions, kind, name);
     }
 
-    /// Forgets the versions of the names that a response of this kind removes, by what it mentions. It takes no memory, and looks
-    /// at the removed names alone.
+    /// Forgets the versions of the names that a response of this kind removes, by what it mentions. It takes no
+    /// memory, and looks at the removed names alone.
     pub fn forget_removed(&mut self, kind: Kind, mentions: &Mentions<'_>)
         ensures { StandsAfter (with_versions (versions_left kind mentions.now)) self.old self.new }
     {
@@ -206,15 +149,24 @@ impl Subscription {
         }
     }
 
-    /// Forgets the versions of the endpoints and of the routes whose names ceased to be watched. It takes no memory, and looks at
-    /// these names alone.
-    pub fn forget_unwatched(&mut self, endpoints: &Seq<Name>, routes: &Seq<Name>)
-        // Whatever world it stood for, where no other name that is held of either kind is one that nobody watches, it stands for
+    /// Forgets the versions of the names that ceased to be watched, of the kinds before listeners and of those behind
+    /// them. It takes no memory, and looks at these names alone.
+    pub fn forget_unwatched(&mut self, before: &Seq<NameChange>, behind: &Seq<NameChange>)
+        // Whatever world it represented, where no other name that is held is one that nobody watches, it represents
         // that world without what isn't watched.
-        ensures { StandsWithoutEnded endpoints.now routes.now self.old self.new }
+        ensures { StandsWithoutEnded before.now behind.now self.old self.new }
     {
-        self.forget_all(Kind::Eds, endpoints.as_slice());
-        self.forget_all(Kind::Rds, routes.as_slice());
+        self.forget_ended(before.as_slice());
+        self.forget_ended(behind.as_slice());
+    }
+
+    // Forgets the versions of the names of each of these kinds that ceased to be watched.
+    fn forget_ended(&mut self, changes: &[NameChange])
+        ensures { StandsAfter (with_versions (without_ended changes.now)) self.old self.new }
+    {
+        for change in changes {
+            self.forget_all(change.kind, change.ended.as_slice());
+        }
     }
 
     // Forgets the versions of these names of a kind.
@@ -226,19 +178,11 @@ impl Subscription {
         }
     }
 
-    /// Each name of a kind with its version, in the order of the names.
+    /// Each name of a kind with its version, in the order of the names. It goes over the versions of all kinds.
     pub fn versions(&self, alloc: Global, kind: Kind) -> Result<Seq<(Name, Text)>, AllocError>
-        ensures list { IfOk result (λ list. list ≡ map (λ kept. (kept.name, kept.version)) (held_of self.now kind)) }
+        ensures list { IfOk result (λ list. list ≡ versions_of kind self.now.versions) }
         ensures stands { IfOk result (λ list. InWorlds self.now (λ world. list ≡ versions_of kind world.versions)) }
     {
-        versions::list(alloc, self.of(kind))
+        versions::list(alloc, &self.versions, kind)
     }
-}
-
-// Puts other versions in place of these, and gives these.
-fn replace(versions: &mut Versions, others: Versions) -> Versions
-    ensures given { result.entries ≡ versions.old.entries }
-    ensures put { versions.new.entries ≡ others.entries }
-{
-    mem::replace(versions, others)
 }

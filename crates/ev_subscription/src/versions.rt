@@ -1,13 +1,13 @@
-ghost use Rattle.std.specs.Prelude.{◌≡◌, ◌&&◌, ◌++◌, [], ◌∷◌, true, map, IfOk, OnOk, OnErr};
-ghost use Rattle.std.specs.Map.{lookup, remove_entry, set_value};
+ghost use Rattle.std.specs.Prelude.{◌≡◌, ◌++◌, [], ◌∷◌, IfOk, OnOk, OnErr};
+ghost use Rattle.std.specs.Map.{lookup};
 ghost use Rattle.std.specs.BTreeMap.{insert_entry, is_at, IsOrdered};
 ghost use Rattle.std.specs.Option.{option_copied};
-ghost use Rattle.ev_subscription.specs.Held.{bounded_in, name_order, named_version, versions_in};
-ghost use Rattle.ev_types.specs.declared.contents.Kind.{Kind};
-ghost use Rattle.ev_model.specs.Versions.{is_bounded, is_kept};
+ghost use Rattle.ev_mentions.specs.Keys.{named};
+ghost use Rattle.ev_model.specs.Versions.{is_bounded, is_kept, renewed, versions_of, without_version};
+ghost use Rattle.ev_subscription.specs.Held.{key_order, versions_in};
 
-use crate::names::VersionName;
-use ev_types::{Name, Seq, Shared, Text, TryCopy};
+use crate::keys::{VersionKey, VersionText};
+use ev_types::{Kind, Name, Seq, Shared, Text, TryCopy};
 use std::alloc::{AllocError, Global};
 use std::collections::BTreeMap;
 
@@ -32,85 +32,102 @@ impl Clone for Held {
     }
 }
 
-/// By name what is held, in the order of the names.
-pub(crate) type Versions = BTreeMap<VersionName, Held>;
+/// By kind and name what is held, in this order.
+pub(crate) type Versions = BTreeMap<VersionKey, Held>;
 
-/// Holds this of the name, in place of what was held of it. Out of memory, all is as before.
-pub(crate) fn hold(versions: &mut Versions, name: VersionName, held: Held) -> Result<(), AllocError>
-    ensures entries { OnOk result (versions.new.entries ≡ insert_entry name_order versions.old.entries name held) }
+/// Holds this under the key, in place of what was held. Out of memory, all is as before.
+pub(crate) fn hold(versions: &mut Versions, key: VersionKey, held: Held) -> Result<(), AllocError>
+    ensures entries { OnOk result (versions.new.entries ≡ insert_entry key_order versions.old.entries key held) }
     ensures err { OnErr result (versions.new.entries ≡ versions.old.entries) }
+    ensures ordered { IsOrdered key_order versions.old }
 {
-    let Ok(_) = versions.insert(name, held) else {
+    // They are in the order of their keys.
+    let _ = versions.len();
+    let Ok(_) = versions.insert(key, held) else {
         return Err(AllocError);
     };
     Ok(())
 }
 
 /// Forgets what is held of the name. It takes no memory.
-pub(crate) fn forget(versions: &mut Versions, name: &str)
-    ensures entries { versions.new.entries ≡ remove_entry (is_at (name_order name.now)) versions.old.entries }
-    ensures ordered { IsOrdered name_order versions.old }
+pub(crate) fn forget(versions: &mut Versions, kind: Kind, name: &str)
+    ensures { versions_in versions.new.entries ≡ without_version kind name.now (versions_in versions.old.entries) }
 {
-    // They are in the order of their names.
+    // They are in the order of their keys.
     let _ = versions.len();
-    let _ = versions.remove(name);
+    let _ = versions.remove(&VersionText::new(kind, name));
 }
 
 /// Whether this version is held of the name.
-pub(crate) fn is_kept(versions: &Versions, name: &str, version: &str) -> bool
-    ensures { (kind : Kind) → result ≡ is_kept (versions_in kind versions.now.entries) kind name.now version.now }
+pub(crate) fn is_kept(versions: &Versions, kind: Kind, name: &str, version: &str) -> bool
+    ensures { result ≡ is_kept (versions_in versions.now.entries) kind name.now version.now }
 {
-    match find(versions, name) {
+    match find(versions, kind, name) {
         Some(held) => held.version.get().as_str() == version,
         None => false,
     }
 }
 
 /// Whether the life of the resource of this name is bounded.
-pub(crate) fn is_bounded(versions: &Versions, name: &str) -> bool
-    ensures { (kind : Kind) → result ≡ is_bounded (versions_in kind versions.now.entries) kind name.now }
+pub(crate) fn is_bounded(versions: &Versions, kind: Kind, name: &str) -> bool
+    ensures { result ≡ is_bounded (versions_in versions.now.entries) kind name.now }
 {
-    match find(versions, name) {
+    match find(versions, kind, name) {
         Some(held) => held.bounded,
         None => false,
     }
 }
 
 // What is held of the name, where something is.
-fn find<'a>(versions: &'a Versions, name: &str) -> Option<&'a Held>
-    ensures held { option_copied result ≡ lookup (is_at (name_order name.now)) versions.now.entries }
-    ensures ordered { IsOrdered name_order versions.now }
+fn find<'a>(versions: &'a Versions, kind: Kind, name: &str) -> Option<&'a Held>
+    ensures held { option_copied result ≡ lookup (is_at (key_order (named kind name.now))) versions.now.entries }
+    ensures ordered { IsOrdered key_order versions.now }
 {
-    // They are in the order of their names.
+    // They are in the order of their keys.
     let _ = versions.len();
-    versions.get(name)
+    versions.get(&VersionText::new(kind, name))
 }
 
 /// Bounds the life of the resource of this name, where it is held. It takes no memory.
-pub(crate) fn bound(versions: &mut Versions, name: &str)
-    ensures { versions.new.entries ≡ bounded_in name.now versions.old.entries }
+pub(crate) fn bound(versions: &mut Versions, kind: Kind, name: &str)
+    ensures { versions_in versions.new.entries ≡ renewed kind name.now (versions_in versions.old.entries) }
 {
-    // They are in the order of their names.
+    // They are in the order of their keys.
     let _ = versions.len();
-    if let Some(held) = versions.get_mut(name) {
+    if let Some(held) = versions.get_mut(&VersionText::new(kind, name)) {
         held.bounded = true;
     }
 }
 
-/// Each name with its version, in the order of the names.
-pub(crate) fn list(alloc: Global, versions: &Versions) -> Result<Seq<(Name, Text)>, AllocError>
-    ensures { IfOk result (λ list. list ≡ map named_version versions.now.entries) }
+/// Each name of a kind with its version, in the order of the names. It goes over all versions.
+pub(crate) fn list(
+    alloc: Global,
+    versions: &Versions,
+    kind: Kind,
+) -> Result<Seq<(Name, Text)>, AllocError>
+    ensures { IfOk result (λ list. list ≡ versions_of kind (versions_in versions.now.entries)) }
 {
     let mut list = Vec::new(alloc);
-    for (name, held) in versions {
-        list.push(named(alloc, name, held)?)?;
+    for (key, held) in versions {
+        push_of(alloc, kind, key, held, &mut list)?;
     }
     Ok(Seq::from_vec(list))
 }
 
-// A name with its version.
-fn named(alloc: Global, name: &VersionName, held: &Held) -> Result<(Name, Text), AllocError>
-    ensures { IfOk result (λ named. named ≡ named_version (name.now, held.now)) }
+// Puts a name with its version to the others, where it is of the kind.
+fn push_of(
+    alloc: Global,
+    kind: Kind,
+    key: &VersionKey,
+    held: &Held,
+    list: &mut Vec<(Name, Text)>,
+) -> Result<(), AllocError>
+    ensures { OnOk result (list.new.items ≡ list.old.items
+        ++ versions_of kind (versions_in ((key.now, held.now) ∷ []))) }
 {
-    Ok((name.name().copy(alloc)?, held.version.get().copy(alloc)?))
+    if key.kind().is(kind) {
+        let name = key.name().copy(alloc)?;
+        list.push((name, held.version.get().copy(alloc)?))?;
+    }
+    Ok(())
 }

@@ -2,10 +2,13 @@
 use Rattle.std.specs.Prelude.{ℕ, Bool, true, false, not, List, filter, length}
 use Rattle.std.specs.List.{list_any, flat_map}
 use Rattle.ev_types.specs.declared.events.Answer.{Answer}
-use Rattle.ev_types.specs.declared.events.Answer.TheVariants.{Ignored, Done, Moved, Replied, Version, Unchanged, Reaped, InUse, NoListener, NoChain, Undecided, Elsewhere, NoRoute, Redirect, NoCluster, NoEndpoint, Local, Served, NotOpen, Settled}
+use Rattle.ev_types.specs.declared.events.Answer.TheVariants.{Ignored, Done, Moved, Replied, Version, Unchanged, Reaped, InUse, NoListener, NoChain, On, NotOpen, Settled}
 use Rattle.ev_types.specs.declared.events.Entry.{Entry}
+use Rattle.ev_types.specs.declared.hosts.Host.{Host}
+use Rattle.ev_types.specs.declared.ways.Way.{Way}
+use Rattle.ev_types.specs.declared.ways.Way.TheVariants.{Undecided, Elsewhere, NoRoute, Redirect, NoCluster, NoEndpoint, NoSecret, Local, Served}
 use Rattle.ev_types.specs.declared.events.Verdict.{Verdict}
-use Rattle.ev_types.specs.declared.events.Verdict.TheVariants.{New, Same, Kept, Unasked, Renewed, Refused}
+use Rattle.ev_types.specs.declared.events.Verdict.TheVariants.{New, Same, InPlace, Back, Kept, Unasked, Renewed, Refused}
 use Rattle.ev_model.specs.Entries.{numbers_reaped}
 use Rattle.ev_tally.specs.declared.counts.Tally.{Tally}
 use Rattle.ev_tally.specs.declared.counting.Counted.{Counted}
@@ -15,6 +18,8 @@ use Rattle.ev_tally.specs.declared.counting.Counted.TheVariants.{Acks, Nacks, Op
 abbrev pub is_refusal : Verdict → Bool
 is_refusal New = false
 is_refusal Same = false
+is_refusal InPlace = false
+is_refusal Back = false
 is_refusal Kept = false
 is_refusal Unasked = false
 is_refusal Renewed = false
@@ -42,20 +47,25 @@ is_opened (Reaped numbers) = false
 is_opened InUse = false
 is_opened NoListener = false
 is_opened NoChain = false
-is_opened (Undecided listener) = true
-is_opened (Elsewhere listener cluster) = true
-is_opened (NoRoute listener) = true
-is_opened (Redirect listener) = true
-is_opened (NoCluster listener) = true
-is_opened (NoEndpoint listener) = true
-is_opened (Local listener status) = true
-is_opened (Served listener cluster host) = true
+is_opened (On listener chain way) = true
 is_opened NotOpen = false
-is_opened (Settled closed version) = false
+is_opened (Settled closed moved version) = false
+
+-- a host is found
+abbrev pub has_host : Way Host → Bool
+has_host Undecided = false
+has_host (Elsewhere cluster) = false
+has_host NoRoute = false
+has_host Redirect = false
+has_host NoCluster = false
+has_host NoEndpoint = false
+has_host (NoSecret cluster) = false
+has_host (Local status) = false
+has_host (Served cluster host) = true
 
 -- an accept is answered with a host
 abbrev pub is_served : Answer → Bool
-is_served (Served listener cluster host) = true
+is_served (On listener chain way) = has_host way
 is_served answer = false
 
 -- it is one of those that are counted

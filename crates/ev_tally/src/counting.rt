@@ -4,7 +4,7 @@ ghost use Rattle.ev_model.specs.Entries.{numbers_reaped};
 ghost use Rattle.ev_tally.specs.Tallies.{is_refusal, is_ack, is_nack, is_opened, is_served, is_counted, count_answers, all_reaped, tally_of};
 
 use crate::counts::Tally;
-use ev_types::{Answer, Entry, Verdict};
+use ev_types::{Answer, Entry, Verdict, Way};
 use std::alloc::AllocError;
 
 /// Counts up a journal.
@@ -126,22 +126,15 @@ fn is_refusal(verdict: Verdict) -> bool
 fn is_opened(answer: &Answer) -> bool
     ensures { result ≡ is_opened answer.now }
 {
-    matches!(
-        answer,
-        Answer::Undecided { .. }
-            | Answer::Elsewhere { .. }
-            | Answer::NoRoute { .. }
-            | Answer::Redirect { .. }
-            | Answer::NoCluster { .. }
-            | Answer::NoEndpoint { .. }
-            | Answer::Local { .. }
-            | Answer::Served { .. }
-    )
+    matches!(answer, Answer::On { .. })
 }
 
 // Whether an accept was answered with a host.
 fn is_served(answer: &Answer) -> bool
     ensures { result ≡ is_served answer.now }
 {
-    matches!(answer, Answer::Served { .. })
+    match answer {
+        Answer::On { way, .. } => matches!(way, Way::Served { .. }),
+        _ => false,
+    }
 }

@@ -1,6 +1,6 @@
--- What is accepted at a cluster that asks by the private name of a place is accepted after the report of each secret that the
--- key of the place names.
-use Rattle.std.proofs.Common.{◌≡◌, ◌∙◌, ℕ, ◌+◌, ◌<◌, ◌≤◌, ◌==◌, nat_lt, Bool, true, false, ◌&&◌, List, length, take, decimal, Some, None, codes, refl, sym, ap, subst, arith}
+-- What is accepted at a cluster that asks by the private name of a place is accepted after the report of each secret
+-- that the key of the place names.
+use Rattle.std.proofs.Common.{◌≡◌, ◌∙◌, ℕ, ◌+◌, ◌<◌, ◌≤◌, ◌==◌, nat_lt, Bool, true, false, ◌&&◌, List, ◌++◌, length, take, decimal, Some, None, codes, refl, sym, ap, subst, arith}
 use Rattle.std.specs.Prelude.{Contains, slice_get, option_and_then}
 use Rattle.std.specs.List.{list_any}
 use Rattle.std.specs.Str.{bytes_eq}
@@ -14,7 +14,7 @@ use Rattle.ev_types.specs.declared.clusters.Cluster.{Cluster}
 use Rattle.ev_types.specs.declared.clusters.Discovery.{Discovery}
 use Rattle.ev_types.specs.declared.clusters.Discovery.TheVariants.{Eds as by_name}
 use Rattle.ev_types.specs.declared.contents.Content.TheVariants.{Cluster as a_cluster}
-use Rattle.ev_types.specs.declared.contents.Kind.TheVariants.{Eds}
+use Rattle.ev_types.specs.declared.contents.Kind.TheVariants.{Eds, Sds}
 use Rattle.ev_types.specs.declared.events.Actor.{Actor}
 use Rattle.ev_types.specs.declared.events.Actor.TheVariants.{Stream}
 use Rattle.ev_types.specs.declared.events.Entry.{Entry}
@@ -27,28 +27,28 @@ use Rattle.ev_types.specs.declared.limits.TheConstants.{ITEM_LIMIT}
 use Rattle.ev_model.specs.Entries.{MadeRow, last_settled, made_of}
 use Rattle.ev_model.specs.Laws.{Accepts, Told, WasWarm}
 use Rattle.ev_model.specs.Operations.{IsRunOf, Operation, is_earlier, line_operation, operation_of, operations_of, entries_of}
-use Rattle.ev_model.specs.Watching.{discovery_dependencies, has_dependency, is_dependency}
+use Rattle.ev_model.specs.Watching.{cluster_secrets, discovery_dependencies, each_once, has_dependency, is_dependency, referred}
 use Rattle.ev_model_laws.proofs.PlaceLemmas.{entry_answered}
 use Rattle.ev_model_laws.proofs.WarmedLemmas.{runs_warmed}
-use Rattle.ev_stream_laws.proofs.HoldLemmas.{side_holds}
+use Rattle.ev_model_laws.proofs.HoldLemmas.{side_holds}
 use Rattle.ev_script.specs.declared.trees.ScriptTrees.{ScriptTrees}
 use Rattle.ev_expand.specs.Fronts.{event_of, stream_at, up_to}
 use Rattle.ev_expand.specs.Guarding.{Guarded, guarded_by, private_name}
 use Rattle.ev_expand.specs.Private.{first_use}
-use Rattle.ev_expand_laws.specs.Said.{given_lines, lines_in}
-use Rattle.ev_expand_laws.proofs.CountLemmas.{guarded_few}
-use Rattle.ev_tls_secrets.specs.declared.awaited.Awaited.TheVariants.{Secret}
-use Rattle.ev_tls_secrets.specs.References.{by_secrets}
-use Rattle.ev_tls_secrets.specs.Sealing.{is_due, tls_rules}
-use Rattle.ev_tls_secrets.specs.Told.{is_told, told_by}
-use Rattle.ev_expand_laws.specs.Runs.{place_given, run_told}
+use Rattle.ev_expand.specs.Said.{given_lines, lines_in}
+use Rattle.ev_expand.proofs.CountLemmas.{guarded_few}
+use Rattle.ev_tls.specs.declared.awaited.Awaited.TheVariants.{Secret}
+use Rattle.ev_tls.specs.References.{by_secrets}
+use Rattle.ev_tls.specs.Sealing.{is_due, tls_rules}
+use Rattle.ev_tls.specs.Told.{is_told, told_by}
+use Rattle.ev_expand.specs.Runs.{place_given, run_told}
 use Rattle.ev_tls.specs.Sealed.{StandsBefore, WasTold, sealed_script}
-use Rattle.ev_expand_laws.proofs.DueLemmas.{named_due}
-use Rattle.ev_expand_laws.proofs.FrontLemmas.{IsFrontAt, front_at, given_before, given_rises, up_to_at}
-use Rattle.ev_expand_laws.proofs.ListLemmas.{in_contains}
-use Rattle.ev_expand_laws.proofs.NamedLemmas.{NamedBefore, NamesEndpoints, warmed_named}
-use Rattle.ev_expand_laws.proofs.OrderLemmas.{DoneBefore, IsOfLine, done_before, entry_in, is_behind, line_in, of_line}
-use Rattle.ev_expand_laws.proofs.SaidPlaceLemmas.{IsSaid, line_place, said_is, stream_is, timer_main}
+use Rattle.ev_expand.proofs.DueLemmas.{named_due}
+use Rattle.ev_expand.proofs.FrontLawLemmas.{IsFrontAt, front_at, given_before, given_rises, up_to_at}
+use Rattle.ev_expand.proofs.ListLemmas.{in_contains}
+use Rattle.ev_expand.proofs.NamedLemmas.{NamedBefore, NamesEndpoints, warmed_named}
+use Rattle.ev_expand.proofs.OrderLemmas.{DoneBefore, IsOfLine, done_before, entry_in, is_behind, line_in, of_line}
+use Rattle.ev_expand.proofs.SaidPlaceLemmas.{IsSaid, line_place, said_is, stream_is, timer_main}
 use Rattle.ev_tls.proofs.TellingLemmas.{IsOwnLine, telling_line}
 use Rattle.ev_tls.proofs.TextLemmas.{FollowsDue, text_follows}
 use Rattle.ev_tls.proofs.ToldLemmas.{IsToldAt, complete_told, due_is_complete, told_at}
@@ -179,7 +179,8 @@ module _ (trees : ScriptTrees) (format : Format) (journal : List Entry) (kept : 
       complete_told profile (up_to behind.front) names.guarded.key secret (due_is_complete profile behind.front names.guarded due) names.named in
       told_at profile (lines_in trees) (behind.index + 1) (Secret secret) (subst (λ ls. is_told profile ls (Secret secret) ≡ true) up_to_is heard)
 
-  -- what is accepted at a cluster that asks by the private name of a place was warm, so that name's endpoints were reported before
+  -- what is accepted at a cluster that asks by the private name of a place was warm, so that name's endpoints were
+  -- reported before
   pub sealed_by_key : first_use profile (codes "tls/") (lines_in trees) ≡ None → (k : ℕ) (worker : Actor) (number place : ℕ) (secret : List ℕ)
       → Accepts (run_told format (sealed_script trees) journal) k worker number → AsksFor journal number place → KeyNames profile (lines_in trees) place secret
       → WasTold profile journal k (lines_in trees) secret
@@ -189,8 +190,8 @@ module _ (trees : ScriptTrees) (format : Format) (journal : List Entry) (kept : 
       let name : List ℕ = private_name (codes "tls/") place in
       let depends : has_dependency Eds name asks.row.content ≡ true =
       ap (has_dependency Eds name) asks.content
-      ∙ ap (λ (discovery : Discovery). list_any (is_dependency Eds name) (discovery_dependencies discovery)) asks.asks
-      ∙ or_left (bytes_eq name name) false ((bytes_decide name name).1 refl) in
+      ∙ ap (λ (discovery : Discovery). list_any (is_dependency Eds name) (each_once (discovery_dependencies discovery ++ referred Sds (cluster_secrets asks.cluster)))) asks.asks
+      ∙ or_left (bytes_eq name name) _ ((bytes_decide name name).1 refl) in
       let named : NamedBefore journal k name =
       warmed_named told k number (last_settled (take k journal) worker) asks.row name warm asks.made depends in
       let by_line : IsNamedBy name named.entry = named_by k name named in

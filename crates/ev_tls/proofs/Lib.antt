@@ -1,3 +1,14 @@
+mod TestLemmas
+mod PushLemmas
+mod KnownLemmas
+mod PlaceLemmas
+mod WaitingLemmas
+mod CompleteLemmas
+mod ProgressLemmas
+mod LookLemmas
+mod StateLemmas
+mod QuietLemmas
+mod UnguardedLemmas
 pub mod ShallowLemmas
 pub mod SealLemmas
 pub mod ToldLemmas

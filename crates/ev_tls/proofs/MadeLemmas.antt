@@ -7,17 +7,17 @@ use Rattle.std.proofs.lemmas.List.{append_cancel_left}
 use Rattle.ev_types.specs.Items.{ItemParts, ResponseParts}
 use Rattle.ev_types.specs.declared.contents.Kind.{Kind}
 use Rattle.ev_types.specs.declared.contents.Body.{Body}
-use Rattle.ev_types.specs.declared.contents.Body.TheVariants.{Good, Bad, Beat}
+use Rattle.ev_types.specs.declared.contents.Body.TheVariants.{Good}
 use Rattle.ev_types.specs.declared.events.Answer.{Answer}
 use Rattle.ev_types.specs.declared.events.Answer.TheVariants.{Replied}
 use Rattle.ev_types.specs.declared.events.Entry.{Entry}
 use Rattle.ev_types.specs.declared.events.Event.{Event}
 use Rattle.ev_types.specs.declared.events.Event.TheVariants.{Response}
 use Rattle.ev_types.specs.declared.events.Verdict.{Verdict}
-use Rattle.ev_types.specs.declared.events.Verdict.TheVariants.{New, Same, Kept, Unasked, Renewed, Refused}
+use Rattle.ev_types.specs.declared.events.Verdict.TheVariants.{New, InPlace}
 use Rattle.ev_model.specs.Entries.{MadeRow, made_by, made_in, made_in_response, made_of, made_rows, made_with}
 use Rattle.ev_model_laws.proofs.PlaceLemmas.{take_one}
-use Rattle.ev_expand_laws.proofs.ListLemmas.{piece_at, some_same}
+use Rattle.ev_expand.proofs.ListLemmas.{piece_at, some_same}
 use Rattle.ev_tls.specs.Sealed.{made_by_first}
 
 -- ---- lists
@@ -62,23 +62,19 @@ one_more g xs n y more = one_more_by g xs n y (slice_get xs n) refl more
 
 -- ---- resources
 
+one_row : {row made : MadeRow} → (made ∷ []) ≡ (row ∷ []) → made ≡ row
+one_row e = cc
+
 made_good : (kind : Kind) (verdict : Verdict) (name : List ℕ) (body : Body) (row : MadeRow) → made_by kind verdict name body ≡ row ∷ [] → body ≡ Good row.content
-made_good kind New name (Good content) row h = ap (λ (r : MadeRow). Good r.content) (first h)
-  where
-    first : {r : MadeRow} → (r ∷ []) ≡ (row ∷ []) → r ≡ row
-    first e = cc
-made_good kind New name (Bad rule) row h = absurd (cc)
-made_good kind New name Beat row h = absurd (cc)
-made_good kind Same name body row h = absurd (cc)
-made_good kind Kept name body row h = absurd (cc)
-made_good kind Unasked name body row h = absurd (cc)
-made_good kind Renewed name body row h = absurd (cc)
-made_good kind (Refused rule) name body row h = absurd (cc)
+made_good kind New name (Good content) row h = ap (λ (r : MadeRow). Good r.content) (one_row h)
+made_good kind InPlace name (Good content) row h = ap (λ (r : MadeRow). Good r.content) (one_row h)
+made_good kind verdict name body row h = absurd (cc)
 
 abbrev made_of_judged : Kind → Verdict × ItemParts → List MadeRow
 made_of_judged kind judged = made_by kind judged.0 judged.1.name judged.1.body
 
--- the event is a response whose resource at this place makes the generation, and this many come before it among those that it makes
+-- the event is a response whose resource at this place makes the generation, and this many come before it among those
+-- that it makes
 pub record MakesAt (event : Event) (answer : Answer) (item : ℕ) (row : MadeRow) : Type 0 where
   pub response : ResponseParts
   pub is : event ≡ Response response

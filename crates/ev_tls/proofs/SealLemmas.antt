@@ -15,11 +15,11 @@ use Rattle.ev_script.specs.Script.{script_of}
 use Rattle.ev_trees.specs.Trees.{IsReadable}
 use Rattle.ev_expand.specs.declared.outcome.ExpandError.{ExpandError}
 use Rattle.ev_expand.specs.Expanding.{IsExpanded}
-use Rattle.ev_expand_laws.specs.Said.{lines_in, HasLine, AllAt, input_of_text, expanded_script}
-use Rattle.ev_expand_laws.specs.Scripts.{IsLineIfWritten, IsExpandable}
-use Rattle.ev_expand_laws.proofs.FormLemmas.{trees_have_lines, trees_are_readable}
-use Rattle.ev_expand_laws.proofs.ScriptLemmas.{text_is_script}
-use Rattle.ev_tls_secrets.specs.Sealing.{tls_rules}
+use Rattle.ev_expand.specs.Said.{lines_in, HasLine, AllAt, input_of_text, expanded_script}
+use Rattle.ev_expand.specs.Scripts.{IsLineIfWritten, IsExpandable}
+use Rattle.ev_expand.proofs.FormLemmas.{trees_have_lines, trees_are_readable}
+use Rattle.ev_expand.proofs.ScriptLemmas.{text_is_script}
+use Rattle.ev_tls.specs.Sealing.{tls_rules}
 use Rattle.ev_tls.proofs.ShallowLemmas.{lines_shallow}
 
 lines_written : (settings : Settings) (at : ℕ) (lines : List Data) → AllAt (HasLine settings) at lines → AllAt (IsLineIfWritten (tls_rules settings.profile) settings) at lines

@@ -1,16 +1,16 @@
 -- What is accepted is accepted after the report of each secret that the resource names which made it.
-use Rattle.std.proofs.Common.{◌≡◌, ◌∙◌, inl, ℕ, ◌+◌, ◌==◌, Bool, true, false, cond, not, ◌&&◌, ◌||◌, List, [], length, map, Option, Some, None, is_some, codes, refl, sym, ap, subst, arith, ne_eqb}
+use Rattle.std.proofs.Common.{◌≡◌, ◌∙◌, inl, ℕ, ◌+◌, ◌==◌, Bool, true, false, cond, List, [], length, map, Option, Some, None, is_some, codes, refl, sym, ap, subst, arith, ne_eqb}
 use Rattle.std.specs.Prelude.{Contains, slice_get, option_map}
-use Rattle.std.proofs.lemmas.Bool.{both_ways}
+use Rattle.std.proofs.lemmas.Bool.{both_ways, false≢true}
 use Rattle.std.proofs.lemmas.Option.{slice_get-map}
 use Rattle.serde_json.specs.Data.{Data}
 use Rattle.ev_types.specs.Items.{ItemParts, ResponseParts}
 use Rattle.ev_types.specs.Scripts.{IsScript}
 use Rattle.ev_types.specs.declared.clusters.Cluster.{Cluster}
 use Rattle.ev_types.specs.declared.contents.Kind.{Kind}
-use Rattle.ev_types.specs.declared.contents.Kind.TheVariants.{Cds, Eds, Lds, Rds}
+use Rattle.ev_types.specs.declared.contents.Kind.TheVariants.{Cds}
 use Rattle.ev_types.specs.declared.contents.Content.{Content}
-use Rattle.ev_types.specs.declared.contents.Content.TheVariants.{Cluster as a_cluster, Assignment as an_assignment, Listener as a_listener, Routes as routes}
+use Rattle.ev_types.specs.declared.contents.Content.TheVariants.{Cluster as a_cluster}
 use Rattle.ev_types.specs.declared.contents.Body.{Body}
 use Rattle.ev_types.specs.declared.contents.Body.TheVariants.{Good, Bad, Beat}
 use Rattle.ev_types.specs.declared.events.Actor.TheVariants.{Stream}
@@ -25,29 +25,29 @@ use Rattle.ev_types.specs.declared.journals.Format.{Format}
 use Rattle.ev_model.specs.Entries.{MadeRow, made_of}
 use Rattle.ev_model.specs.Operations.{IsRunOf, Operation, operation_of}
 use Rattle.ev_model_laws.proofs.OperationLists.{any_at}
-use Rattle.ev_stream_laws.proofs.HoldLemmas.{side_holds}
+use Rattle.ev_model_laws.proofs.HoldLemmas.{side_holds}
 use Rattle.ev_script.specs.Lines.{line_of}
 use Rattle.ev_script.specs.declared.trees.ScriptTrees.{ScriptTrees}
 use Rattle.ev_wire.specs.Responses.{item_of}
-use Rattle.ev_cluster_json.specs.Clusters.{has_custom_type, is_eds, is_static}
+use Rattle.ev_cluster_json.specs.Clusters.{has_custom_type}
 use Rattle.ev_expand.specs.declared.keys.Key.{Key}
-use Rattle.ev_expand.specs.Keys.{key_with}
+use Rattle.ev_expand.specs.Keys.{key_with, typed_cluster}
 use Rattle.ev_expand.specs.Expanding.{guarded_at}
 use Rattle.ev_expand.specs.Fronts.{Front, event_of, fronts, message_of}
 use Rattle.ev_expand.specs.Guarding.{Guarded, body_in, clusters_by, clusters_in, items_as, kind_of, listed_as, place_at, place_in, private_name, waiting_entry}
 use Rattle.ev_expand.proofs.EventLemmas.{cluster_items_read}
-use Rattle.ev_expand_laws.specs.Said.{given_lines, lines_in}
-use Rattle.ev_expand_laws.specs.Waiting.{GuardsClusters, WaitsAsSaid, body_read, has_guarded, stream_line, waiting_cluster, waiting_item, waiting_response}
-use Rattle.ev_expand_laws.proofs.FrontLemmas.{front_at, front_there, given_at, given_before}
-use Rattle.ev_expand_laws.proofs.GuardLemmas.{IsGuardedAt, guarded_at_place}
-use Rattle.ev_expand_laws.proofs.ItemLemmas.{good_reads, item_cluster, item_good}
-use Rattle.ev_expand_laws.proofs.ListLemmas.{in_get, some_same}
-use Rattle.ev_expand_laws.proofs.OrderLemmas.{IsOfLine, entry_in, is_behind, of_line}
-use Rattle.ev_expand_laws.proofs.ReadLemmas.{guarded_item, other_item, waiting_reads, waiting_stays}
-use Rattle.ev_expand_laws.proofs.SaidPlaceLemmas.{IsSaid, line_event, line_place, said_is}
-use Rattle.ev_expand_laws.proofs.WaitLemmas.{own_types}
-use Rattle.ev_tls_secrets.specs.References.{body_key, by_secrets, content_key, has_own_hosts, references_of}
-use Rattle.ev_tls_secrets.specs.Sealing.{tls_rules}
+use Rattle.ev_expand.specs.Said.{given_lines, lines_in}
+use Rattle.ev_expand.specs.Waiting.{GuardsClusters, WaitsAsSaid, has_guarded, stream_line, waiting_cluster, waiting_item, waiting_response}
+use Rattle.ev_expand.proofs.FrontLawLemmas.{front_at, front_there, given_at, given_before}
+use Rattle.ev_expand.proofs.GuardLemmas.{IsGuardedAt, guarded_at_place}
+use Rattle.ev_expand.proofs.ItemLemmas.{good_reads, item_cluster, item_good}
+use Rattle.ev_expand.proofs.ListLemmas.{in_get, some_same}
+use Rattle.ev_expand.proofs.OrderLemmas.{IsOfLine, entry_in, is_behind, of_line}
+use Rattle.ev_expand.proofs.ReadLemmas.{guarded_item, other_item, waiting_reads, waiting_stays}
+use Rattle.ev_expand.proofs.SaidPlaceLemmas.{IsSaid, line_event, line_place, said_is}
+use Rattle.ev_expand.proofs.WaitLemmas.{own_types}
+use Rattle.ev_tls.specs.References.{body_key, by_secrets, content_key, references_of}
+use Rattle.ev_tls.specs.Sealing.{tls_rules}
 use Rattle.ev_tls.specs.Sealed.{IsByLine, IsMadeOf, NamesSecret, Sealed, sealed_script}
 use Rattle.ev_tls.proofs.KeyLemmas.{AsksFor, KeyNames, sealed_by_key}
 use Rattle.ev_tls.proofs.MadeLemmas.{MakesAt, made_there, makes_at}
@@ -55,10 +55,11 @@ use Rattle.ev_tls.proofs.TextLemmas.{own_line}
 
 -- ---- guarded resources
 
--- the key of a good cluster is it without the text of its body, and the secrets that it names
+-- the key of a good cluster is it without the text of its body and its own references, and the secrets that it names
 record IsKeyOf (body : Body) (names : List (List ℕ)) (key : Key) : Type 0 where
-  text : List ℕ
-  good : body ≡ Good (a_cluster (record key.cluster { body_text = text }))
+  own : Cluster
+  good : body ≡ Good (a_cluster own)
+  same : typed_cluster own ≡ key.cluster
   named : key.names ≡ names
 
 cluster_keyed : (cluster : Cluster) (names : List (List ℕ)) (key : Key) (b : Bool) → cond b None (Some (key_with cluster names)) ≡ Some key
@@ -67,32 +68,33 @@ cluster_keyed cluster names key true h = absurd (cc)
 cluster_keyed cluster names key false h =
     let same : key_with cluster names ≡ key = some_same h in
     record {
-      text = cluster.body_text;
-      good = ap (λ (k : Key). Good (a_cluster (record k.cluster { body_text = cluster.body_text }))) same;
+      own = cluster;
+      good = refl;
+      same = ap (λ (k : Key). k.cluster) same;
       named = sym (ap (λ (k : Key). k.names) same);
     }
 
 key_is : (body : Body) (names : List (List ℕ)) (key : Key) → body_key body names ≡ Some key → IsKeyOf body names key
 key_is (Good (a_cluster cluster)) names key h = cluster_keyed cluster names key (length names == 0) h
-key_is (Good (an_assignment rows)) names key h = absurd (cc)
-key_is (Good (a_listener listener)) names key h = absurd (cc)
-key_is (Good (routes table)) names key h = absurd (cc)
+key_is (Good content) names key h = absurd (cc)
 key_is (Bad rule) names key h = absurd (cc)
 key_is Beat names key h = absurd (cc)
 
--- what is guarded has hosts of its own
-guarded_by_own : (own : Bool) (found : Option Key) (key : Key) → cond own found None ≡ Some key → (own ≡ true) × (found ≡ Some key)
-guarded_by_own true found key h = (refl, h)
-guarded_by_own false found key h = absurd (cc)
-
-not_true : (custom other : Bool) → (not custom && other) ≡ true → custom ≡ false
-not_true true other h = sym h
-not_true false other h = refl
+-- what is guarded is read by this project's own rules
+guarded_unless : (envoy : Bool) (found : Option Key) (key : Key) → cond envoy None found ≡ Some key → (envoy ≡ false) × (found ≡ Some key)
+guarded_unless true found key h = absurd (cc)
+guarded_unless false found key h = (refl, h)
 
 guarded_key : (profile : Profile) (entry : Data) (key : Key) → (by_secrets profile).key_of entry ≡ Some key
-    → (has_own_hosts (body_in entry) ≡ true) × (body_key (item_of profile Cds entry).body (references_of (body_in entry)) ≡ Some key)
+    → (is_envoy profile ≡ false) × (body_key (item_of profile Cds entry).body (references_of (body_in entry)) ≡ Some key)
 guarded_key profile entry key h =
-    guarded_by_own (has_own_hosts (body_in entry)) (body_key (item_of profile Cds entry).body (references_of (body_in entry))) key h
+    guarded_unless (is_envoy profile) (body_key (item_of profile Cds entry).body (references_of (body_in entry))) key h
+
+-- by these rules a good cluster has no custom type
+own_typed : (profile : Profile) (entry : Data) (cluster : Cluster) → is_envoy profile ≡ false → (item_of profile Cds entry).body ≡ Good (a_cluster cluster)
+    → has_custom_type (body_in entry) ≡ false
+own_typed Own entry cluster own good = (own_types (body_in entry) cluster (good_reads Own entry cluster (item_good Own entry (a_cluster cluster) good))).1
+own_typed Envoy entry cluster own good = absurd (false≢true (sym own))
 
 guards_clusters : (profile : Profile) → GuardsClusters (by_secrets profile)
 guards_clusters profile entry key h =
@@ -100,35 +102,23 @@ guards_clusters profile entry key h =
     let is : IsKeyOf (item_of profile Cds entry).body (references_of (body_in entry)) key =
     key_is (item_of profile Cds entry).body (references_of (body_in entry)) key guarded.1 in
     record {
-      typed = not_true (has_custom_type (body_in entry)) (is_static (body_in entry) || is_eds (body_in entry)) guarded.0;
-      reads = inl (is.text, item_good profile entry (a_cluster (record key.cluster { body_text = is.text })) is.good);
+      typed = own_typed profile entry is.own guarded.0 is.good;
+      reads = inl (record { own = is.own; reads = item_good profile entry (a_cluster is.own) is.good; same = is.same });
     }
 
 no_key : (key : Key) → None ≡ Some key → ⊥
 no_key key e = cc
 
--- a good resource has hosts of its own by this project's own rules
-own_hosts : (profile : Profile) (entry : Data) (content : Content) → (item_of profile Cds entry).body ≡ Good content
-    → (is_envoy profile ≡ true → has_own_hosts (body_in entry) ≡ true) → has_own_hosts (body_in entry) ≡ true
-own_hosts Envoy entry content good guarded = guarded refl
-own_hosts Own entry content good guarded =
-    let cluster = item_cluster Own entry content good in
-    let read : body_read Own entry (body_in entry) ≡ Good (a_cluster cluster.0) = item_good Own entry content good ∙ ap (λ (c : Content). Good c) cluster.1 in
-    let types = own_types (body_in entry) cluster.0 (good_reads Own entry cluster.0 read) in
-    λ i. not (types.1 i) && types.0 i
-
 -- a good resource that names a secret is guarded
 good_is_guarded : (profile : Profile) (entry : Data) (content : Content) (secret : List ℕ) → (item_of profile Cds entry).body ≡ Good content
-    → Contains (references_of (body_in entry)) secret → (is_envoy profile ≡ true → has_own_hosts (body_in entry) ≡ true)
-    → (key : Key) × ((by_secrets profile).key_of entry ≡ Some key)
-good_is_guarded profile entry content secret good named guarded =
+    → Contains (references_of (body_in entry)) secret → is_envoy profile ≡ false → (key : Key) × ((by_secrets profile).key_of entry ≡ Some key)
+good_is_guarded profile entry content secret good named own =
     let names : List (List ℕ) = references_of (body_in entry) in
     let cluster = item_cluster profile entry content good in
     let key : Key = key_with cluster.0 names in
-    let some : (length names == 0) ≡ false = ne_eqb (length names) 0 (λ e. omega (arith, named.1, e)) in
-    let hosts : has_own_hosts (body_in entry) ≡ true = own_hosts profile entry content good guarded in (
+    let some : (length names == 0) ≡ false = ne_eqb (length names) 0 (λ e. omega (arith, named.1, e)) in (
       key,
-      (λ i. cond (hosts i) (body_key (good i) names) None) ∙ ap (λ (c : Content). content_key c names) cluster.1
+      (λ i. cond (own i) None (body_key (good i) names)) ∙ ap (λ (c : Content). content_key c names) cluster.1
           ∙ ap (λ (b : Bool). cond b None (Some key)) some,
     )
 
@@ -138,9 +128,7 @@ good_is_guarded profile entry content secret good named guarded =
 of_clusters : (kind : Option Kind) (message : Data) (item : ℕ) (entry : Data) → slice_get (listed_as kind message) item ≡ Some entry → kind ≡ Some Cds
 of_clusters None message item entry h = absurd (cc)
 of_clusters (Some Cds) message item entry h = refl
-of_clusters (Some Eds) message item entry h = absurd (cc)
-of_clusters (Some Lds) message item entry h = absurd (cc)
-of_clusters (Some Rds) message item entry h = absurd (cc)
+of_clusters (Some kind) message item entry h = absurd (cc)
 
 mapped_at : {X Y : Type 0} (f : X → Y) (xs : List X) (n : ℕ) (x : X) → slice_get xs n ≡ Some x → slice_get (map f xs) n ≡ Some (f x)
 mapped_at f xs n x there = slice_get-map f xs n ∙ ap (option_map f) there
@@ -236,7 +224,8 @@ module _ (trees : ScriptTrees) (format : Format) (journal : List Entry) (kept : 
         event = ap (λ (o : Operation). o.event) own.is;
       }
 
-  -- a generation that a resource made which names a secret asks for its endpoints by a private name, whose place's key names it
+  -- a generation that a resource made which names a secret asks for its endpoints by a private name, whose place's
+  -- key names it
   record AsksByKey (number : ℕ) (secret : List ℕ) : Type 0 where
     place : ℕ
     asks : AsksFor journal number place

@@ -9,7 +9,7 @@ use Rattle.ev_types.specs.Items.{ResponseParts}
 use Rattle.ev_types.specs.declared.clusters.Discovery.{Discovery}
 use Rattle.ev_types.specs.declared.clusters.Discovery.TheVariants.{Static, Eds as by_name, Elsewhere}
 use Rattle.ev_types.specs.declared.contents.Kind.{Kind}
-use Rattle.ev_types.specs.declared.contents.Kind.TheVariants.{Cds, Eds, Lds, Rds}
+use Rattle.ev_types.specs.declared.contents.Kind.TheVariants.{Eds}
 use Rattle.ev_types.specs.declared.events.Event.{Event}
 use Rattle.ev_types.specs.declared.events.Event.TheVariants.{Response}
 use Rattle.ev_types.specs.declared.events.Profile.{Profile}
@@ -22,12 +22,12 @@ use Rattle.ev_wire.specs.Responses.{entries_of, item_of}
 use Rattle.ev_expand.specs.declared.keys.Key.{Key}
 use Rattle.ev_expand.specs.Fronts.{Front, event_of, message_of, up_to, fronts, behind, stream_at, heard}
 use Rattle.ev_expand.specs.Guarding.{Guarded, guarded_same, clusters_in, body_in, guarded_in, each_once, guarded_by}
-use Rattle.ev_expand_laws.specs.Scripts.{IsShallow, AreShallowAt}
-use Rattle.ev_expand_laws.proofs.DepthLemmas.{IsWithin, field_within, object_within, entries_within, message_within, body_within, clusters_within}
-use Rattle.ev_expand_laws.proofs.GivenLemmas.{all_given, all_fronts}
-use Rattle.ev_tls_secrets.specs.References.{endpoints_in, by_secrets}
-use Rattle.ev_tls_secrets.specs.Told.{gives_value, value_given, given_as, given_with, values_in, value_of}
-use Rattle.ev_tls_secrets.specs.Sealing.{endpoints_by, tls_rules}
+use Rattle.ev_expand.specs.Scripts.{IsShallow, AreShallowAt}
+use Rattle.ev_expand.proofs.DepthLemmas.{IsWithin, field_within, object_within, entries_within, message_within, body_within, clusters_within}
+use Rattle.ev_expand.proofs.GivenLemmas.{all_given, all_fronts}
+use Rattle.ev_tls.specs.References.{endpoints_in, by_secrets}
+use Rattle.ev_tls.specs.Told.{gives_value, value_given, given_as, given_with, values_in, value_of}
+use Rattle.ev_tls.specs.Sealing.{endpoints_by, tls_rules}
 
 -- ---- endpoints in a line
 
@@ -97,13 +97,11 @@ value_by false name value h = tt
 
 listed_values : (profile : Profile) (kind : Option Kind) (response : ResponseParts) (message : Data) → depth message ≤ 126 → All ValueIsShallow (given_as profile kind response message)
 listed_values profile None response message h = All-nil ValueIsShallow
-listed_values profile (Some Cds) response message h = All-nil ValueIsShallow
 listed_values profile (Some Eds) response message h =
     all_found (λ (entry : Data). depth entry ≤ 124) ValueIsShallow (value_given profile response) (entries_of message)
     (λ entry k. value_by (gives_value response (item_of profile Eds entry)) (item_of profile Eds entry).name (endpoints_in (body_in entry)) (value_shallow entry k))
     (entries_within message 124 h)
-listed_values profile (Some Lds) response message h = All-nil ValueIsShallow
-listed_values profile (Some Rds) response message h = All-nil ValueIsShallow
+listed_values profile (Some kind) response message h = All-nil ValueIsShallow
 
 event_values : (profile : Profile) (event : Option Event) (message : Data) → depth message ≤ 126 → All ValueIsShallow (given_with profile event message)
 event_values profile None message h = All-nil ValueIsShallow

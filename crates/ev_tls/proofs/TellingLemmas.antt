@@ -8,7 +8,7 @@ use Rattle.ev_types.specs.Events.{MayMake}
 use Rattle.ev_types.specs.Items.{ResponseParts}
 use Rattle.ev_types.specs.Scripts.{IsScript}
 use Rattle.ev_types.specs.declared.contents.Kind.{Kind}
-use Rattle.ev_types.specs.declared.contents.Kind.TheVariants.{Cds, Eds, Lds, Rds}
+use Rattle.ev_types.specs.declared.contents.Kind.TheVariants.{Eds}
 use Rattle.ev_types.specs.declared.events.Actor.TheVariants.{Stream}
 use Rattle.ev_types.specs.declared.events.Event.{Event}
 use Rattle.ev_types.specs.declared.events.Event.TheVariants.{Response}
@@ -19,17 +19,17 @@ use Rattle.ev_script.specs.declared.trees.ScriptTrees.{ScriptTrees}
 use Rattle.ev_expand.specs.Expanding.{guarded_at}
 use Rattle.ev_expand.specs.Fronts.{Front, event_of, fronts, message_of}
 use Rattle.ev_expand.specs.Guarding.{clusters_in, kind_of, listed_as}
-use Rattle.ev_expand_laws.specs.Said.{given_lines, lines_in}
-use Rattle.ev_expand_laws.proofs.ReadLemmas.{waiting_stays}
-use Rattle.ev_tls_secrets.specs.declared.awaited.Awaited.TheVariants.{Secret, Endpoints}
-use Rattle.ev_tls_secrets.specs.References.{by_secrets}
-use Rattle.ev_tls_secrets.specs.Sealing.{tls_rules}
-use Rattle.ev_tls_secrets.specs.Told.{endpoints_told, told_as, told_by, told_with}
-use Rattle.ev_expand_laws.specs.Runs.{place_given}
+use Rattle.ev_expand.specs.Said.{given_lines, lines_in}
+use Rattle.ev_expand.proofs.ReadLemmas.{waiting_stays}
+use Rattle.ev_tls.specs.declared.awaited.Awaited.TheVariants.{Secret, Endpoints}
+use Rattle.ev_tls.specs.References.{by_secrets}
+use Rattle.ev_tls.specs.Sealing.{tls_rules}
+use Rattle.ev_tls.specs.Told.{endpoints_told, told_as, told_by, told_with}
+use Rattle.ev_expand.specs.Runs.{place_given}
 use Rattle.ev_tls.specs.Sealed.{sealed_script}
-use Rattle.ev_expand_laws.proofs.FrontLemmas.{given_at, given_before}
-use Rattle.ev_expand_laws.proofs.ListLemmas.{in_map}
-use Rattle.ev_expand_laws.proofs.SaidPlaceLemmas.{IsLineOf, event_line, line_place, said_in, stream_is}
+use Rattle.ev_expand.proofs.FrontLawLemmas.{given_at, given_before}
+use Rattle.ev_expand.proofs.ListLemmas.{in_map}
+use Rattle.ev_expand.proofs.SaidPlaceLemmas.{IsLineOf, event_line, line_place, said_in, stream_is}
 use Rattle.ev_tls.proofs.TextLemmas.{own_line}
 
 -- it is a response of a type that isn't read
@@ -47,9 +47,7 @@ no_secret secret names is = differ (in_map Endpoints names (Secret secret) is).2
 secret_kind : (secret : List ℕ) (kind : Option Kind) (response : ResponseParts) (message : Data) → IsIn (Secret secret) (told_as kind response message) → kind ≡ None
 secret_kind secret None response message is = refl
 secret_kind secret (Some Eds) response message is = absurd (no_secret secret (endpoints_told response) is)
-secret_kind secret (Some Cds) response message is = absurd is
-secret_kind secret (Some Lds) response message is = absurd is
-secret_kind secret (Some Rds) response message is = absurd is
+secret_kind secret (Some kind) response message is = absurd is
 
 unread_by : (profile : Profile) (secret : List ℕ) (line message : Data) (event : Option Event) → event_of profile line ≡ event → IsIn (Secret secret) (told_with event message) → IsUnread profile line
 unread_by profile secret line message (Some (Response response)) reads is =

@@ -14,17 +14,17 @@ use Rattle.ev_expand.specs.Following.{DueParts, following_line}
 use Rattle.ev_expand.specs.Fronts.{Front, fronts}
 use Rattle.ev_expand.specs.Guarding.{waiting_line}
 use Rattle.ev_expand.specs.Private.{first_use}
-use Rattle.ev_expand_laws.specs.Said.{given_lines}
-use Rattle.ev_expand_laws.specs.Waiting.{WaitsAsSaid, has_guarded, following_response, stream_line, waiting_response}
-use Rattle.ev_expand_laws.proofs.ReadLemmas.{following_reads, waiting_reads, waiting_stays}
-use Rattle.ev_tls_secrets.specs.References.{by_secrets}
-use Rattle.ev_tls_secrets.specs.Sealing.{tls_rules}
-use Rattle.ev_expand_laws.proofs.DueLemmas.{IsDueName, due_named}
-use Rattle.ev_expand_laws.proofs.FrontLemmas.{IsGivenAt, front_at, given_before, given_from}
-use Rattle.ev_expand_laws.proofs.ListLemmas.{some_same}
-use Rattle.ev_expand_laws.proofs.NamedLemmas.{NamesEndpoints}
-use Rattle.ev_expand_laws.proofs.SaidPlaceLemmas.{line_event}
-use Rattle.ev_expand_laws.proofs.UsedLemmas.{none_names}
+use Rattle.ev_expand.specs.Said.{given_lines}
+use Rattle.ev_expand.specs.Waiting.{WaitsAsSaid, has_guarded, following_response, stream_line, waiting_response}
+use Rattle.ev_expand.proofs.ReadLemmas.{following_reads, waiting_reads, waiting_stays}
+use Rattle.ev_tls.specs.References.{by_secrets}
+use Rattle.ev_tls.specs.Sealing.{tls_rules}
+use Rattle.ev_expand.proofs.DueLemmas.{IsDueName, due_named}
+use Rattle.ev_expand.proofs.FrontLawLemmas.{IsGivenAt, front_at, given_before, given_from}
+use Rattle.ev_expand.proofs.ListLemmas.{some_same}
+use Rattle.ev_expand.proofs.NamedLemmas.{NamesEndpoints}
+use Rattle.ev_expand.proofs.SaidPlaceLemmas.{line_event}
+use Rattle.ev_expand.proofs.UsedLemmas.{none_names}
 
 -- ---- a line that follows
 

@@ -1,5 +1,5 @@
 -- What was reported in some lines is reported by one of them, and so is all that a key names where it is due.
-use Rattle.std.proofs.Common.{◌≡◌, ◌∙◌, ℕ, ◌<◌, Bool, true, ◌&&◌, ◌||◌, not, List, map, take, filter, flat_map, Some, sym, subst}
+use Rattle.std.proofs.Common.{◌≡◌, ℕ, ◌<◌, Bool, true, ◌&&◌, ◌||◌, not, List, map, take, filter, flat_map, Some, sym, subst}
 use Rattle.std.specs.Prelude.{slice_get, Contains}
 use Rattle.std.specs.Cmp.{first_so, second_so}
 use Rattle.serde_json.specs.Data.{Data}
@@ -8,13 +8,13 @@ use Rattle.ev_model_laws.proofs.OperationLists.{IsIn, in_filter, in_front}
 use Rattle.ev_expand.specs.declared.keys.Key.{Key}
 use Rattle.ev_expand.specs.Fronts.{Front, fronts, heard, opens, stream_at, up_to}
 use Rattle.ev_expand.specs.Guarding.{Guarded}
-use Rattle.ev_tls_secrets.specs.declared.awaited.Awaited.{Awaited}
-use Rattle.ev_tls_secrets.specs.declared.awaited.Awaited.TheVariants.{Secret, Endpoints}
-use Rattle.ev_tls_secrets.specs.Awaited.{awaited_by, awaited_decides, awaited_same, services_of}
-use Rattle.ev_tls_secrets.specs.Sealing.{gives_endpoints, has_guarded, is_due}
-use Rattle.ev_tls_secrets.specs.Told.{is_complete, is_told, told_by}
-use Rattle.ev_expand_laws.proofs.FrontLemmas.{fronts_taken}
-use Rattle.ev_expand_laws.proofs.ListLemmas.{all_in, contains_in, get_in, in_any, in_flat, in_map, map_in, taken_get}
+use Rattle.ev_tls.specs.declared.awaited.Awaited.{Awaited}
+use Rattle.ev_tls.specs.declared.awaited.Awaited.TheVariants.{Secret, Endpoints}
+use Rattle.ev_tls.specs.Awaited.{awaited_by, awaited_decides, awaited_same, services_of}
+use Rattle.ev_tls.specs.Sealing.{gives_endpoints, has_guarded, is_due}
+use Rattle.ev_tls.specs.Told.{is_complete, is_told, told_by}
+use Rattle.ev_expand.proofs.FrontLawLemmas.{fronts_taken}
+use Rattle.ev_expand.proofs.ListLemmas.{all_in, contains_in, get_in, in_any, in_flat, in_map, map_in, taken_get}
 
 -- one of the first n lines reports it, where a stream is open
 pub record IsToldAt (profile : Profile) (lines : List Data) (n : ℕ) (awaited : Awaited) : Type 0 where

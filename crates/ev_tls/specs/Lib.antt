@@ -1,1 +1,12 @@
+pub mod Awaited
+pub mod References
+pub mod Told
+pub mod Known
+pub mod Marking
+pub mod Places
+pub mod Waiting
+pub mod Hearing
+pub mod Looking
+pub mod State
+pub mod Sealing
 pub mod Sealed

@@ -1,5 +1,5 @@
 -- What is accepted at a cluster that waits for its secrets.
-use Rattle.std.specs.Prelude.{◌≡◌, ℕ, ◌+◌, ◌<◌, true, List, [], ◌∷◌, ◌++◌, length, take, Contains, Some, None, option_and_then, slice_get, codes}
+use Rattle.std.specs.Prelude.{◌≡◌, ℕ, ◌+◌, ◌<◌, true, false, List, [], ◌∷◌, ◌++◌, length, take, Contains, Some, None, option_and_then, slice_get, codes}
 use Rattle.serde_json.specs.Data.{Data}
 use Rattle.ev_types.specs.Scripts.{IsScript, ScriptParts}
 use Rattle.ev_types.specs.declared.events.Actor.{Actor}
@@ -18,12 +18,12 @@ use Rattle.ev_script.specs.declared.trees.ScriptTrees.{ScriptTrees}
 use Rattle.ev_expand.specs.Fronts.{event_of, stream_at}
 use Rattle.ev_expand.specs.Guarding.{body_in, clusters_in}
 use Rattle.ev_expand.specs.Private.{first_use}
-use Rattle.ev_expand_laws.specs.Said.{expanded_script, lines_in}
-use Rattle.ev_expand_laws.specs.Runs.{place_given, run_told}
-use Rattle.ev_tls_secrets.specs.declared.awaited.Awaited.TheVariants.{Secret}
-use Rattle.ev_tls_secrets.specs.References.{has_own_hosts, references_of}
-use Rattle.ev_tls_secrets.specs.Sealing.{tls_rules}
-use Rattle.ev_tls_secrets.specs.Told.{told_by}
+use Rattle.ev_expand.specs.Said.{expanded_script, lines_in}
+use Rattle.ev_expand.specs.Runs.{place_given, run_told}
+use Rattle.ev_tls.specs.declared.awaited.Awaited.TheVariants.{Secret}
+use Rattle.ev_tls.specs.References.{references_of}
+use Rattle.ev_tls.specs.Sealing.{tls_rules}
+use Rattle.ev_tls.specs.Told.{told_by}
 
 -- the script that the command writes
 abbrev pub sealed_script : ScriptTrees → ScriptParts
@@ -31,15 +31,15 @@ sealed_script trees = expanded_script (tls_rules trees.header.profile) trees
 
 -- ---- the input. Its lines are counted from 0, after its header.
 
--- A resource of clusters, by its place among those of a line, names the secret. As Envoy reads it, its hosts may be names, or be found
--- elsewhere: such a cluster stays as it is.
+-- A resource of clusters, by its place among those of a line, names the secret. As Envoy reads a script its clusters
+-- wait for their secrets by themselves, and stay as they are.
 pub record NamesSecret (profile : Profile) (lines : List Data) (index item : ℕ) (secret : List ℕ) : Type 0 where
   pub line : Data
   pub there : slice_get lines index ≡ Some line
   pub resource : Data
   pub stands : slice_get (clusters_in profile line) item ≡ Some resource
   pub named : Contains (references_of (body_in resource)) secret
-  pub guarded : is_envoy profile ≡ true → has_own_hosts (body_in resource) ≡ true
+  pub guarded : is_envoy profile ≡ false
 
 -- the secret comes with the line, where a stream is open
 pub record TellsOf (profile : Profile) (lines : List Data) (index : ℕ) (secret : List ℕ) : Type 0 where
@@ -63,8 +63,9 @@ abbrev pub made_by_first : ℕ → Event → Answer → List MadeRow
 made_by_first count event (Replied requests verdicts) = made_in event (Replied requests (take count verdicts))
 made_by_first count event answer = []
 
--- A resource, by its place in a line of the input, made the generation of this number: the entry by what the line became makes one
--- more with the verdict on it, and the number is one above how many were made before, by earlier entries and earlier resources.
+-- A resource, by its place in a line of the input, made the generation of this number: the entry by what the line
+-- became makes one more with the verdict on it, and the number is one above how many were made before, by earlier
+-- entries and earlier resources.
 pub record IsMadeOf (profile : Profile) (journal : List Entry) (number : ℕ) (lines : List Data) (index item : ℕ) : Type 0 where
   pub place : ℕ
   pub by : IsByLine profile journal place lines index

@@ -1,51 +1,40 @@
-//! The command `tls`: of the trees of a script's lines the text of a script in which clusters wait for their secrets, and the law
-//! that what is accepted in its runs is sealed.
+//! Clusters that wait for their secrets: a script in which each cluster that names remote secrets waits for endpoints
+//! by a private name, which are sent when all of its secrets, and its own endpoints, have come.
+//!
+//! - A cluster names secrets by its transport socket alone, and only where that is the context of TLS towards
+//!   upstream hosts. A member of a wrong form, or in both spellings, names nothing, and the others still count.
+//! - As Envoy reads a script its clusters wait for their secrets by themselves: nothing is guarded there, and no
+//!   secret is read.
+//! - Secrets come on an open stream alone, by a resource or a removed name, whatever else is in it.
+//! - A line costs look-ups by what it says and what is sent after it, however much is guarded: each place that isn't
+//!   complete is under the first that it still waits for, and goes on from where it was when that comes. The complete
+//!   ones are in a set, and under the endpoints that they ask for.
+//!
+//! `seal` is the command: of the trees of a script's lines the text of a script in which clusters wait for their
+//! secrets. With it stands the law that what is accepted in its runs is sealed.
 //!
 //! # Choices
 //!
-//! - The text is made by `ev_tls_secrets`; that it is a script is the law of `ev_expand_laws`, whose premises are proved here: trees
-//!   that were read are lines of a script, and the endpoints that are sent were in such a line at least as deep.
+//! - The text is made by `expand`; that it is a script is a law of `ev_expand`, whose premises are proved here:
+//!   trees that were read are lines of a script, and the endpoints that are sent were in such a line at least as deep.
 #![tactic(auto)]
 
-ghost use Rattle.std.specs.Prelude.{◌≡◌, false, Some, Ok, IfOk, OnOk};
-ghost use Rattle.serde_json.specs.View.{view};
-ghost use Rattle.ev_types.specs.Scripts.{IsScript};
-ghost use Rattle.ev_script.specs.Faults.{Input, plain_lines, HasNoFault};
-ghost use Rattle.ev_script.specs.ReadTrees.{IsTreesAnswer};
-ghost use Rattle.ev_script.specs.Script.{script_of};
-ghost use Rattle.ev_expand.specs.Expanding.{IsExpanded};
-ghost use Rattle.ev_expand_laws.specs.Said.{lines_in, input_of_text, expanded_script};
-ghost use Rattle.ev_tls_secrets.specs.Sealing.{tls_rules};
-
+mod awaited;
+mod complete;
+mod hearing;
+mod known;
 mod laws;
+mod looking;
+mod names;
+mod places;
+mod references;
+mod sealing;
+mod secrets;
+mod told;
+mod values;
+mod waiting;
 
-use ev_expand::ExpandError;
-use ev_script::ScriptTrees;
-use ev_tls_secrets::expand;
+pub use awaited::Awaited;
 pub use laws::accepts_are_sealed;
-use std::alloc::Global;
-
-/// The text of a script whose clusters wait for their secrets, by the trees of a script's lines. It is a script without
-/// fault, within the bounds of scripts.
-///
-/// # Errors
-/// `Private` exactly for the first line that uses a name that begins with `tls/` for endpoints. `Large` where there is none,
-/// exactly for the line with whose output the text goes above a limit of inputs. `OutOfMemory` where memory runs out, and for 2^32
-/// lines and more.
-pub fn seal(alloc: Global, trees: &ScriptTrees) -> Result<Vec<u8>, ExpandError>
-    requires read { (input : Input) × IsTreesAnswer plain_lines input (Ok trees.now) }
-    ensures expanded { IsExpanded (tls_rules trees.now.header.profile) (view trees.now.head)
-        (lines_in trees.now) result }
-    ensures sound { IfOk result (λ text. HasNoFault plain_lines (input_of_text text.items)) }
-    ensures script { IfOk result (λ text. script_of false text.items
-        ≡ Some (expanded_script (tls_rules trees.now.header.profile) trees.now)) }
-    ensures kept { OnOk result (IsScript (expanded_script (tls_rules trees.now.header.profile) trees.now)) }
-{
-    expand(
-        alloc,
-        trees.keys,
-        trees.header.profile,
-        &trees.head,
-        &trees.lines,
-    )
-}
+pub use sealing::seal;
+pub use secrets::expand;

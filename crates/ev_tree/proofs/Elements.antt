@@ -14,7 +14,7 @@ elements_of-items_of (d ∷ ds) = ap (λ xs. d ∷ xs) (elements_of-items_of ds)
 pub elements_of-items_view : (vs : List Value) → elements_of (items_view vs) ≡ map view vs
 elements_of-items_view vs = elements_of-items_of (map view vs)
 
--- a test of each element, and of what each stands for
+-- a test of each element, and of what each represents
 pub list_all-view : (p : Data → Bool) (vs : List Value) → list_all p (map view vs) ≡ list_all (λ v. p (view v)) vs
 list_all-view p vs = list_all-map p view vs
 

@@ -1,4 +1,4 @@
--- What is left of a tree when -1 stands for each float.
+-- What is left of a tree when -1 represents each float.
 use Rattle.std.proofs.Common.{◌≡◌, ℕ, suc, max, Bool, true, false, ◌||◌, List, [], ◌∷◌, map, Ordering, Less, Equal, Greater, refl, ap, ap₂, ◌∙◌}
 use Rattle.std.specs.Ordering.{match_ordering, nat_cmp}
 use Rattle.std.specs.Cmp.Lexicographic.{slice_cmp}

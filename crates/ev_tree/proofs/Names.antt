@@ -31,7 +31,7 @@ pub whole_spelling : (name : List ℕ) → camel_from false name ≡ camel_of na
 unfolding camel_of
 whole_spelling name = camel_from-zip false name
 
--- a byte past ASCII stands for itself
+-- a byte past ASCII represents itself
 high_byte : (after : Bool) (b : ℕ) (rest : List ℕ) → 128 ≤ b → camel_from after (b ∷ rest) ≡ b ∷ camel_from false rest
 high_byte true b rest h = grind (arith, nat_tests)
 high_byte false b rest h = grind (arith, nat_tests)
@@ -45,7 +45,7 @@ three after a b d rest ha hb hd = high_byte after a (b ∷ d ∷ rest) ha ∙ ap
 four : (after : Bool) (a b d e : ℕ) (rest : List ℕ) → 128 ≤ a → 128 ≤ b → 128 ≤ d → 128 ≤ e → camel_from after (a ∷ b ∷ d ∷ e ∷ rest) ≡ a ∷ b ∷ d ∷ e ∷ camel_from false rest
 four after a b d e rest ha hb hd he = high_byte after a (b ∷ d ∷ e ∷ rest) ha ∙ ap (λ xs. a ∷ xs) (three false b d e rest hb hd he)
 
--- a character past ASCII stands for itself
+-- a character past ASCII represents itself
 high_char : (after : Bool) (c : ℕ) (rest : List ℕ) → 128 ≤ c → camel_from after (encode c ++ rest) ≡ encode c ++ camel_from false rest
 unfolding encode
 high_char after c rest h =

@@ -44,6 +44,8 @@ either_assoc a b d = λ i. record {
   v25 = or_assoc a.v25 b.v25 d.v25 i;
   v26 = or_assoc a.v26 b.v26 d.v26 i;
   v27 = or_assoc a.v27 b.v27 d.v27 i;
+  v28 = or_assoc a.v28 b.v28 d.v28 i;
+  v29 = or_assoc a.v29 b.v29 d.v29 i;
 }
 
 pub either_none : (a : BrokenRules) → either_broken a none_broken ≡ a
@@ -72,6 +74,8 @@ either_none a = λ i. record {
   v25 = or_false a.v25 i;
   v26 = or_false a.v26 i;
   v27 = or_false a.v27 i;
+  v28 = or_false a.v28 i;
+  v29 = or_false a.v29 i;
 }
 
 -- one part more
@@ -101,6 +105,8 @@ any_push broken xs x = λ i. record {
   v25 = list_any_push (λ part. (broken part).v25) xs x i;
   v26 = list_any_push (λ part. (broken part).v26) xs x i;
   v27 = list_any_push (λ part. (broken part).v27) xs x i;
+  v28 = list_any_push (λ part. (broken part).v28) xs x i;
+  v29 = list_any_push (λ part. (broken part).v29) xs x i;
 }
 
 -- where no rule is the least, none is broken
@@ -132,6 +138,8 @@ least_none a none =
       v25 = kept.1.1.1.1.1.1.1.1.1.1.1.1.1.1.1.1.1.1.1.1.1.0 i;
       v26 = kept.1.1.1.1.1.1.1.1.1.1.1.1.1.1.1.1.1.1.1.1.1.1.0 i;
       v27 = kept.1.1.1.1.1.1.1.1.1.1.1.1.1.1.1.1.1.1.1.1.1.1.1.0 i;
+      v28 = kept.1.1.1.1.1.1.1.1.1.1.1.1.1.1.1.1.1.1.1.1.1.1.1.1.0 i;
+      v29 = kept.1.1.1.1.1.1.1.1.1.1.1.1.1.1.1.1.1.1.1.1.1.1.1.1.1.0 i;
     }
 
 -- one element of a list more, made into what it is worth

@@ -1,5 +1,6 @@
 -- The address of a host or a listener. By this project's own rules that is a socket address,
--- `{"address":{"socket_address":{"address":..,"port_value":..}}}`; as Envoy reads it, it may be a pipe or an address inside Envoy.
+-- `{"address":{"socket_address":{"address":..,"port_value":..}}}`;
+-- as Envoy reads it, it may be a pipe or an address inside Envoy.
 use Rattle.std.specs.Prelude.{ℕ, ◌||◌, ◌&&◌, ◌==◌, List, [], ◌∷◌, ◌++◌, length, Bool, false, not, nat_le, if◌then◌else◌, codes}
 use Rattle.serde_json.specs.Data.{Data}
 use Rattle.ev_types.specs.declared.events.Profile.{Profile}
@@ -79,8 +80,8 @@ text_found (Socket text) = text.now
 text_found (Pipe path) = pipe_text path.now
 text_found (Internal name id) = internal_text name.now id.now
 
--- What is found of a pipe in the object with the address: whether it is given, its path or the empty text, and whether a form of it
--- is wrong.
+-- What is found of a pipe in the object with the address:
+-- whether it is given, its path or the empty text, and whether a form of it is wrong.
 abbrev pub has_pipe : Data → Bool
 has_pipe outer = is_given (object_of (codes "pipe") outer)
 
@@ -128,8 +129,8 @@ port_unless no_port port = if no_port then 0 else port
 unfoldable pub any_port_of : Data → ℕ
 any_port_of tree = port_unless (has_pipe (outer_of tree) || has_internal (outer_of tree)) (port_of tree)
 
--- What an address breaks as Envoy reads it. V12: not exactly one kind, a text that is empty or over 512 bytes, or a socket without
--- a port of at most 65535.
+-- What an address breaks as Envoy reads it. V12: not exactly one kind,
+-- a text that is empty or over 512 bytes, or a socket without a port of at most 65535.
 unfoldable pub any_address_broken : Data → BrokenRules
 any_address_broken tree = record none_broken {
   v6 = (address_broken tree).v6 || is_wrong_pipe (outer_of tree) || is_wrong_internal (outer_of tree);

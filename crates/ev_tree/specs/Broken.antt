@@ -32,6 +32,8 @@ none_broken = record {
   v25 = false;
   v26 = false;
   v27 = false;
+  v28 = false;
+  v29 = false;
 }
 
 -- the rules that one of two parts breaks
@@ -61,6 +63,8 @@ either_broken a b = record {
   v25 = a.v25 || b.v25;
   v26 = a.v26 || b.v26;
   v27 = a.v27 || b.v27;
+  v28 = a.v28 || b.v28;
+  v29 = a.v29 || b.v29;
 }
 
 -- the rules that one of some parts breaks
@@ -90,6 +94,8 @@ any_broken broken parts = record {
   v25 = list_any (λ part. (broken part).v25) parts;
   v26 = list_any (λ part. (broken part).v26) parts;
   v27 = list_any (λ part. (broken part).v27) parts;
+  v28 = list_any (λ part. (broken part).v28) parts;
+  v29 = list_any (λ part. (broken part).v29) parts;
 }
 
 -- these rules where a condition holds, and none else
@@ -102,8 +108,9 @@ rules_of broken =
     (1, broken.v1) ∷ (2, broken.v2) ∷ (3, broken.v3) ∷ (6, broken.v6) ∷ (7, broken.v7) ∷ (8, broken.v8)
     ∷ (9, broken.v9) ∷ (10, broken.v10) ∷ (11, broken.v11) ∷ (12, broken.v12) ∷ (13, broken.v13) ∷ (14, broken.v14)
     ∷ (16, broken.v16) ∷ (17, broken.v17) ∷ (18, broken.v18) ∷ (19, broken.v19) ∷ (20, broken.v20) ∷ (21, broken.v21)
-    ∷ (22, broken.v22) ∷ (23, broken.v23) ∷ (24, broken.v24) ∷ (25, broken.v25) ∷ (26, broken.v26) ∷ (27, broken.v27) ∷ []
+    ∷ (22, broken.v22) ∷ (23, broken.v23) ∷ (24, broken.v24) ∷ (25, broken.v25) ∷ (26, broken.v26) ∷ (27, broken.v27)
+    ∷ (28, broken.v28) ∷ (29, broken.v29) ∷ []
 
--- the least rule that is broken
+-- the lowest-numbered rule that is broken
 abbrev pub least_of : BrokenRules → Option ℕ
 least_of broken = least (rules_of broken)

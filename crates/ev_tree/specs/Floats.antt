@@ -1,5 +1,5 @@
--- Trees without floats. A float has no text in definitions, and no line reads its value: -1 stands for each, which is what a
--- line reads of neither.
+-- Trees without floats. A float has no text in definitions, and no line reads its value:
+-- -1 represents each, which is what a line reads of neither.
 use Rattle.std.specs.Prelude.{◌≡◌, ℕ, List, [], false, negsuc}
 use Rattle.serde_json.specs.Data.{Num, unsigned, negative, float, Data, null, boolean, number, string, array, object, Items, no_items, item, Members, no_members, member, depth}
 use Rattle.serde_json.specs.Written.{has_float, compact_text}
@@ -44,7 +44,8 @@ MakesWhole = (tree : Data) → IsWholeOf tree (whole tree)
 abbrev pub plain_text : Data → List ℕ
 plain_text tree = compact_text (whole tree)
 
--- the text of a body, by which any change of it is told; this project's own rules look at the fields that are read alone
+-- the text of a body, by which any change of it is told;
+-- this project's own rules look at the fields that are read alone
 abbrev pub body_text_of : Profile → Data → List ℕ
 body_text_of Own tree = []
 body_text_of Envoy tree = plain_text tree

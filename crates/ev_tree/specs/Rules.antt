@@ -1,4 +1,4 @@
--- The least rule that a resource breaks, and what a reader of a resource answers. Each rule is a fact about
+-- The lowest-numbered rule that a resource breaks, and what a reader of a resource answers. Each rule is a fact about
 -- the tree by itself; the crates of the resources have them.
 use Rattle.std.specs.Prelude.{◌≡◌, ℕ, ◌<◌, ◌≤◌, ◌⊎◌, ◌&&◌, true, List, [], ◌∷◌, length, Bool, nat_le, Option, Some, None, option_map, Result, Ok, Err, ⊤}
 use Rattle.std.specs.List.{find}
@@ -10,7 +10,7 @@ use Rattle.ev_tree.specs.declared.outcome.ReadError.TheVariants.{Rule, OutOfMemo
 abbrev pub least : List (ℕ × Bool) → Option ℕ
 least rules = option_map (λ rule. rule.0) (find (λ rule. rule.1) rules)
 
--- what a tree reads as: the value, or the least rule that it breaks
+-- what a tree reads as: the value, or the lowest-numbered rule that it breaks
 abbrev pub judged : {A : Type 0} → Option ℕ → A → Result A ℕ
 judged None value = Ok value
 judged (Some rule) value = Err rule

@@ -1,5 +1,6 @@
--- Config sources: where a resource's values come from. By this project's own rules that is the aggregated stream alone; as Envoy
--- reads them, the stream of the script stands for whichever stream or file brings the values.
+-- Config sources: where a resource's values come from.
+-- By this project's own rules that is the aggregated stream alone;
+-- as Envoy reads them, the stream of the script represents whichever stream or file brings the values.
 use Rattle.std.specs.Prelude.{◌||◌, List, [], ◌∷◌, Bool, true, false, not, codes}
 use Rattle.serde_json.specs.Data.{Data}
 use Rattle.ev_types.specs.declared.events.Profile.{Profile}

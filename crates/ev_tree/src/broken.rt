@@ -4,6 +4,7 @@ ghost use Rattle.ev_tree.specs.Rules.{IsLeast};
 ghost use Rattle.ev_tree.specs.declared.broken.BrokenRules.{BrokenRules};
 
 use crate::rules::least;
+use ev_types::Rule;
 
 /// Which form rules a body, or a part of one, breaks: a field for each. V4, V5 and V15 aren't among them, since
 /// they need the whole response or the generations that are live.
@@ -57,6 +58,10 @@ pub struct BrokenRules {
     pub v26: bool,
     /// A server name of a filter chain isn't one.
     pub v27: bool,
+    /// Not exactly one kind of secret is given.
+    pub v28: bool,
+    /// An extension has no configuration with a type.
+    pub v29: bool,
 }
 
 impl BrokenRules {
@@ -89,6 +94,8 @@ impl BrokenRules {
             v25: false,
             v26: false,
             v27: false,
+            v28: false,
+            v29: false,
         }
     }
 
@@ -121,6 +128,8 @@ impl BrokenRules {
             v25: self.v25 | other.v25,
             v26: self.v26 | other.v26,
             v27: self.v27 | other.v27,
+            v28: self.v28 | other.v28,
+            v29: self.v29 | other.v29,
         }
     }
 
@@ -131,40 +140,43 @@ impl BrokenRules {
         if condition { self } else { BrokenRules::none() }
     }
 
-    /// The number of the least rule that is broken: by it a body is refused.
-    pub fn least(self) -> Option<u8>
+    /// The lowest-numbered rule that is broken: by it a body is refused.
+    pub fn least(self) -> Option<Rule>
         ensures { result ≡ least_of self }
     {
         least(&[
-            (1, self.v1),
-            (2, self.v2),
-            (3, self.v3),
-            (6, self.v6),
-            (7, self.v7),
-            (8, self.v8),
-            (9, self.v9),
-            (10, self.v10),
-            (11, self.v11),
-            (12, self.v12),
-            (13, self.v13),
-            (14, self.v14),
-            (16, self.v16),
-            (17, self.v17),
-            (18, self.v18),
-            (19, self.v19),
-            (20, self.v20),
-            (21, self.v21),
-            (22, self.v22),
-            (23, self.v23),
-            (24, self.v24),
-            (25, self.v25),
-            (26, self.v26),
-            (27, self.v27),
+            (Rule::V1, self.v1),
+            (Rule::V2, self.v2),
+            (Rule::V3, self.v3),
+            (Rule::V6, self.v6),
+            (Rule::V7, self.v7),
+            (Rule::V8, self.v8),
+            (Rule::V9, self.v9),
+            (Rule::V10, self.v10),
+            (Rule::V11, self.v11),
+            (Rule::V12, self.v12),
+            (Rule::V13, self.v13),
+            (Rule::V14, self.v14),
+            (Rule::V16, self.v16),
+            (Rule::V17, self.v17),
+            (Rule::V18, self.v18),
+            (Rule::V19, self.v19),
+            (Rule::V20, self.v20),
+            (Rule::V21, self.v21),
+            (Rule::V22, self.v22),
+            (Rule::V23, self.v23),
+            (Rule::V24, self.v24),
+            (Rule::V25, self.v25),
+            (Rule::V26, self.v26),
+            (Rule::V27, self.v27),
+            (Rule::V28, self.v28),
+            (Rule::V29, self.v29),
         ])
     }
 }
 
-/// The least rule is broken, no smaller one is, and where there is none, none is broken: a law of the definitions.
+/// The lowest-numbered rule is broken, no smaller one is, and where there is none, none is broken:
+/// a law of the definitions.
 pub fn least_is_least()
     ensures { (broken : BrokenRules) → IsLeast (rules_of broken) (least_of broken) }
 {}

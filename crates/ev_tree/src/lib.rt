@@ -13,14 +13,15 @@
 //! - The lowerCamelCase spelling is made each time that a field is looked up, which takes memory for a short text; so
 //!   each reader can answer `OutOfMemory`.
 //! - Beside the eight readers, which stop at the first wrong form, there is the module `member`, for callers that go on
-//!   and report the least rule: it gives an outcome instead of an error.
+//!   and report the lowest-numbered rule: it gives an outcome instead of an error.
 //! - The plain text of a tree has -1 for each float, of which `serde_json` doesn't say how it is written. Commands that
 //!   write scripts write trees so (ev_trees), and bodies are compared by it.
 //! - Addresses and config sources are read here, in either profile, since hosts, clusters and listeners share them. The
 //!   text of an address that isn't a socket's is made of its parts (`AddressText`), so that a socket's is never copied.
 //! - The broken rules of a body are a struct with a field a rule, in place of a list or of bits: a part's definition
-//!   then has a line for each rule that it breaks, and a rule to come costs a line. V4, V5 and V15 have no field,
-//!   since they aren't rules of form.
+//!   then has a line for each rule that it breaks, and a proof looks at a rule by its field, which computes. A set of
+//!   numbers would be listed once instead of in four definitions, but each literal of it would be a call with a step of
+//!   its own in the proofs. V4, V5 and V15 have no field, since they aren't rules of form.
 //! - The limit of a name is here and in ev_types, since neither crate depends on the other; all other limits are
 //!   once.
 #![tactic(auto)]

@@ -29,8 +29,8 @@ pub fn u32_value(value: &Value) -> Option<u32>
     u32::try_from(value.as_u64()?).ok()
 }
 
-/// A value as an i64: a whole number below 2^63 that isn't negative, or a decimal text that writes one. A negative number
-/// stands as a text, as protobuf's JSON mapping writes it.
+/// A value as an i64: a whole number below 2^63 that isn't negative,
+/// or a decimal text that writes one. A negative number stands as a text, as protobuf's JSON mapping writes it.
 #[tactic(auto, unfolding(crate::specs::Scalars::i64_in))]
 pub fn i64_value(value: &Value) -> Option<i64>
     ensures { result ≡ i64_in (view value.now) }

@@ -2,6 +2,7 @@ ghost use Rattle.ev_tree.specs.declared.outcome.ReadError.TheVariants.{OutOfMemo
 ghost use Rattle.std.specs.Prelude.{◌≡◌};
 ghost use Rattle.ev_tree.specs.Forms.{is_wrong, is_given, is_absent, given_or};
 
+use ev_types::Rule;
 use std::alloc::{AllocError, AllocFailed};
 use std::error::Error;
 use std::fmt;
@@ -9,8 +10,8 @@ use std::fmt;
 /// Why a field or a resource gives no value.
 #[derive(Clone, Copy, Debug, PartialEq, Eq)]
 pub enum ReadError {
-    /// The rule that is broken, by its number.
-    Rule(u8),
+    /// The rule that is broken.
+    Rule(Rule),
     /// Memory ran out. It says nothing of what was read.
     OutOfMemory,
 }
@@ -18,7 +19,7 @@ pub enum ReadError {
 impl fmt::Display for ReadError {
     fn fmt<W: fmt::Write>(&self, f: &mut fmt::Formatter<W>) -> fmt::Result {
         match self {
-            ReadError::Rule(number) => write!(f, "V{number}"),
+            ReadError::Rule(rule) => write!(f, "V{}", rule.number()),
             ReadError::OutOfMemory => write!(f, "out of memory"),
         }
     }

@@ -6,11 +6,9 @@ use crate::member;
 use crate::outcome::{Found, ReadError};
 use crate::span::Span;
 use crate::tables::EnumTable;
+use ev_types::Rule;
 use serde_json::Value;
 use std::alloc::Global;
-
-/// The rule that a wrong form breaks.
-const WRONG_FORM: u8 = 6;
 
 // The answer that a reader gives: a wrong form is V6.
 fn answer<T>(found: Found<T>) -> Result<Option<T>, ReadError>
@@ -18,7 +16,7 @@ fn answer<T>(found: Found<T>) -> Result<Option<T>, ReadError>
 {
     match found {
         Found::Absent => Ok(None),
-        Found::Wrong => Err(ReadError::Rule(WRONG_FORM)),
+        Found::Wrong => Err(ReadError::Rule(Rule::V6)),
         Found::Given(value) => Ok(Some(value)),
     }
 }
@@ -27,7 +25,7 @@ fn answer<T>(found: Found<T>) -> Result<Option<T>, ReadError>
 /// as absent, and what is no object has no fields.
 ///
 /// # Errors
-/// `Rule(6)` where the field is given in both spellings, and `OutOfMemory`.
+/// `V6` where the field is given in both spellings, and `OutOfMemory`.
 pub fn field<'a>(
     alloc: Global,
     object: &'a Value,
@@ -41,7 +39,7 @@ pub fn field<'a>(
 /// A field that is a string.
 ///
 /// # Errors
-/// `Rule(6)` where it has another form or both spellings, and `OutOfMemory`; so do all readers below.
+/// `V6` where it has another form or both spellings, and `OutOfMemory`; so do all readers below.
 pub fn text<'a>(alloc: Global, object: &'a Value, name: &str) -> Result<Option<&'a str>, ReadError>
     ensures { Answers (λ s. s.now) result (text_of name.now (view object.now)) }
 {

@@ -2,10 +2,11 @@ ghost use Rattle.std.specs.Prelude.{◌≡◌, ℕ, List, Bool};
 ghost use Rattle.ev_tree.specs.Rules.{least, is_name, IsAscending, IsLeast};
 
 use crate::limits::MAX_NAME_BYTES;
+use ev_types::Rule;
 
-/// The first rule of a list that is broken: each entry is a rule's number and whether it is broken. In
+/// The first rule of a list that is broken: each entry is a rule and whether it is broken. In
 /// a list in ascending order it is the least.
-pub fn least(rules: &[(u8, bool)]) -> Option<u8>
+pub fn least(rules: &[(Rule, bool)]) -> Option<Rule>
     ensures { result ≡ least rules.now }
 {
     for (rule, broken) in rules {

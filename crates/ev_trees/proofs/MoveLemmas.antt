@@ -54,8 +54,8 @@ health_line-moves at other tree = moves_cond other (has_only (codes "op" ∷ cod
 drain_line-moves : (at other : ℕ) (tree : Data) → Moves other (drain_line other tree) (drain_line at tree)
 drain_line-moves at other tree = moves_cond other (has_only (codes "op" ∷ codes "listener" ∷ []) tree) _ _ None None (at_moves at other _ _) refl
 
-expired_line-moves : (at other : ℕ) (tree : Data) → Moves other (expired_line other tree) (expired_line at tree)
-expired_line-moves at other tree = moves_cond other (has_only (codes "op" ∷ codes "type" ∷ codes "name" ∷ []) tree) _ _ None None (at_moves at other _ _) refl
+expired_line-moves : (profile : Profile) (at other : ℕ) (tree : Data) → Moves other (expired_line profile other tree) (expired_line profile at tree)
+expired_line-moves profile at other tree = moves_cond other (has_only (codes "op" ∷ codes "type" ∷ codes "name" ∷ []) tree) _ _ None None (at_moves at other _ _) refl
 
 publish_line-moves : (at other : ℕ) (tree : Data) → Moves other (publish_line other tree) (publish_line at tree)
 publish_line-moves at other tree = moves_cond other (has_only (codes "op" ∷ []) tree) _ _ None None (at_moves at other Main (Some Publish)) refl
@@ -63,8 +63,8 @@ publish_line-moves at other tree = moves_cond other (has_only (codes "op" ∷ []
 reap_line-moves : (at other : ℕ) (tree : Data) → Moves other (reap_line other tree) (reap_line at tree)
 reap_line-moves at other tree = moves_cond other (has_only (codes "op" ∷ []) tree) _ _ None None (at_moves at other Main (Some Reap)) refl
 
-timeout_line-moves : (at other : ℕ) (tree : Data) → Moves other (timeout_line other tree) (timeout_line at tree)
-timeout_line-moves at other tree = at_moves at other _ _
+timeout_line-moves : (profile : Profile) (at other : ℕ) (tree : Data) → Moves other (timeout_line profile other tree) (timeout_line profile at tree)
+timeout_line-moves profile at other tree = at_moves at other _ _
 
 accept_line-moves : (profile : Profile) (at other : ℕ) (tree : Data) → Moves other (accept_line profile other tree) (accept_line profile at tree)
 accept_line-moves profile at other tree =
@@ -82,9 +82,9 @@ main_side-moves profile op at other tree =
     (moves_cond other (bytes_eq op (codes "disconnect")) _ _ _ _ (disconnect_line-moves at other tree)
     (moves_cond other (bytes_eq op (codes "response")) _ _ _ _ (response_line-moves profile at other tree)
     (moves_cond other (bytes_eq op (codes "health")) _ _ _ _ (health_line-moves at other tree)
-    (moves_cond other (bytes_eq op (codes "fetchTimeout")) _ _ _ _ (timeout_line-moves at other tree)
+    (moves_cond other (bytes_eq op (codes "fetchTimeout")) _ _ _ _ (timeout_line-moves profile at other tree)
     (moves_cond other (bytes_eq op (codes "drainTimeout")) _ _ _ _ (drain_line-moves at other tree)
-    (moves_cond other (bytes_eq op (codes "ttlExpired")) _ _ _ _ (expired_line-moves at other tree)
+    (moves_cond other (bytes_eq op (codes "ttlExpired")) _ _ _ _ (expired_line-moves profile at other tree)
     (moves_cond other (bytes_eq op (codes "publish")) _ _ _ _ (publish_line-moves at other tree)
     (moves_cond other (bytes_eq op (codes "reap")) _ _ _ _ (reap_line-moves at other tree) refl))))))))
 

@@ -11,8 +11,9 @@ use Rattle.ev_script.specs.Faults.{Input, worker_of, plain_lines, HasNoFault}
 use Rattle.ev_script.specs.Script.{script_made, script_of}
 use Rattle.ev_trees.specs.Trees.{text_of_trees, ReadsBack, AreWithinLimits}
 
--- Trees that are a script when they are written, a line each: they are read back, the first is a header, and each other one,
--- by its place, a line of a worker below the header's count, where it is one of a worker.
+-- Trees that are a script when they are written, a line each:
+-- they are read back, the first is a header, and each other one, by its place,
+-- a line of a worker below the header's count, where it is one of a worker.
 pub record AreScript (header : Header) (lines : List Line) (head : Data) (trees : List Data) : Type 0 where
   pub read_back : All ReadsBack (head ∷ trees)
   pub limits : AreWithinLimits (head ∷ trees)

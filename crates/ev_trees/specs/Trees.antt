@@ -26,7 +26,8 @@ IsReadable tree = depth tree ≤ max_depth
 abbrev pub LinesOfTrees : Type 0
 LinesOfTrees = (trees : List Data) → lines_of (text_of_trees trees) ≡ map compact_text trees
 
--- the text of these trees is within the limits of inputs: no line is too long, and there are not too many lines or bytes
+-- the text of these trees is within the limits of inputs:
+-- no line is too long, and there are not too many lines or bytes
 pub record AreWithinLimits (trees : List Data) : Type 0 where
   pub short : All (λ tree. length (compact_text tree) ≤ MAX_LINE_BYTES) trees
   pub few : length trees ≤ MAX_LINES

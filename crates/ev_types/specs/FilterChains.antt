@@ -1,4 +1,5 @@
--- What filter chains ask for by each criterion, when two matches are equal, and when two chains take a connection in common.
+-- What filter chains ask for by each criterion, when two matches are equal,
+-- and when two chains take a connection in common.
 -- Source: Envoy's `FilterChainMatch`.
 use Rattle.std.specs.Prelude.{ℕ, ◌≡◌, ◌&&◌, ◌||◌, ◌==◌, Bool, true, false, List, [], ◌∷◌, option_to_list, refl}
 use Rattle.std.specs.Bool.{Decides}

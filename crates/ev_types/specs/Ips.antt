@@ -1,5 +1,6 @@
--- IP addresses by their bits, and ranges of them. An address is what Rust's `IpAddr::from_str` takes: an IPv4 address has four
--- decimal numbers without leading zeros, an IPv6 one is written as RFC 4291 has it, without a zone.
+-- IP addresses by their bits, and ranges of them. An address is what Rust's `IpAddr::from_str` takes:
+-- an IPv4 address has four decimal numbers without leading zeros,
+-- an IPv6 one is written as RFC 4291 has it, without a zone.
 use Rattle.std.specs.Prelude.{ℕ, ◌+◌, ◌-◌, ◌/◌, ◌^◌, ◌≡◌, ◌&&◌, ◌==◌, Bool, false, nat_le, if◌then◌else◌, List, [], map, reverse, Option, Some, None, option_map}
 use Rattle.std.specs.Bool.{Decides}
 use Rattle.std.specs.Option.{option_or}

@@ -2,9 +2,9 @@
 use Rattle.std.specs.Prelude.{◌≡◌, ◌≤◌, List, [], ℕ, Bool, true, All, Option, Some, None, length, ⊤}
 use Rattle.ev_types.specs.Texts.{IsName}
 use Rattle.ev_types.specs.declared.contents.Kind.{Kind}
-use Rattle.ev_types.specs.declared.contents.Kind.TheVariants.{Cds, Eds, Lds, Rds}
+use Rattle.ev_types.specs.declared.contents.Kind.TheVariants.{Cds, Eds, Lds, Rds, Sds, Ecds}
 use Rattle.ev_types.specs.declared.contents.Content.{Content}
-use Rattle.ev_types.specs.declared.contents.Content.TheVariants.{Cluster, Assignment, Listener, Routes}
+use Rattle.ev_types.specs.declared.contents.Content.TheVariants.{Cluster, Assignment, Listener, Routes, Secret, Extension}
 use Rattle.ev_types.specs.declared.contents.Body.{Body}
 use Rattle.ev_types.specs.declared.contents.Body.TheVariants.{Good, Bad, Beat}
 
@@ -22,6 +22,8 @@ IsOwnName name (Good (Cluster cluster)) = IsName name × (cluster.name ≡ name)
 IsOwnName name (Good (Assignment rows)) = IsName name
 IsOwnName name (Good (Listener listener)) = IsName name × (listener.name ≡ name)
 IsOwnName name (Good (Routes table)) = IsName name
+IsOwnName name (Good Secret) = IsName name
+IsOwnName name (Good Extension) = IsName name
 IsOwnName name (Bad rule) = ⊤
 IsOwnName name Beat = IsName name
 
@@ -54,6 +56,8 @@ content_kind (Cluster cluster) = Cds
 content_kind (Assignment rows) = Eds
 content_kind (Listener listener) = Lds
 content_kind (Routes table) = Rds
+content_kind Secret = Sds
+content_kind Extension = Ecds
 
 -- a good body has content of this type
 abbrev pub IsBodyOf : Kind → Body → Type 0

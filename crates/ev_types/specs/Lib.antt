@@ -2,6 +2,7 @@ pub mod Texts
 pub mod Same
 pub mod Hosts
 pub mod SameHosts
+pub mod SameReferences
 pub mod SameClusters
 pub mod Weights
 pub mod SameRoutes
@@ -15,6 +16,8 @@ pub mod Profiles
 pub mod Scripts
 pub mod Kinds
 pub mod Statuses
+pub mod Origins
+pub mod SameWays
 pub mod SameAnswers
 pub mod Ips
 pub mod FilterChains

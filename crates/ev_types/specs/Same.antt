@@ -1,4 +1,5 @@
--- Tests of equality, by which definitions compare contents. Each `.._decides` says that the test holds of equal values alone.
+-- Tests of equality, by which definitions compare contents.
+-- Each `.._decides` says that the test holds of equal values alone.
 use Rattle.std.specs.Prelude.{Bool, true, false, not, ◌≡◌, ◌&&◌, ◌==◌, refl, ℕ, List, Option, Some, None}
 use Rattle.std.specs.Bool.{Decides}
 use Rattle.std.specs.Cmp.{first_so, second_so, unsigned_Decides}

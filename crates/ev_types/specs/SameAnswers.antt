@@ -7,12 +7,14 @@ use Rattle.std.proofs.Common.{ap}
 use lib.Pointwise.{pointwise, pointwise_decides}
 use Rattle.ev_types.specs.declared.contents.Request.{Request}
 use Rattle.ev_types.specs.declared.events.Verdict.{Verdict}
-use Rattle.ev_types.specs.declared.events.Verdict.TheVariants.{New, Same, Kept, Unasked, Renewed, Refused}
+use Rattle.ev_types.specs.declared.events.Verdict.TheVariants.{New, Same, InPlace, Back, Kept, Unasked, Renewed, Refused}
 use Rattle.ev_types.specs.declared.events.Answer.{Answer}
-use Rattle.ev_types.specs.declared.events.Answer.TheVariants.{Ignored, Done, Moved, Replied, Version, Unchanged, Reaped, InUse, NoListener, NoChain, Undecided, Elsewhere, NoRoute, Redirect, NoCluster, NoEndpoint, Local, Served, NotOpen, Settled}
+use Rattle.ev_types.specs.declared.events.Answer.TheVariants.{Ignored, Done, Moved, Replied, Version, Unchanged, Reaped, InUse, NoListener, NoChain, On, NotOpen, Settled}
 use Rattle.ev_types.specs.Kinds.{kind_same, kind_decides}
 use Rattle.ev_types.specs.Same.{texts_same, both_decide, decides_as, bytes_decide, numbers_decide, option_decides}
 use Rattle.ev_types.specs.SameHosts.{host_same, host_decides}
+use Rattle.ev_types.specs.Origins.{chain_place_same, chain_place_decides}
+use Rattle.ev_types.specs.SameWays.{way_same, way_decides}
 
 -- both have the same text, or neither has one
 abbrev pub told_same : Option (List ℕ) → Option (List ℕ) → Bool
@@ -34,23 +36,13 @@ request_same a b =
 abbrev pub verdict_same : Verdict → Verdict → Bool
 verdict_same New New = true
 verdict_same Same Same = true
+verdict_same InPlace InPlace = true
+verdict_same Back Back = true
 verdict_same Kept Kept = true
 verdict_same Unasked Unasked = true
 verdict_same Renewed Renewed = true
 verdict_same (Refused a) (Refused b) = a == b
 verdict_same a b = false
-
--- the same way of a connection that a listener takes, with the same content
-abbrev pub way_same : Answer → Answer → Bool
-way_same (Undecided listener) (Undecided listener') = listener == listener'
-way_same (Elsewhere listener cluster) (Elsewhere listener' cluster') = (listener == listener') && option_eq (λ (m n : ℕ). m == n) cluster cluster'
-way_same (NoRoute listener) (NoRoute listener') = listener == listener'
-way_same (Redirect listener) (Redirect listener') = listener == listener'
-way_same (NoCluster listener) (NoCluster listener') = listener == listener'
-way_same (NoEndpoint listener) (NoEndpoint listener') = listener == listener'
-way_same (Local listener status) (Local listener' status') = (listener == listener') && (status == status')
-way_same (Served listener cluster host) (Served listener' cluster' host') = (listener == listener') && (cluster == cluster') && host_same host host'
-way_same a b = false
 
 -- the same answer, with the same content
 abbrev pub answer_same : Answer → Answer → Bool
@@ -64,9 +56,12 @@ answer_same (Reaped numbers) (Reaped numbers') = pointwise (λ (m n : ℕ). m ==
 answer_same InUse InUse = true
 answer_same NoListener NoListener = true
 answer_same NoChain NoChain = true
+answer_same (On listener chain way) (On listener' chain' way') =
+    (listener == listener') && option_eq chain_place_same chain chain' && way_same host_same way way'
 answer_same NotOpen NotOpen = true
-answer_same (Settled closed version) (Settled closed' version') = pointwise (λ (m n : ℕ). m == n) closed closed' && (version == version')
-answer_same a b = way_same a b
+answer_same (Settled closed moved version) (Settled closed' moved' version') =
+    pointwise (λ (m n : ℕ). m == n) closed closed' && pointwise (λ (m n : ℕ). m == n) moved moved' && (version == version')
+answer_same a b = false
 
 pub told_decides : (a b : Option (List ℕ)) → Decides (told_same a b) (a ≡ b)
 told_decides None None = (λ h. refl, λ e. refl)
@@ -110,6 +105,8 @@ request_decides a b = decides_as
 pub verdict_decides : (a b : Verdict) → Decides (verdict_same a b) (a ≡ b)
 verdict_decides New New = (λ h. refl, λ e. refl)
 verdict_decides Same Same = (λ h. refl, λ e. refl)
+verdict_decides InPlace InPlace = (λ h. refl, λ e. refl)
+verdict_decides Back Back = (λ h. refl, λ e. refl)
 verdict_decides Kept Kept = (λ h. refl, λ e. refl)
 verdict_decides Unasked Unasked = (λ h. refl, λ e. refl)
 verdict_decides Renewed Renewed = (λ h. refl, λ e. refl)
@@ -130,14 +127,11 @@ answer_decides (Reaped numbers) (Reaped numbers') = decides_as (numbers_all numb
 answer_decides InUse InUse = (λ h. refl, λ e. refl)
 answer_decides NoListener NoListener = (λ h. refl, λ e. refl)
 answer_decides NoChain NoChain = (λ h. refl, λ e. refl)
-answer_decides (Undecided listener) (Undecided listener') = decides_as (numbers_decide listener listener') (λ e. ap Undecided e) (λ e. cc)
-answer_decides (Elsewhere listener cluster) (Elsewhere listener' cluster') = decides_as (both_decide (numbers_decide listener listener') (option_decides numbers_decide cluster cluster')) (λ (p, q). λ i. Elsewhere (p i) (q i)) (λ e. (cc, cc))
-answer_decides (NoRoute listener) (NoRoute listener') = decides_as (numbers_decide listener listener') (λ e. ap NoRoute e) (λ e. cc)
-answer_decides (Redirect listener) (Redirect listener') = decides_as (numbers_decide listener listener') (λ e. ap Redirect e) (λ e. cc)
-answer_decides (NoCluster listener) (NoCluster listener') = decides_as (numbers_decide listener listener') (λ e. ap NoCluster e) (λ e. cc)
-answer_decides (NoEndpoint listener) (NoEndpoint listener') = decides_as (numbers_decide listener listener') (λ e. ap NoEndpoint e) (λ e. cc)
-answer_decides (Local listener status) (Local listener' status') = decides_as (both_decide (numbers_decide listener listener') (numbers_decide status status')) (λ (p, q). λ i. Local (p i) (q i)) (λ e. (cc, cc))
-answer_decides (Served listener cluster host) (Served listener' cluster' host') = decides_as (both_decide (both_decide (numbers_decide listener listener') (numbers_decide cluster cluster')) (host_decides host host')) (λ p. λ i. Served (p.0.0 i) (p.0.1 i) (p.1 i)) (λ e. ((cc, cc), cc))
+answer_decides (On listener chain way) (On listener' chain' way') = decides_as
+    (both_decide (both_decide (numbers_decide listener listener') (option_decides chain_place_decides chain chain')) (way_decides host_decides way way'))
+    (λ p. λ i. On (p.0.0 i) (p.0.1 i) (p.1 i)) (λ e. ((cc, cc), cc))
 answer_decides NotOpen NotOpen = (λ h. refl, λ e. refl)
-answer_decides (Settled closed version) (Settled closed' version') = decides_as (both_decide (numbers_all closed closed') (numbers_decide version version')) (λ (p, q). λ i. Settled (p i) (q i)) (λ e. (cc, cc))
+answer_decides (Settled closed moved version) (Settled closed' moved' version') = decides_as
+    (both_decide (both_decide (numbers_all closed closed') (numbers_all moved moved')) (numbers_decide version version'))
+    (λ p. λ i. Settled (p.0.0 i) (p.0.1 i) (p.1 i)) (λ e. ((cc, cc), cc))
 answer_decides a b = (λ h. cc, λ e. cc)

@@ -1,4 +1,5 @@
--- When what routes ask of requests is equal. As values tests that aren't decided are one, and so are such conditions and paths.
+-- When what routes ask of requests is equal. As values tests that aren't decided are one,
+-- and so are such conditions and paths.
 use Rattle.std.specs.Prelude.{Bool, true, false, ◌≡◌, ◌&&◌, refl}
 use Rattle.std.specs.Bool.{Decides}
 use Rattle.std.specs.Str.{bytes_eq}

@@ -1,8 +1,12 @@
 ghost use Rattle.std.specs.Prelude.{◌≡◌};
-ghost use Rattle.ev_types.specs.SameAnswers.{answer_same, way_same};
+ghost use Rattle.ev_types.specs.SameAnswers.{answer_same};
+ghost use Rattle.ev_types.specs.SameHosts.{host_same};
+ghost use Rattle.ev_types.specs.SameWays.{way_same};
 
 use crate::compared::are_same;
 use crate::events::Answer;
+use crate::hosts::Host;
+use crate::ways::Way;
 
 /// Whether the two are the same answer, with the same content. It goes over both once, and takes no memory: a list is
 /// compared by its length first, then place by place, and the first difference ends it.
@@ -38,61 +42,51 @@ pub fn is_same_answer(one: &Answer, other: &Answer) -> bool
         (
             Answer::Settled {
                 closed: ones,
+                moved: first_moved,
                 version: first,
             },
             Answer::Settled {
                 closed: others,
+                moved: second_moved,
                 version: second,
             },
-        ) => ones == others && first == second,
-        _ => is_same_way(one, other),
+        ) => ones == others && first_moved == second_moved && first == second,
+        (
+            Answer::On {
+                listener: one,
+                chain: first_chain,
+                way: first,
+            },
+            Answer::On {
+                listener: other,
+                chain: second_chain,
+                way: second,
+            },
+        ) => one == other && first_chain == second_chain && is_same_way(first, second),
+        _ => false,
     }
 }
 
-// Whether the two are the same way of a connection that a listener takes, with the same content.
-fn is_same_way(one: &Answer, other: &Answer) -> bool
-    ensures { result ≡ way_same one.now other.now }
+// Whether the two are the same way of a connection, with the same content.
+fn is_same_way(one: &Way<Host>, other: &Way<Host>) -> bool
+    ensures { result ≡ way_same host_same one.now other.now }
 {
     match (one, other) {
-        (Answer::Undecided { listener: one }, Answer::Undecided { listener: other })
-        | (Answer::NoRoute { listener: one }, Answer::NoRoute { listener: other })
-        | (Answer::Redirect { listener: one }, Answer::Redirect { listener: other })
-        | (Answer::NoCluster { listener: one }, Answer::NoCluster { listener: other })
-        | (Answer::NoEndpoint { listener: one }, Answer::NoEndpoint { listener: other }) => {
-            one == other
-        }
+        (Way::Undecided, Way::Undecided)
+        | (Way::NoRoute, Way::NoRoute)
+        | (Way::Redirect, Way::Redirect)
+        | (Way::NoCluster, Way::NoCluster)
+        | (Way::NoEndpoint, Way::NoEndpoint) => true,
+        (Way::Elsewhere { cluster: one }, Way::Elsewhere { cluster: other })
+        | (Way::NoSecret { cluster: one }, Way::NoSecret { cluster: other }) => one == other,
+        (Way::Local { status: one }, Way::Local { status: other }) => one == other,
         (
-            Answer::Elsewhere {
-                listener: one,
-                cluster: first,
-            },
-            Answer::Elsewhere {
-                listener: other,
-                cluster: second,
-            },
-        ) => one == other && first == second,
-        (
-            Answer::Local {
-                listener: one,
-                status: first,
-            },
-            Answer::Local {
-                listener: other,
-                status: second,
-            },
-        ) => one == other && first == second,
-        (
-            Answer::Served {
-                listener: one,
-                cluster: first,
-                host,
-            },
-            Answer::Served {
-                listener: other,
-                cluster: second,
+            Way::Served { cluster: one, host },
+            Way::Served {
+                cluster: other,
                 host: other_host,
             },
-        ) => one == other && first == second && host == other_host,
+        ) => one == other && host == other_host,
         _ => false,
     }
 }

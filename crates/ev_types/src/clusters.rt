@@ -1,4 +1,4 @@
-use crate::{Assignment, Name, Shared, Text, TryCopy};
+use crate::{Assignment, Name, Reference, Seq, Shared, Text, TryCopy};
 use std::alloc::{AllocError, Global};
 
 /// How a cluster finds its hosts.
@@ -81,6 +81,11 @@ pub struct Cluster {
     pub discovery: Discovery,
     /// Whether its hosts are health checked.
     pub checked: bool,
+    /// The secrets that its transport socket refers to, in order.
+    pub secrets: Seq<Reference>,
+    /// The secrets that the transport sockets refer to which it chooses by a host's metadata,
+    /// in order. `None` where it has no such socket. Source: Envoy's `transport_socket_matches`.
+    pub secrets_by_match: Option<Seq<Reference>>,
     /// The text of its body, by which a change of any field is told. It is empty where only the fields that are read
     /// count.
     pub body_text: Text,
@@ -98,6 +103,8 @@ impl PartialEq for Cluster {
         self.name == other.name
             && self.discovery == other.discovery
             && self.checked == other.checked
+            && self.secrets == other.secrets
+            && self.secrets_by_match == other.secrets_by_match
             && self.body_text == other.body_text
     }
 }

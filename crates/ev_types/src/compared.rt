@@ -75,9 +75,11 @@ impl Compared for Verdict {
     ghost same = { verdict_same };
 
     fn is_same(&self, other: &Verdict) -> bool {
-        match (*self, *other) {
+        match (self, other) {
             (Verdict::New, Verdict::New) => true,
             (Verdict::Same, Verdict::Same) => true,
+            (Verdict::InPlace, Verdict::InPlace) => true,
+            (Verdict::Back, Verdict::Back) => true,
             (Verdict::Kept, Verdict::Kept) => true,
             (Verdict::Unasked, Verdict::Unasked) => true,
             (Verdict::Renewed, Verdict::Renewed) => true,

@@ -1,10 +1,10 @@
 use crate::{
-    Assignment, Cluster, Listener, Name, NameError, RouteTable, Seq, Shared, Text, TryCopy,
+    Assignment, Cluster, Listener, Name, NameError, RouteTable, Rule, Seq, Shared, Text, TryCopy,
 };
 use std::alloc::{AllocError, Global};
 use std::marker::Model;
 
-/// The four types of resource, named by the services that bring them.
+/// The six types of resource, named by the services that bring them.
 #[derive(Clone, Copy, Debug, Hash)]
 pub enum Kind {
     /// Clusters.
@@ -15,11 +15,15 @@ pub enum Kind {
     Lds,
     /// Route configurations.
     Rds,
+    /// Secrets.
+    Sds,
+    /// Extensions: configurations of filters.
+    Ecds,
 }
 
 impl Kind {
     ghost use Rattle.std.specs.Prelude.{◌≡◌};
-    ghost use Rattle.ev_types.specs.Kinds.{kind_same};
+    ghost use Rattle.ev_types.specs.Kinds.{kind_same, is_by_name, type_url, kind_of_url};
 
     /// Whether both are the same kind.
     pub fn is(self, other: Kind) -> bool
@@ -30,7 +34,54 @@ impl Kind {
             (Kind::Eds, Kind::Eds) => true,
             (Kind::Lds, Kind::Lds) => true,
             (Kind::Rds, Kind::Rds) => true,
+            (Kind::Sds, Kind::Sds) => true,
+            (Kind::Ecds, Kind::Ecds) => true,
             _ => false,
+        }
+    }
+
+    /// Whether its resources are asked for by name. Clusters and listeners are asked for all at once.
+    pub fn is_by_name(self) -> bool
+        ensures { result ≡ is_by_name self }
+    {
+        match self {
+            Kind::Cds | Kind::Lds => false,
+            Kind::Eds | Kind::Rds | Kind::Sds | Kind::Ecds => true,
+        }
+    }
+
+    /// Its type URL.
+    pub fn type_url(self) -> &'static str
+        ensures { result.now ≡ type_url self }
+    {
+        match self {
+            Kind::Cds => "type.googleapis.com/envoy.config.cluster.v3.Cluster",
+            Kind::Eds => "type.googleapis.com/envoy.config.endpoint.v3.ClusterLoadAssignment",
+            Kind::Lds => "type.googleapis.com/envoy.config.listener.v3.Listener",
+            Kind::Rds => "type.googleapis.com/envoy.config.route.v3.RouteConfiguration",
+            Kind::Sds => "type.googleapis.com/envoy.extensions.transport_sockets.tls.v3.Secret",
+            Kind::Ecds => "type.googleapis.com/envoy.config.core.v3.TypedExtensionConfig",
+        }
+    }
+
+    /// The kind that has this type URL, or none for a type that isn't read.
+    pub fn of_url(url: &str) -> Option<Kind>
+        ensures { result ≡ kind_of_url url.now }
+    {
+        if url == Kind::Cds.type_url() {
+            Some(Kind::Cds)
+        } else if url == Kind::Eds.type_url() {
+            Some(Kind::Eds)
+        } else if url == Kind::Lds.type_url() {
+            Some(Kind::Lds)
+        } else if url == Kind::Rds.type_url() {
+            Some(Kind::Rds)
+        } else if url == Kind::Sds.type_url() {
+            Some(Kind::Sds)
+        } else if url == Kind::Ecds.type_url() {
+            Some(Kind::Ecds)
+        } else {
+            None
         }
     }
 }
@@ -55,13 +106,16 @@ impl Eq for Kind {
     ghost laws = { decided kind_same kind_decides };
 }
 
-/// What a resource of one of the four types says. It is shared: a copy takes no memory.
+/// What a resource of one of the six types says. It is shared: a copy takes no memory.
+/// A name has a secret or an extension, or hasn't: nothing in them is looked at.
 #[derive(Drop)]
 pub enum Content {
     Cluster(Shared<Cluster>),
     Assignment(Shared<Assignment>),
     Listener(Shared<Listener>),
     Routes(Shared<RouteTable>),
+    Secret,
+    Extension,
 }
 
 impl TryCopy for Content {
@@ -71,6 +125,8 @@ impl TryCopy for Content {
             Content::Assignment(rows) => Ok(Content::Assignment(rows.copy(alloc)?)),
             Content::Listener(listener) => Ok(Content::Listener(listener.copy(alloc)?)),
             Content::Routes(table) => Ok(Content::Routes(table.copy(alloc)?)),
+            Content::Secret => Ok(Content::Secret),
+            Content::Extension => Ok(Content::Extension),
         }
     }
 }
@@ -89,6 +145,8 @@ impl PartialEq for Content {
             (Content::Assignment(rows), Content::Assignment(other)) => rows == other,
             (Content::Listener(listener), Content::Listener(other)) => listener == other,
             (Content::Routes(table), Content::Routes(other)) => table == other,
+            (Content::Secret, Content::Secret) => true,
+            (Content::Extension, Content::Extension) => true,
             _ => false,
         }
     }
@@ -107,14 +165,15 @@ impl Eq for Content {
 pub enum Body {
     /// What the resource says.
     Good(Content),
-    /// The number of the least rule that the resource breaks.
-    Bad(u8),
+    /// The lowest-numbered rule that the resource breaks.
+    Bad(Rule),
     /// No body: the time to live of what is held is given anew.
     Beat,
 }
 
 /// A resource of a response, with its outer name and its version as they came.
-/// Where the body is good or a heartbeat, the name has 1 to 512 bytes; a good body of a cluster or listener has it as its own.
+/// Where the body is good or a heartbeat, the name has 1 to 512 bytes;
+/// a good body of a cluster or listener has it as its own.
 /// A heartbeat has a time to live.
 #[derive(Drop)]
 pub struct Item {
@@ -153,7 +212,7 @@ impl Item {
     }
 }
 
-/// A response of the incremental protocol. Where its type is none of the four, both lists are empty;
+/// A response of the incremental protocol. Where its type is none of the six, both lists are empty;
 /// a good body has the content of its type. Its nonce has at least one byte.
 #[derive(Drop)]
 pub struct Response {
@@ -176,7 +235,8 @@ impl Model for Response {
     ghost invariant = { λ r. IsResponse record { kind = r.kind; nonce = r.nonce; items = r.items; removed = r.removed } };
 }
 
-/// A request of the incremental protocol. A request that answers a response has its nonce, and an error where it refuses.
+/// A request of the incremental protocol. A request that answers a response has its nonce,
+/// and an error where it refuses.
 #[derive(Drop)]
 pub struct Request {
     pub kind: Kind,

@@ -1,5 +1,6 @@
 use crate::{
-    FetchTimeout, Gen, Host, Ip, Kind, Name, Request, Response, Seq, Shared, Text, TryCopy,
+    ChainPlace, FetchTimeout, Gen, Host, Ip, Kind, Name, Request, Response, Rule, Seq, Shared,
+    Text, TryCopy, Way,
 };
 use std::alloc::{AllocError, Global};
 use std::marker::Model;
@@ -57,8 +58,8 @@ pub struct Ask {
     pub pick: u64,
 }
 
-/// What happens to the managers. A response and what a connection asks for are shared, so that an event is small and a copy of it
-/// takes no memory for them.
+/// What happens to the managers. A response and what a connection asks for are shared,
+/// so that an event is small and a copy of it takes no memory for them.
 #[derive(Drop)]
 pub enum Event {
     /// A stream to the control plane opens.
@@ -173,6 +174,10 @@ pub enum Verdict {
     New,
     /// Its content is that of the newest generation.
     Same,
+    /// A new generation is made that keeps chains of the one that serves.
+    InPlace,
+    /// The generation that warms is dropped: the one that serves is what is asked for.
+    Back,
     /// Its value is kept for the name that is watched.
     Kept,
     /// No one asked for it.
@@ -180,7 +185,7 @@ pub enum Verdict {
     /// Its life is bounded anew: a heartbeat of the version that is kept.
     Renewed,
     /// It breaks this rule.
-    Refused(u8),
+    Refused(Rule),
 }
 
 impl TryCopy for Verdict {
@@ -217,47 +222,19 @@ pub enum Answer {
     NoListener,
     /// No filter chain of the listener takes it.
     NoChain,
-    /// Its way depends on what no script tells.
-    Undecided {
+    /// A listener takes it: which of its chains where one was found, and what becomes of it.
+    On {
         listener: Gen,
-    },
-    /// It goes where no script tells: to a host of the cluster where there is one, else by a filter or an extension.
-    Elsewhere {
-        listener: Gen,
-        cluster: Option<Gen>,
-    },
-    /// The listener has no route for it.
-    NoRoute {
-        listener: Gen,
-    },
-    /// It is answered by a redirect.
-    Redirect {
-        listener: Gen,
-    },
-    /// There is no cluster of the name that it is to go to.
-    NoCluster {
-        listener: Gen,
-    },
-    /// The cluster has no host that may be chosen.
-    NoEndpoint {
-        listener: Gen,
-    },
-    /// It is answered at once with this status.
-    Local {
-        listener: Gen,
-        status: u16,
-    },
-    /// It goes to this host.
-    Served {
-        listener: Gen,
-        cluster: Gen,
-        host: Host,
+        chain: Option<ChainPlace>,
+        way: Way<Host>,
     },
     /// The worker has no connection of this number open.
     NotOpen,
-    /// The worker holds this version, and these connections were closed.
+    /// The worker holds this version, these connections were closed,
+    /// and these moved to a listener that keeps their chain.
     Settled {
         closed: Seq<u64>,
+        moved: Seq<u64>,
         version: u64,
     },
 }
@@ -272,13 +249,6 @@ impl TryCopy for Answer {
             &Answer::InUse => Answer::InUse,
             &Answer::NoListener => Answer::NoListener,
             &Answer::NoChain => Answer::NoChain,
-            &Answer::Undecided { listener } => Answer::Undecided { listener },
-            &Answer::Elsewhere { listener, cluster } => Answer::Elsewhere { listener, cluster },
-            &Answer::NoRoute { listener } => Answer::NoRoute { listener },
-            &Answer::Redirect { listener } => Answer::Redirect { listener },
-            &Answer::NoCluster { listener } => Answer::NoCluster { listener },
-            &Answer::NoEndpoint { listener } => Answer::NoEndpoint { listener },
-            &Answer::Local { listener, status } => Answer::Local { listener, status },
             &Answer::NotOpen => Answer::NotOpen,
             Answer::Moved { requests } => Answer::Moved {
                 requests: requests.copy(alloc)?,
@@ -288,17 +258,22 @@ impl TryCopy for Answer {
                 verdicts: verdicts.copy(alloc)?,
             },
             Answer::Reaped(numbers) => Answer::Reaped(numbers.copy(alloc)?),
-            Answer::Served {
+            Answer::On {
                 listener,
-                cluster,
-                host,
-            } => Answer::Served {
+                chain,
+                way,
+            } => Answer::On {
                 listener: *listener,
-                cluster: *cluster,
-                host: host.copy(alloc)?,
+                chain: *chain,
+                way: way.copy(alloc)?,
             },
-            Answer::Settled { closed, version } => Answer::Settled {
+            Answer::Settled {
+                closed,
+                moved,
+                version,
+            } => Answer::Settled {
                 closed: closed.copy(alloc)?,
+                moved: moved.copy(alloc)?,
                 version: *version,
             },
         })
@@ -344,9 +319,10 @@ impl Profile {
     }
 }
 
-/// A script. It has 1 to `MAX_WORKERS` workers, a node of 1 to 512 bytes, and its lines' numbers rise from 2 at least to `count`
-/// at most, which is below `LINE_LIMIT`; each line has an actor that its event allows, and its responses have fewer than
-/// `ITEM_LIMIT` resources together.
+/// A script. It has 1 to `MAX_WORKERS` workers, a node of 1 to 512 bytes,
+/// and its lines' numbers rise from 2 at least to `count`
+/// at most, which is below `LINE_LIMIT`; each line has an actor that its event allows,
+/// and its responses have fewer than `ITEM_LIMIT` resources together.
 #[derive(Drop)]
 pub struct Script {
     pub workers: u32,

@@ -33,7 +33,8 @@ impl Eq for SourceType {
     ghost laws = { decided source_type_same source_type_decides };
 }
 
-/// Which connections a filter chain takes: of each criterion what it asks for, or nothing. Source: Envoy's `FilterChainMatch`.
+/// Which connections a filter chain takes: of each criterion what it asks for, or nothing. Source:
+/// Envoy's `FilterChainMatch`.
 #[derive(Drop)]
 pub struct FilterChainMatch {
     /// The port that the connection goes to.

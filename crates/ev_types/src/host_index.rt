@@ -11,8 +11,8 @@ use std::alloc::{AllocError, Global};
 use std::hash::{DefaultHasher, Hash};
 use std::marker::Model;
 
-/// Hosts, each once, with the place of its first row. One is found without a walk: by keys that are made of them all. Contracts
-/// see them as a list.
+/// Hosts, each once, with the place of its first row. One is found without a walk:
+/// by keys that are made of them all. Contracts see them as a list.
 #[derive(Drop)]
 pub(crate) struct HostIndex {
     places: IndexMap<Host, u32, Keys>,

@@ -58,8 +58,8 @@ impl Hash for Host {
     }
 }
 
-/// Where a listener listens: by TCP for connections, or by UDP for datagrams. The same address by both is two. Source: Envoy's
-/// `SocketAddress`.
+/// Where a listener listens: by TCP for connections, or by UDP for datagrams.
+/// The same address by both is two. Source: Envoy's `SocketAddress`.
 #[derive(Drop)]
 pub struct SocketAddress {
     pub host: Host,
@@ -157,9 +157,9 @@ impl Eq for HostRow {
 // The most rows of an assignment that are walked as fast as an index is asked.
 const WALKED_ROWS: usize = 16;
 
-/// The hosts of a cluster, in order, a repeated one too. There are fewer than `ROW_LIMIT`. Where single hosts are looked up in
-/// them, as for a health result, an index finds one without a walk over all; copies share it. Lists that are only read, as those
-/// of served clusters, have none, and short lists neither.
+/// The hosts of a cluster, in order, a repeated one too. There are fewer than `ROW_LIMIT`.
+/// Where single hosts are looked up in them, as for a health result, an index finds one without a walk over all;
+/// copies share it. Lists that are only read, as those of served clusters, have none, and short lists neither.
 #[derive(Drop)]
 pub struct Assignment {
     rows: Seq<HostRow>,
@@ -222,8 +222,8 @@ impl Assignment {
         self.place_of(host).is_some()
     }
 
-    /// The place of a host's first row: by a look-up where there is an index, else by a walk. Two hosts have one place only where
-    /// they are equal.
+    /// The place of a host's first row: by a look-up where there is an index, else by a walk.
+    /// Two hosts have one place only where they are equal.
     pub fn place_of(&self, host: &Host) -> Option<u32>
         ensures { result ≡ place_of host.now self.now }
     {

@@ -12,8 +12,9 @@ pub enum Ip {
 }
 
 impl Ip {
-    /// The address that a text writes, as `IpAddr::from_str` takes it: IPv4 by four decimal numbers without leading zeros, IPv6
-    /// by RFC 4291 without a zone. There is none where the text writes none.
+    /// The address that a text writes, as `IpAddr::from_str` takes it:
+    /// IPv4 by four decimal numbers without leading zeros, IPv6 by RFC 4291 without a zone.
+    /// There is none where the text writes none.
     #[tactic(auto, using(crate::proofs::IpLemmas::none_is_read))]
     pub fn read(text: &str) -> Option<Ip>
         ensures { result ≡ ip_of text.now }

@@ -6,7 +6,7 @@
 //! - Contents are shared: the variants of `Content` and `Serve::Inline` hold `Shared<..>`, a count over one value, so
 //!   a copy of a content takes no memory. Clauses and definitions see what is held: the types that definitions match
 //!   on are as before. `share` can be refused, since the kit's `Arc` stops at 2^63 - 1 owners and says so; so it
-//!   answers a `Result`, as `copy` does.
+//!   returns a `Result`, as `copy` does.
 //! - Names and texts are copied, not shared: most are short, and a shared one would take two allocations to make.
 //!   The text of a resource's body may be long, but it stands in a content, which is shared as a whole.
 //! - What a filter chain asks for is shared between its listener and the pictures that show it.
@@ -46,12 +46,16 @@ mod limits;
 mod listeners;
 mod lists;
 mod matchers;
+mod origins;
 mod queries;
+mod references;
 mod routes;
 mod rows;
+mod rules;
 mod shared;
 mod texts;
 mod timeouts;
+mod ways;
 
 pub use answers::is_same_answer;
 pub use clusters::{Cluster, Discovery};
@@ -73,11 +77,15 @@ pub use matchers::{
     HeaderMatcher, HeaderTest, PathSpecifier, RouteCondition, RouteMatch, StringMatcher,
     StringPattern,
 };
+pub use origins::{ChainPlace, KeptChain, Origin};
 pub use queries::{QueryParameterMatcher, QueryTest};
+pub use references::Reference;
 pub use routes::{
     Action, PathMatch, Route, RouteTable, Target, VirtualHost, WeightedCluster, WeightedClusters,
 };
 pub use rows::{Arrival, Gen, GenRow, KeptVersion, Live, Lives, Phase, RowStatus};
+pub use rules::Rule;
 pub use shared::Shared;
 pub use texts::{Name, NameError, Text};
 pub use timeouts::FetchTimeout;
+pub use ways::Way;

@@ -1,4 +1,6 @@
-use crate::{FilterChainMatch, Name, RouteTable, Seq, Shared, SocketAddress, Target, Text};
+use crate::{
+    FilterChainMatch, Name, Reference, RouteTable, Seq, Shared, SocketAddress, Target, Text,
+};
 
 /// What a filter chain serves.
 #[derive(Drop)]
@@ -56,6 +58,13 @@ pub struct FilterChain {
     /// Which connections it takes. It is shared with the pictures that show it.
     pub criteria: Shared<FilterChainMatch>,
     pub serve: Serve,
+    /// The secrets that its transport socket refers to, in order.
+    pub secrets: Seq<Reference>,
+    /// The extensions that its filters refer to, in order.
+    pub extensions: Seq<Reference>,
+    /// The text of its own element of the listener, by which a change of any field of it is told.
+    /// It is empty where only the fields that are read count.
+    pub body_text: Text,
 }
 
 impl PartialEq for FilterChain {
@@ -67,7 +76,11 @@ impl PartialEq for FilterChain {
     ghost laws = { partial_equiv_from_equiv (decided filter_chain_same filter_chain_decides) };
 
     fn eq(&self, other: &FilterChain) -> bool {
-        self.criteria == other.criteria && self.serve == other.serve
+        self.criteria == other.criteria
+            && self.serve == other.serve
+            && self.secrets == other.secrets
+            && self.extensions == other.extensions
+            && self.body_text == other.body_text
     }
 }
 
@@ -92,8 +105,13 @@ pub struct Listener {
     pub hands_over: bool,
     /// Its chains in order.
     pub filter_chains: Seq<FilterChain>,
-    /// What connections are served that no chain takes, if they are.
-    pub default_filter_chain: Option<Serve>,
+    /// The chain of connections that no other chain takes, if there is one. Its criteria ask for nothing.
+    pub default_filter_chain: Option<FilterChain>,
+    /// The extensions that its listener filters refer to, in order.
+    pub extensions: Seq<Reference>,
+    /// The text of its body without its chains, by which it is told whether the chains alone changed.
+    /// It is empty where only the fields that are read count.
+    pub frame_text: Text,
     /// The text of its body, by which a change of any field is told. It is empty where only the fields that are read
     /// count.
     pub body_text: Text,
@@ -108,7 +126,7 @@ impl PartialEq for Listener {
     ghost laws = { partial_equiv_from_equiv (decided listener_same listener_decides) };
 
     fn eq(&self, other: &Listener) -> bool {
-        self.listens_as(other) && self.serves_as(other)
+        self.listens_as(other) && self.serves_as(other) && self.is_written_as(other)
     }
 }
 
@@ -121,7 +139,7 @@ impl Eq for Listener {
 
 impl Listener {
     ghost use Rattle.std.specs.Prelude.{◌≡◌};
-    ghost use Rattle.ev_types.specs.SameListeners.{listens_same, serves_same};
+    ghost use Rattle.ev_types.specs.SameListeners.{listens_same, serves_same, written_same};
 
     // Whether both have the same address and the same marks.
     fn listens_as(&self, other: &Listener) -> bool
@@ -133,13 +151,21 @@ impl Listener {
             && self.hands_over == other.hands_over
     }
 
-    // Whether both have the same name, chains and text.
+    // Whether both have the same chains and refer to the same extensions.
     fn serves_as(&self, other: &Listener) -> bool
         ensures { result ≡ serves_same self.now other.now }
     {
-        self.name == other.name
-            && self.filter_chains == other.filter_chains
+        self.filter_chains == other.filter_chains
             && self.default_filter_chain == other.default_filter_chain
+            && self.extensions == other.extensions
+    }
+
+    // Whether both have the same name and texts.
+    fn is_written_as(&self, other: &Listener) -> bool
+        ensures { result ≡ written_same self.now other.now }
+    {
+        self.name == other.name
+            && self.frame_text == other.frame_text
             && self.body_text == other.body_text
     }
 }

@@ -1,8 +1,8 @@
-use crate::{Content, Kind, Name, Seq, Text, TryCopy};
+use crate::{Content, KeptChain, Kind, Name, Seq, Text, TryCopy};
 use std::alloc::{AllocError, Global};
 use std::marker::Model;
 
-/// The number of a generation, from 1. Numbers are drawn from one counter for clusters and listeners.
+/// The number of a generation, from 1. Numbers are allocated from one counter for clusters and listeners.
 #[derive(Clone, Copy, Debug, PartialEq, Eq, PartialOrd, Ord, Hash)]
 pub struct Gen {
     number: u32,
@@ -94,6 +94,8 @@ pub struct GenRow {
     pub name: Name,
     pub content: Content,
     pub status: RowStatus,
+    /// The chains that a listener changed in place has from the generation before it. Its other chains began with it.
+    pub kept: Seq<KeptChain>,
 }
 
 /// A live generation: one that warms or serves.
@@ -134,7 +136,7 @@ pub enum Phase {
     Serving,
 }
 
-/// What came for a watched name.
+/// What was received for a watched name.
 #[derive(Drop)]
 pub enum Arrival {
     /// A resource.

@@ -1,5 +1,5 @@
--- The verdicts by look-ups are the verdicts over what is live: what is live after some resources follows from what was known before
--- the response and from what the response made.
+-- The verdicts by look-ups are the verdicts over what is live:
+-- what is live after some resources follows from what was known before the response and from what the response made.
 use Rattle.std.proofs.Common.{◌≡◌, ℕ, ◌+◌, ◌≤◌, Bool, true, false, ◌&&◌, ◌||◌, not, cond, List, [], ◌∷◌, ◌++◌, append-nil, append_assoc, filter, map, length, length-append, Option, Some, None, Result, Ok, Err, refl, ap, sym, subst, ◌∙◌, arith}
 use Rattle.std.specs.Prelude.{nat_le}
 use Rattle.std.specs.List.{list_any}
@@ -14,28 +14,29 @@ use Rattle.std.proofs.lemmas.List.Elements.{filter-append}
 use Rattle.std.proofs.lemmas.List.Folds.{list_any-append}
 use Rattle.std.proofs.lemmas.Slice.Eq.{bytes_eq-Decides}
 use Rattle.ev_types.specs.Items.{ItemParts, ResponseParts}
-use Rattle.ev_types.specs.Kinds.{kind_same}
+use Rattle.ev_types.specs.Kinds.{kind_same, is_by_name}
 use Rattle.ev_types.specs.declared.contents.Kind.{Kind}
-use Rattle.ev_types.specs.declared.contents.Kind.TheVariants.{Cds, Eds, Lds, Rds}
+use Rattle.ev_types.specs.declared.contents.Kind.TheVariants.{Cds, Eds, Lds, Rds, Sds, Ecds}
 use Rattle.ev_types.specs.declared.contents.Body.{Body}
 use Rattle.ev_types.specs.declared.contents.Body.TheVariants.{Good, Bad, Beat}
 use Rattle.ev_types.specs.declared.contents.Content.{Content}
 use Rattle.ev_types.specs.declared.events.Verdict.{Verdict}
-use Rattle.ev_types.specs.declared.events.Verdict.TheVariants.{New, Same, Kept, Unasked, Renewed, Refused}
+use Rattle.ev_types.specs.declared.events.Verdict.TheVariants.{New, InPlace, Back, Same, Kept, Unasked, Renewed, Refused}
 use Rattle.ev_types.specs.declared.hosts.SocketAddress.{SocketAddress}
 use Rattle.ev_types.specs.declared.rows.KeptVersion.{KeptVersion}
 use Rattle.ev_types.specs.declared.rows.Live.{Live}
 use Rattle.ev_model.specs.Live.{is_named, latest, newest_of}
-use Rattle.ev_model.specs.Verdicts.{against, body_verdict, good_verdict, is_among, is_heard, is_removed, items_named, lesser, lives_after, lives_left, listening_address, number_after, removed_rule, form_rule, rule_of, shares_address, stale_rule, twice_rule, verdict_by, verdict_of, verdicts_by, verdicts_for, verdicts_from, verdicts_of, with_new}
-use Rattle.ev_model.specs.Watching.{is_by_name, is_watched}
+use Rattle.ev_model.specs.Verdicts.{against, body_verdict, good_verdict, is_among, is_heard, is_removed, items_named, lesser, lives_after, lives_left, listening_address, number_after, removed_rule, form_rule, rule_of, shares_address, stale_rule, twice_rule, verdict_by, verdict_of, verdicts_by, verdicts_for, verdicts_from, verdicts_of, with_new, without_warming, serving_of, listener_verdict, value_verdict}
+use Rattle.ev_model.specs.Watching.{is_watched}
 use Rattle.ev_mentions.specs.Lives.{is_at}
 use Rattle.ev_verdicts.specs.Known.{Answers, Tells, answers_of}
-use Rattle.ev_verdicts.specs.Judged.{MadeKept, all_judged, body_by, good_by, is_heard_by, is_made, is_taken_by, judged, made_by, names_at, rule_by, ruled, stale_by, stays}
-use Rattle.ev_verdicts.proofs.ListLemmas.{any_filter, any_same, any_of_none, filter_within, all_kept}
+use Rattle.ev_verdicts.specs.Judged.{MadeKept, all_judged, body_by, good_by, is_heard_by, is_made, is_taken_by, judged, made_by, names_at, rule_by, ruled, stale_by, stays, with_made}
+use Rattle.ev_verdicts.proofs.ListLemmas.{any_filter, any_same, any_of_none, filter_within, find_within, find_before, all_kept}
 
 -- what is live now, by what was known before the response and what it made
 record Follows (answers : Answers) (kind : Kind) (response : ResponseParts) (made : MadeKept) (now : List Live) : Type 0 where
   pub newest : (name : List ℕ) → is_made made name ≡ false → is_removed response name ≡ false → newest_of now kind name ≡ answers.newest kind name
+  pub serving : (name : List ℕ) → is_removed response name ≡ false → serving_of now kind name ≡ answers.serving kind name
   pub holders : (address : SocketAddress) (test : Kind → List ℕ → Bool → Bool)
       → list_any (λ (live : Live). is_at address live && test live.kind live.name live.warming) now
       ≡ (list_any (λ (live : Live). stays kind response made live && test live.kind live.name live.warming) (answers.holders address)
@@ -45,6 +46,10 @@ record Follows (answers : Answers) (kind : Kind) (response : ResponseParts) (mad
 and_right : (a b : Bool) → a && b ≡ true → b ≡ true
 and_right true b both = both
 and_right false b both = absurd (false≢true both)
+
+and_left : (a b : Bool) → a && b ≡ true → a ≡ true
+and_left true b both = refl
+and_left false b both = absurd (false≢true both)
 
 or_left : (a b : Bool) → a || b ≡ false → a ≡ false
 or_left true b none = none
@@ -62,6 +67,10 @@ or_none false = refl
 and_none : (a : Bool) → a && false ≡ false
 and_none true = refl
 and_none false = refl
+
+-- it serves the name
+abbrev serves : Kind → List ℕ → Live → Bool
+serves kind name live = is_named kind name live && not live.warming
 
 -- a name that is equal to another isn't equal to a third that the other isn't equal to
 other_name : (x q name : List ℕ) → bytes_eq x q ≡ true → bytes_eq name q ≡ false → bytes_eq x name ≡ false
@@ -95,6 +104,10 @@ follows_first answers kind response lives versions tells = record {
       ap latest (filter_within (is_named kind name) (λ (live : Live). not (kind_same live.kind kind && is_removed response live.name))
       (λ live. not_removed kind response name live removed) lives)
       ∙ sym (tells.newest kind name);
+  serving = λ name removed.
+      find_within (serves kind name) (λ (live : Live). not (kind_same live.kind kind && is_removed response live.name))
+      (λ live passes. not_removed kind response name live removed (and_left (is_named kind name live) (not live.warming) passes)) lives
+      ∙ sym (tells.serving kind name);
   holders = λ address test.
       any_filter (λ (live : Live). is_at address live && test live.kind live.name live.warming) (λ (live : Live). not (kind_same live.kind kind && is_removed response live.name)) lives
       ∙ any_same (λ (live : Live). not (kind_same live.kind kind && is_removed response live.name) && (is_at address live && test live.kind live.name live.warming))
@@ -139,6 +152,31 @@ newest_with kind name q content now isnt =
     (filter-append (is_named kind q) (filter (leaves kind name) now) (new ∷ [])
     ∙ (λ i. filter_within (is_named kind q) (leaves kind name) (λ live. leaves_other kind name q live isnt) now i ++ named_new kind name q content (number_after (latest now)) isnt i)
     ∙ append-nil (filter (is_named kind q) now))
+
+-- what serves doesn't warm, so it stays
+serves_left : (n w s : Bool) → s && not w ≡ true → not (n && w) ≡ true
+serves_left n true true is = absurd (false≢true is)
+serves_left n true false is = absurd (false≢true is)
+serves_left true false s is = refl
+serves_left false false s is = refl
+
+-- who serves a name is as before, once what warms under a name is removed
+serving_left : (kind : Kind) (name q : List ℕ) (now : List Live) → serving_of (without_warming kind name now) kind q ≡ serving_of now kind q
+serving_left kind name q now =
+    find_within (serves kind q) (leaves kind name)
+    (λ live. serves_left (is_named kind name live) live.warming (is_named kind q live)) now
+
+never_serves : (n : Bool) → n && false ≡ false
+never_serves true = refl
+never_serves false = refl
+
+-- and with a new generation
+serving_with : (kind : Kind) (name q : List ℕ) (content : Content) (now : List Live)
+    → serving_of (with_new kind name content now) kind q ≡ serving_of now kind q
+serving_with kind name q content now =
+    let new : Live = record { kind = kind; number = number_after (latest now); name = name; content = content; warming = true } in
+    find_before (serves kind q) new (never_serves (is_named kind q new)) (without_warming kind name now)
+    ∙ serving_left kind name q now
 
 untouched : (k t : Bool) → t && not ((k && false) && true) ≡ t
 untouched true true = refl
@@ -214,7 +252,24 @@ or_assoc false true c = refl
 or_assoc false false true = refl
 or_assoc false false false = refl
 
--- who holds an address, with a new generation
+-- who holds an address, once what warms under the name is removed
+holders_left : (answers : Answers) (kind : Kind) (response : ResponseParts) (made : MadeKept) (name : List ℕ) (place : Option SocketAddress) (now : List Live)
+    → is_made made name ≡ false → Follows answers kind response made now → (address : SocketAddress) (test : Kind → List ℕ → Bool → Bool)
+    → list_any (λ (live : Live). is_at address live && test live.kind live.name live.warming) (without_warming kind name now)
+    ≡ (list_any (λ (live : Live). stays kind response (made ++ (name, place) ∷ []) live && test live.kind live.name live.warming) (answers.holders address)
+    || list_any (λ n. test kind n true) (names_at address made))
+holders_left answers kind response made name place now none was address test =
+    let passes = λ (live : Live). is_at address live && test live.kind live.name live.warming in
+    any_filter passes (leaves kind name) now
+    ∙ any_same (λ (live : Live). leaves kind name live && passes live) (λ (live : Live). is_at address live && left_test kind name test live.kind live.name live.warming)
+    (λ live. swap_pointwise (leaves kind name live) (is_at address live) (test live.kind live.name live.warming)) now
+    ∙ was.holders address (left_test kind name test)
+    ∙ (λ i. any_same (λ (live : Live). stays kind response made live && left_test kind name test live.kind live.name live.warming)
+    (λ (live : Live). stays kind response (made ++ (name, place) ∷ []) live && test live.kind live.name live.warming)
+    (stays_more kind response made name place test) (answers.holders address) i
+    || made_names kind name test address made none i)
+
+-- and with a new generation
 holders_with : (answers : Answers) (kind : Kind) (response : ResponseParts) (made : MadeKept) (name : List ℕ) (content : Content) (now : List Live)
     → is_made made name ≡ false → Follows answers kind response made now → (address : SocketAddress) (test : Kind → List ℕ → Bool → Bool)
     → list_any (λ (live : Live). is_at address live && test live.kind live.name live.warming) (with_new kind name content now)
@@ -224,25 +279,14 @@ holders_with answers kind response made name content now none was address test =
     let new : Live = record { kind = kind; number = number_after (latest now); name = name; content = content; warming = true } in
     let passes = λ (live : Live). is_at address live && test live.kind live.name live.warming in
     let place = listening_address content in
-    let before : list_any passes (filter (leaves kind name) now)
-    ≡ (list_any (λ (live : Live). stays kind response (made ++ (name, place) ∷ []) live && test live.kind live.name live.warming) (answers.holders address)
-    || list_any (λ n. test kind n true) (names_at address made)) =
-    any_filter passes (leaves kind name) now
-    ∙ any_same (λ (live : Live). leaves kind name live && passes live) (λ (live : Live). is_at address live && left_test kind name test live.kind live.name live.warming)
-    (λ live. swap_pointwise (leaves kind name live) (is_at address live) (test live.kind live.name live.warming)) now
-    ∙ was.holders address (left_test kind name test)
-    ∙ (λ i. any_same (λ (live : Live). stays kind response made live && left_test kind name test live.kind live.name live.warming)
-    (λ (live : Live). stays kind response (made ++ (name, place) ∷ []) live && test live.kind live.name live.warming)
-    (stays_more kind response made name place test) (answers.holders address) i
-    || made_names kind name test address made none i) in
     list_any-append passes (filter (leaves kind name) now) (new ∷ [])
-    ∙ ap (λ b. b || (passes new || false)) before
+    ∙ ap (λ b. b || (passes new || false)) (holders_left answers kind response made name place now none was address test)
     ∙ or_assoc (list_any (λ (live : Live). stays kind response (made ++ (name, place) ∷ []) live && test live.kind live.name live.warming) (answers.holders address))
     (list_any (λ n. test kind n true) (names_at address made)) (passes new)
     ∙ ap (λ b. list_any (λ (live : Live). stays kind response (made ++ (name, place) ∷ []) live && test live.kind live.name live.warming) (answers.holders address) || b)
     (sym (names_with (λ n. test kind n true) address made name place))
 
--- after a new generation of a name under which none was made yet
+-- after a new generation of a name under which nothing was made yet
 follows_new : (answers : Answers) (kind : Kind) (response : ResponseParts) (made : MadeKept) (name : List ℕ) (content : Content) (now : List Live)
     → is_made made name ≡ false → is_by_name kind ≡ false → Follows answers kind response made now
     → Follows answers kind response (made ++ (name, listening_address content) ∷ []) (with_new kind name content now)
@@ -251,7 +295,26 @@ follows_new answers kind response made name content now none whole was = record 
       let parts : (is_made made q || bytes_eq name q) ≡ false = sym (made_more made name (listening_address content) q) ∙ isnt in
       newest_with kind name q content now (or_right (is_made made q) (bytes_eq name q) parts)
       ∙ was.newest q (or_left (is_made made q) (bytes_eq name q) parts) kept;
+  serving = λ q kept. serving_with kind name q content now ∙ was.serving q kept;
   holders = holders_with answers kind response made name content now none was;
+  watched = λ by_name. absurd (false≢true (sym whole ∙ by_name));
+}
+
+-- after it went back to the generation that serves
+follows_back : (answers : Answers) (kind : Kind) (response : ResponseParts) (made : MadeKept) (name : List ℕ) (now : List Live)
+    → is_made made name ≡ false → is_by_name kind ≡ false → Follows answers kind response made now
+    → Follows answers kind response (made ++ (name, None) ∷ []) (without_warming kind name now)
+follows_back answers kind response made name now none whole was = record {
+  newest = λ q isnt kept.
+      let parts : (is_made made q || bytes_eq name q) ≡ false = sym (made_more made name None q) ∙ isnt in
+      ap latest
+      (filter_within (is_named kind q) (leaves kind name) (λ live. leaves_other kind name q live (or_right (is_made made q) (bytes_eq name q) parts)) now)
+      ∙ was.newest q (or_left (is_made made q) (bytes_eq name q) parts) kept;
+  serving = λ q kept. serving_left kind name q now ∙ was.serving q kept;
+  holders = λ address test.
+      holders_left answers kind response made name None now none was address test
+      ∙ ap (λ b. list_any (λ (live : Live). stays kind response (made ++ (name, None) ∷ []) live && test live.kind live.name live.warming) (answers.holders address) || b)
+      (sym (names_with (λ n. test kind n true) address made name None ∙ or_none (list_any (λ n. test kind n true) (names_at address made))));
   watched = λ by_name. absurd (false≢true (sym whole ∙ by_name));
 }
 
@@ -323,6 +386,8 @@ heard_same answers Cds response made now name was = refl
 heard_same answers Lds response made now name was = refl
 heard_same answers Eds response made now name was = sym (was.watched refl name)
 heard_same answers Rds response made now name was = sym (was.watched refl name)
+heard_same answers Sds response made now name was = sym (was.watched refl name)
+heard_same answers Ecds response made now name was = sym (was.watched refl name)
 
 stale_same : (answers : Answers) (kind : Kind) (response : ResponseParts) (lives : List Live) (versions : List KeptVersion) (made : MadeKept) (now : List Live) (item : ItemParts) (body : Body)
     → Tells answers kind lives versions → Follows answers kind response made now → stale_by answers kind item body ≡ stale_rule kind now versions item body
@@ -347,9 +412,12 @@ good_same : (answers : Answers) (kind : Kind) (response : ResponseParts) (made :
     → good_by answers response made name content kind ≡ good_verdict kind now name content
 good_same answers Cds response made now name content none kept was = ap (λ newest. against newest content) (sym (was.newest name none kept))
 good_same answers Lds response made now name content none kept was =
-    λ i. cond (taken_same_by answers response made now name (listening_address content) was i) (Refused 15) (against (sym (was.newest name none kept) i) content)
-good_same answers Eds response made now name content none kept was = ap (λ b. cond b Kept Unasked) (sym (was.watched refl name))
-good_same answers Rds response made now name content none kept was = ap (λ b. cond b Kept Unasked) (sym (was.watched refl name))
+    λ i. cond (taken_same_by answers response made now name (listening_address content) was i) (Refused 15)
+    (listener_verdict (sym (was.newest name none kept) i) (sym (was.serving name kept) i) content)
+good_same answers Eds response made now name content none kept was = ap value_verdict (sym (was.watched refl name))
+good_same answers Rds response made now name content none kept was = ap value_verdict (sym (was.watched refl name))
+good_same answers Sds response made now name content none kept was = ap value_verdict (sym (was.watched refl name))
+good_same answers Ecds response made now name content none kept was = ap value_verdict (sym (was.watched refl name))
 
 body_same : (answers : Answers) (kind : Kind) (response : ResponseParts) (lives : List Live) (versions : List KeptVersion) (made : MadeKept) (now : List Live) (item : ItemParts) (body : Body)
     → is_made made item.name ≡ false → is_removed response item.name ≡ false → Tells answers kind lives versions → Follows answers kind response made now
@@ -375,41 +443,73 @@ verdict_same answers kind response lives versions made now before rest item all 
     ∙ ruled_same answers kind response lives versions made now item (rule_of kind response now versions item)
     (fresh kind response versions now made before rest item all among) (item_kept response before rest item all) tells was
 
-watched_isnt_new : (watched : Bool) → cond watched Kept Unasked ≡ New → ⊥
-watched_isnt_new true is = cc
-watched_isnt_new false is = cc
+-- by this verdict what warms under the name is removed
+abbrev replaces : Verdict → Bool
+replaces New = true
+replaces InPlace = true
+replaces Back = true
+replaces verdict = false
 
-beat_isnt_new : (renewed : Bool) → cond renewed Renewed Unasked ≡ New → ⊥
-beat_isnt_new true is = cc
-beat_isnt_new false is = cc
+watched_stays : (watched : Bool) → replaces (value_verdict watched) ≡ false
+watched_stays true = refl
+watched_stays false = refl
 
--- what is asked for by name is never a new generation
-new_body : (answers : Answers) (kind : Kind) (response : ResponseParts) (made : MadeKept) (item : ItemParts) (body : Body)
-    → body_by answers kind response made item body ≡ New → is_by_name kind ≡ false
-new_body answers Cds response made item body is = refl
-new_body answers Lds response made item body is = refl
-new_body answers Eds response made item (Good content) is = absurd (watched_isnt_new (answers.watched Eds item.name) is)
-new_body answers Eds response made item (Bad rule) is = cc
-new_body answers Eds response made item Beat is = absurd (beat_isnt_new (answers.kept Eds item.name item.version) is)
-new_body answers Rds response made item (Good content) is = absurd (watched_isnt_new (answers.watched Rds item.name) is)
-new_body answers Rds response made item (Bad rule) is = cc
-new_body answers Rds response made item Beat is = absurd (beat_isnt_new (answers.kept Rds item.name item.version) is)
+beat_stays : (renewed : Bool) → replaces (cond renewed Renewed Unasked) ≡ false
+beat_stays true = refl
+beat_stays false = refl
 
--- a resource that is new breaks no rule, and is asked for without a name
-new_facts : (answers : Answers) (kind : Kind) (response : ResponseParts) (made : MadeKept) (item : ItemParts) (rule : Option ℕ)
-    → ruled answers kind response made item rule ≡ New → (rule ≡ None) × (is_by_name kind ≡ false)
-new_facts answers kind response made item (Some rule) is = cc
-new_facts answers kind response made item None is = (refl, new_body answers kind response made item item.body is)
+-- a resource that is asked for by name replaces nothing
+value_stays : (answers : Answers) (kind : Kind) (response : ResponseParts) (made : MadeKept) (item : ItemParts) (body : Body) (watched : Bool)
+    → ((content : Content) → good_by answers response made item.name content kind ≡ value_verdict watched)
+    → replaces (body_by answers kind response made item body) ≡ false
+value_stays answers kind response made item (Good content) watched is = ap replaces (is content) ∙ watched_stays watched
+value_stays answers kind response made item (Bad rule) watched is = refl
+value_stays answers kind response made item Beat watched is = beat_stays (answers.kept kind item.name item.version)
+
+replacing_body : (answers : Answers) (kind : Kind) (response : ResponseParts) (made : MadeKept) (item : ItemParts) (body : Body)
+    → replaces (body_by answers kind response made item body) ≡ true → is_by_name kind ≡ false
+replacing_body answers Cds response made item body is = refl
+replacing_body answers Lds response made item body is = refl
+replacing_body answers Eds response made item body is =
+    absurd (false≢true (sym (value_stays answers Eds response made item body (answers.watched Eds item.name) (λ content. refl)) ∙ is))
+replacing_body answers Rds response made item body is =
+    absurd (false≢true (sym (value_stays answers Rds response made item body (answers.watched Rds item.name) (λ content. refl)) ∙ is))
+replacing_body answers Sds response made item body is =
+    absurd (false≢true (sym (value_stays answers Sds response made item body (answers.watched Sds item.name) (λ content. refl)) ∙ is))
+replacing_body answers Ecds response made item body is =
+    absurd (false≢true (sym (value_stays answers Ecds response made item body (answers.watched Ecds item.name) (λ content. refl)) ∙ is))
+
+-- a resource that replaces what warms breaks no rule, and is asked for without a name
+replacing_facts : (answers : Answers) (kind : Kind) (response : ResponseParts) (made : MadeKept) (item : ItemParts) (rule : Option ℕ)
+    → replaces (ruled answers kind response made item rule) ≡ true → (rule ≡ None) × (is_by_name kind ≡ false)
+replacing_facts answers kind response made item (Some rule) is = absurd (false≢true is)
+replacing_facts answers kind response made item None is = (refl, replacing_body answers kind response made item item.body is)
+
+-- a name that isn't among those so far is put behind them
+with_name : {A : Type 0} (P : MadeKept → A → Type 0) (made : MadeKept) (name : List ℕ) (address : Option SocketAddress) (after : A)
+    → is_made made name ≡ false → P (made ++ (name, address) ∷ []) after → P (with_made name address made) after
+with_name P made name address after none is =
+    subst (λ b. P (cond b made (made ++ (name, address) ∷ [])) after) (sym none) is
 
 -- after a verdict
 follows_step : (answers : Answers) (kind : Kind) (response : ResponseParts) (made : MadeKept) (name : List ℕ) (body : Body) (verdict : Verdict) (now : List Live)
-    → (verdict ≡ New → is_made made name ≡ false) → (verdict ≡ New → is_by_name kind ≡ false) → Follows answers kind response made now
+    → (replaces verdict ≡ true → is_made made name ≡ false) → (replaces verdict ≡ true → is_by_name kind ≡ false) → Follows answers kind response made now
     → Follows answers kind response (made_by verdict name body made) (lives_after kind verdict name body now)
 follows_step answers kind response made name (Good content) New now none whole was =
-    subst (λ b. Follows answers kind response (cond b made (made ++ (name, listening_address content) ∷ [])) (with_new kind name content now)) (sym (none refl))
+    with_name (Follows answers kind response) made name (listening_address content) (with_new kind name content now) (none refl)
     (follows_new answers kind response made name content now (none refl) (whole refl) was)
 follows_step answers kind response made name (Bad rule) New now none whole was = was
 follows_step answers kind response made name Beat New now none whole was = was
+follows_step answers kind response made name (Good content) InPlace now none whole was =
+    with_name (Follows answers kind response) made name (listening_address content) (with_new kind name content now) (none refl)
+    (follows_new answers kind response made name content now (none refl) (whole refl) was)
+follows_step answers kind response made name (Bad rule) InPlace now none whole was = was
+follows_step answers kind response made name Beat InPlace now none whole was = was
+follows_step answers kind response made name (Good content) Back now none whole was =
+    with_name (Follows answers kind response) made name None (without_warming kind name now) (none refl)
+    (follows_back answers kind response made name now (none refl) (whole refl) was)
+follows_step answers kind response made name (Bad rule) Back now none whole was = was
+follows_step answers kind response made name Beat Back now none whole was = was
 follows_step answers kind response made name body Same now none whole was = was
 follows_step answers kind response made name body Kept now none whole was = was
 follows_step answers kind response made name body Unasked now none whole was = was
@@ -427,20 +527,28 @@ more_named : (made : MadeKept) (before : List ItemParts) (item : ItemParts) → 
 more_named made before item among name is =
     subst (λ n. 1 ≤ n) (sym (named_parts name before [] item)) (omega (arith, among name is))
 
-with_made_among : (made : MadeKept) (before : List ItemParts) (item : ItemParts) (content : Content) (has : Bool) → Among made before
-    → Among (cond has made (made ++ (item.name, listening_address content) ∷ [])) (before ++ item ∷ [])
-with_made_among made before item content true among = more_named made before item among
-with_made_among made before item content false among = λ name is.
+with_made_among : (made : MadeKept) (before : List ItemParts) (item : ItemParts) (address : Option SocketAddress) (has : Bool) → Among made before
+    → Among (cond has made (made ++ (item.name, address) ∷ [])) (before ++ item ∷ [])
+with_made_among made before item address true among = more_named made before item among
+with_made_among made before item address false among = λ name is.
     subst (λ n. 1 ≤ n) (sym (named_parts name before [] item))
     (among_by (is_made made name) (bytes_eq item.name name) (length (items_named name before)) (length (items_named name (item ∷ [])))
-    (sym (made_more made item.name (listening_address content) name) ∙ is) (among name) (named_one item name))
+    (sym (made_more made item.name address name) ∙ is) (among name) (named_one item name))
 
 -- what was made is among the resources that were looked at
 among_step : (made : MadeKept) (before : List ItemParts) (item : ItemParts) (body : Body) (verdict : Verdict) → Among made before
     → Among (made_by verdict item.name body made) (before ++ item ∷ [])
-among_step made before item (Good content) New among = with_made_among made before item content (is_made made item.name) among
+among_step made before item (Good content) New among =
+    with_made_among made before item (listening_address content) (is_made made item.name) among
 among_step made before item (Bad rule) New among = more_named made before item among
 among_step made before item Beat New among = more_named made before item among
+among_step made before item (Good content) InPlace among =
+    with_made_among made before item (listening_address content) (is_made made item.name) among
+among_step made before item (Bad rule) InPlace among = more_named made before item among
+among_step made before item Beat InPlace among = more_named made before item among
+among_step made before item (Good content) Back among = with_made_among made before item None (is_made made item.name) among
+among_step made before item (Bad rule) Back among = more_named made before item among
+among_step made before item Beat Back among = more_named made before item among
 among_step made before item body Same among = more_named made before item among
 among_step made before item body Kept among = more_named made before item among
 among_step made before item body Unasked among = more_named made before item among
@@ -458,8 +566,8 @@ judged_from answers kind response lives versions made now before (item ∷ items
     let ruled_alike : rule_by answers kind response item ≡ rule_of kind response now versions item = ap (λ s. lesser s (lesser (twice_rule response item) (lesser (removed_rule response item) (form_rule item.body)))) stale in
     let next : Follows answers kind response (made_by verdict item.name item.body made) (lives_after kind verdict item.name item.body now) =
     follows_step answers kind response made item.name item.body verdict now
-    (λ new. fresh kind response versions now made before items item all among (sym ruled_alike ∙ (new_facts answers kind response made item (rule_by answers kind response item) new).0))
-    (λ new. (new_facts answers kind response made item (rule_by answers kind response item) new).1) was in
+    (λ new. fresh kind response versions now made before items item all among (sym ruled_alike ∙ (replacing_facts answers kind response made item (rule_by answers kind response item) new).0))
+    (λ new. (replacing_facts answers kind response made item (rule_by answers kind response item) new).1) was in
     ap (λ vs. verdict ∷ vs)
     (judged_from answers kind response lives versions (made_by verdict item.name item.body made) (lives_after kind verdict item.name item.body now) (before ++ item ∷ []) items
     (all ∙ sym (append_assoc before (item ∷ []) items)) (among_step made before item item.body verdict among) tells next)
@@ -479,6 +587,7 @@ judged_all answers kind response lives versions tells =
 pub listed_tells : (kind : Kind) (lives : List Live) (versions : List KeptVersion) → is_by_name kind ≡ false → Tells (answers_of lives versions) kind lives versions
 listed_tells kind lives versions whole = record {
   newest = λ k name. refl;
+  serving = λ k name. refl;
   holders = λ address. refl;
   watched = λ k name. refl;
   kept = λ k name version. refl;

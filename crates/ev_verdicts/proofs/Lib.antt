@@ -1,4 +1,3 @@
 pub mod ListLemmas
-pub mod DependencyLemmas
 pub mod MadeLemmas
 pub mod FollowLemmas

@@ -1,7 +1,7 @@
 -- Lists that are searched and filtered.
-use Rattle.std.proofs.Common.{◌≡◌, Bool, true, false, ◌&&◌, ◌||◌, List, [], ◌∷◌, filter, refl, ap}
+use Rattle.std.proofs.Common.{◌≡◌, Bool, true, false, cond, ◌&&◌, ◌||◌, List, [], ◌∷◌, ◌++◌, filter, Some, refl, ap}
 use Rattle.std.proofs.lemmas.Bool.{false≢true}
-use Rattle.std.specs.List.{list_any, AllByRecursion}
+use Rattle.std.specs.List.{list_any, find, AllByRecursion}
 
 any_filter_by : {X : Type 0} (p q : X → Bool) (x : X) (xs : List X) (b : Bool) → q x ≡ b
     → list_any p (filter q xs) ≡ list_any (λ y. q y && p y) xs
@@ -42,3 +42,20 @@ all_kept_by q x xs is more = simp (is) (ap (λ ys. x ∷ ys) more)
 pub all_kept : {X : Type 0} (q : X → Bool) (P : X → Type 0) → ((x : X) → P x → q x ≡ true) → (xs : List X) → AllByRecursion P xs → filter q xs ≡ xs
 all_kept q P lets [] all = refl
 all_kept q P lets (x ∷ xs) all = all_kept_by q x xs (lets x all.0) (all_kept q P lets xs all.1)
+
+find_by : {X : Type 0} (p q : X → Bool) (x : X) (xs : List X) (a b : Bool) → p x ≡ a → q x ≡ b → (a ≡ true → b ≡ true)
+    → find p (filter q xs) ≡ find p xs → find p (filter q (x ∷ xs)) ≡ find p (x ∷ xs)
+find_by p q x xs true true pa qb implied more = simp (pa, qb) refl
+find_by p q x xs true false pa qb implied more = absurd (false≢true (implied refl))
+find_by p q x xs false true pa qb implied more = simp (pa, qb) more
+find_by p q x xs false false pa qb implied more = simp (pa, qb) more
+
+-- a filter that lets through all that a search may find changes no search
+pub find_within : {X : Type 0} (p q : X → Bool) → ((x : X) → p x ≡ true → q x ≡ true) → (xs : List X) → find p (filter q xs) ≡ find p xs
+find_within p q implied [] = refl
+find_within p q implied (x ∷ xs) = find_by p q x xs (p x) (q x) refl refl (implied x) (find_within p q implied xs)
+
+-- what a search passes over at the end changes nothing of it
+pub find_before : {X : Type 0} (p : X → Bool) (y : X) → p y ≡ false → (xs : List X) → find p (xs ++ y ∷ []) ≡ find p xs
+find_before p y isnt [] = simp (isnt) refl
+find_before p y isnt (x ∷ xs) = ap (λ rest. cond (p x) (Some x) rest) (find_before p y isnt xs)

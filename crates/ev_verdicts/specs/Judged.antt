@@ -1,29 +1,29 @@
--- The verdicts by the answers to look-ups, and by what the response itself made so far. That they are the verdicts over the live
--- rows and the versions is proved.
+-- The verdicts by the answers to look-ups, and by what the response itself made so far.
+-- That they are the verdicts over the live rows and the versions is proved.
 use Rattle.std.specs.Prelude.{◌≡◌, ℕ, Bool, false, not, ◌&&◌, ◌||◌, if◌then◌else◌, List, [], ◌∷◌, ◌++◌, map, filter, Option, Some, None}
 use Rattle.std.specs.List.{list_any}
 use Rattle.std.specs.Str.{bytes_eq}
 use Rattle.ev_types.specs.Items.{ItemParts, ResponseParts}
-use Rattle.ev_types.specs.Kinds.{kind_same}
+use Rattle.ev_types.specs.Kinds.{kind_same, is_by_name}
 use Rattle.ev_types.specs.declared.contents.Kind.{Kind}
-use Rattle.ev_types.specs.declared.contents.Kind.TheVariants.{Cds, Eds, Lds, Rds}
+use Rattle.ev_types.specs.declared.contents.Kind.TheVariants.{Cds, Eds, Lds, Rds, Sds, Ecds}
 use Rattle.ev_types.specs.declared.contents.Body.{Body}
 use Rattle.ev_types.specs.declared.contents.Body.TheVariants.{Good, Bad, Beat}
 use Rattle.ev_types.specs.declared.contents.Content.{Content}
 use Rattle.ev_types.specs.declared.events.Verdict.{Verdict}
-use Rattle.ev_types.specs.declared.events.Verdict.TheVariants.{New, Same, Kept, Unasked, Renewed, Refused}
+use Rattle.ev_types.specs.declared.events.Verdict.TheVariants.{New, InPlace, Back, Same, Kept, Unasked, Renewed, Refused}
 use Rattle.ev_types.specs.declared.hosts.SocketAddress.{SocketAddress}
 use Rattle.ev_types.specs.declared.rows.KeptVersion.{KeptVersion}
 use Rattle.ev_types.specs.declared.rows.Live.{Live}
-use Rattle.ev_model.specs.Verdicts.{is_removed, twice_rule, removed_rule, form_rule, lesser, listening_address, shares_address, against, verdicts_of}
-use Rattle.ev_model.specs.Watching.{is_by_name}
+use Rattle.ev_model.specs.Verdicts.{is_removed, twice_rule, removed_rule, form_rule, lesser, listening_address, shares_address, against, listener_verdict, value_verdict, verdicts_of}
 use Rattle.ev_verdicts.specs.Known.{Answers, Tells}
 
--- what a response made so far: names, each with the address of a listener
+-- what a response did so far: the names under which it made a generation or went back to the one
+-- that serves, so that what warmed under it is removed, each with the address of the listener that it made
 abbrev pub MadeKept : Type 0
 MadeKept = List (List ℕ × Option SocketAddress)
 
--- the response made a row of this name
+-- it is among them
 abbrev pub is_made : MadeKept → List ℕ → Bool
 is_made made name = list_any (λ (m : List ℕ × Option SocketAddress). bytes_eq m.0 name) made
 
@@ -31,9 +31,9 @@ is_made made name = list_any (λ (m : List ℕ × Option SocketAddress). bytes_e
 abbrev pub names_at : SocketAddress → MadeKept → List (List ℕ)
 names_at address made = map (λ (m : List ℕ × Option SocketAddress). m.0) (filter (λ (m : List ℕ × Option SocketAddress). shares_address m.1 (Some address)) made)
 
--- with a row of this name, where none was made
-abbrev pub with_made : List ℕ → Content → MadeKept → MadeKept
-with_made name content made = if is_made made name then made else made ++ (name, listening_address content) ∷ []
+-- with this name and address, where it isn't among them
+abbrev pub with_made : List ℕ → Option SocketAddress → MadeKept → MadeKept
+with_made name address made = if is_made made name then made else made ++ (name, address) ∷ []
 
 -- a row that was live before the response still is: it isn't removed, and no new one took its place
 abbrev pub stays : Kind → ResponseParts → MadeKept → Live → Bool
@@ -75,7 +75,7 @@ stale_by answers kind item (Good content) = None
 stale_by answers kind item (Bad rule) = None
 stale_by answers kind item Beat = if is_stale answers kind item then Some 1 else None
 
--- the least rule that the resource breaks, the addresses that are taken left aside
+-- the lowest-numbered rule that the resource breaks, the addresses that are taken left aside
 abbrev pub rule_by : Answers → Kind → ResponseParts → ItemParts → Option ℕ
 rule_by answers kind response item =
     lesser (stale_by answers kind item item.body) (lesser (twice_rule response item) (lesser (removed_rule response item) (form_rule item.body)))
@@ -84,9 +84,13 @@ rule_by answers kind response item =
 abbrev pub good_by : Answers → ResponseParts → MadeKept → List ℕ → Content → Kind → Verdict
 good_by answers response made name content Cds = against (answers.newest Cds name) content
 good_by answers response made name content Lds =
-    if is_taken_for response answers made name content then Refused 15 else against (answers.newest Lds name) content
-good_by answers response made name content Eds = if answers.watched Eds name then Kept else Unasked
-good_by answers response made name content Rds = if answers.watched Rds name then Kept else Unasked
+    if is_taken_for response answers made name content
+    then Refused 15
+    else listener_verdict (answers.newest Lds name) (answers.serving Lds name) content
+good_by answers response made name content Eds = value_verdict (answers.watched Eds name)
+good_by answers response made name content Rds = value_verdict (answers.watched Rds name)
+good_by answers response made name content Sds = value_verdict (answers.watched Sds name)
+good_by answers response made name content Ecds = value_verdict (answers.watched Ecds name)
 
 -- the verdict on a resource that breaks no rule, or no rule but the one of its body
 abbrev pub body_by : Answers → Kind → ResponseParts → MadeKept → ItemParts → Body → Verdict
@@ -109,9 +113,15 @@ judged answers kind response made item = ruled answers kind response made item (
 
 -- what the response made with this verdict
 abbrev pub made_by : Verdict → List ℕ → Body → MadeKept → MadeKept
-made_by New name (Good content) made = with_made name content made
+made_by New name (Good content) made = with_made name (listening_address content) made
 made_by New name (Bad rule) made = made
 made_by New name Beat made = made
+made_by InPlace name (Good content) made = with_made name (listening_address content) made
+made_by InPlace name (Bad rule) made = made
+made_by InPlace name Beat made = made
+made_by Back name (Good content) made = with_made name None made
+made_by Back name (Bad rule) made = made
+made_by Back name Beat made = made
 made_by Same name body made = made
 made_by Kept name body made = made
 made_by Unasked name body made = made

@@ -19,6 +19,7 @@ AreByAddress made table = (address : SocketAddress) → names_in table address �
 abbrev pub AddsName : {S : Type 0} → IndexMap (List ℕ) (Option SocketAddress) S → IndexMap (List ℕ) (Option SocketAddress) S → List ℕ → Option SocketAddress → Type 0
 AddsName old new name address = new.entries ≡ old.entries ++ (name, address) ∷ []
 
--- at the address, where there is one, the new table has the name after the others, and at each other the names that it had
+-- at the address, where there is one, the new table has the name after the others,
+-- and at each other the names that it had
 abbrev pub AddsAt : {S : Type 0} → IndexMap SocketAddress (List (List ℕ)) S → IndexMap SocketAddress (List (List ℕ)) S → List ℕ → Option SocketAddress → Type 0
 AddsAt old new name address = (a : SocketAddress) → names_in new a ≡ names_in old a ++ (if shares_address address (Some a) then name ∷ [] else [])

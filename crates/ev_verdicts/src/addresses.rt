@@ -9,6 +9,10 @@ pub(crate) fn address_of(content: &Content) -> Option<&SocketAddress>
 {
     match content {
         Content::Listener(listener) => Some(&listener.get().address),
-        Content::Cluster(_) | Content::Assignment(_) | Content::Routes(_) => None,
+        Content::Cluster(_)
+        | Content::Assignment(_)
+        | Content::Routes(_)
+        | Content::Secret
+        | Content::Extension => None,
     }
 }

@@ -1,8 +1,8 @@
 ghost use Rattle.std.specs.Prelude.{◌≡◌, ◌&&◌, IfOk, IsSome, Some, length, if◌then◌else◌};
 ghost use Rattle.ev_types.specs.declared.contents.Kind.{Kind};
 ghost use Rattle.ev_types.specs.declared.contents.Kind.TheVariants.{Lds};
-ghost use Rattle.ev_types.specs.declared.events.Verdict.TheVariants.{Kept, Renewed, Unasked};
-ghost use Rattle.ev_model.specs.Verdicts.{against};
+ghost use Rattle.ev_types.specs.declared.events.Verdict.TheVariants.{Renewed, Unasked};
+ghost use Rattle.ev_model.specs.Verdicts.{against, changes_chains, listener_verdict, returns_to, serving_verdict, update_verdict, value_verdict};
 ghost use Rattle.ev_verdicts.specs.Judged.{judged, good_by, is_held, made_by, stays, AreVerdicts, response_judged, judged_first, by_its_body, is_taken_for, has_another};
 
 use crate::addresses::address_of;
@@ -11,12 +11,13 @@ use crate::made::Made;
 use crate::rules::rule_of;
 use ev_keys::Keys;
 use ev_mentions::{LiveRow, Mentions};
-use ev_types::{Body, Content, Item, Kind, Seq, SocketAddress, Verdict};
+use ev_types::{Body, Content, Item, Kind, Listener, Rule, Seq, SocketAddress, Verdict};
 use std::alloc::{AllocError, Global};
 use std::hash::{DefaultHasher, Hash};
 
-/// The verdict on each resource of a response, in its order, by what is known before it, for a caller who has what the response
-/// mentions. Each resource costs a few look-ups, and a heap allocation where it is a listener; nothing that is known is copied.
+/// The verdict on each resource of a response, in its order, by what is known before it,
+/// for a caller who has what the response mentions. Each resource costs a few look-ups,
+/// and a heap allocation where it is a listener; nothing that is known is copied.
 ///
 /// It is out of memory where a list or table has no room.
 pub fn verdicts_by_mentions<K: Known>(
@@ -63,7 +64,7 @@ fn judge_items<K: Known>(
     let mut verdicts = Vec::new(alloc);
     for item in items {
         let verdict = judge(alloc, kind, known, mentions, &made, item)?;
-        made = note(alloc, made, verdict, item)?;
+        made = note(alloc, made, &verdict, item)?;
         verdicts.push(verdict)?;
     }
     Ok(Seq::from_vec(verdicts))
@@ -149,13 +150,14 @@ fn judge_content<K: Known>(
         Kind::Cds => Ok(compare(known.newest(Kind::Cds, name), content)),
         Kind::Lds => {
             if is_taken(alloc, known, mentions, made, name, content)? {
-                Ok(Verdict::Refused(15))
+                Ok(Verdict::Refused(Rule::V15))
             } else {
-                Ok(compare(known.newest(Kind::Lds, name), content))
+                Ok(compare_listener(known, name, content))
             }
         }
-        Kind::Eds => Ok(keep_watched(known.is_watched(Kind::Eds, name))),
-        Kind::Rds => Ok(keep_watched(known.is_watched(Kind::Rds, name))),
+        Kind::Eds | Kind::Rds | Kind::Sds | Kind::Ecds => {
+            Ok(keep_watched(known.is_watched(kind, name)))
+        }
     }
 }
 
@@ -170,9 +172,9 @@ fn judge_beat<K: Known>(kind: Kind, known: &K, item: &Item) -> Verdict
     }
 }
 
-// The verdict on endpoints or routes: they are kept where their name is watched.
+// The verdict on a value: it is kept where its name is watched.
 fn keep_watched(watched: bool) -> Verdict
-    ensures { result ≡ (if watched then Kept else Unasked) }
+    ensures { result ≡ value_verdict watched }
 {
     if watched {
         Verdict::Kept
@@ -193,6 +195,65 @@ fn compare(newest: Option<LiveRow<'_>>, content: &Content) -> Verdict
     } else {
         Verdict::New
     }
+}
+
+// The verdict on a listener whose address is free.
+fn compare_listener<K: Known>(known: &K, name: &str, content: &Content) -> Verdict
+    ensures { result ≡ listener_verdict ((K.answers known.now).newest Lds name.now) ((K.answers known.now).serving Lds name.now) content.now }
+{
+    let Some(live) = known.newest(Kind::Lds, name) else {
+        return Verdict::New;
+    };
+    if *live.content == *content {
+        Verdict::Same
+    } else {
+        compare_serving(known.serving(Kind::Lds, name), content)
+    }
+}
+
+// The verdict on a listener by the one that serves.
+fn compare_serving(serving: Option<LiveRow<'_>>, content: &Content) -> Verdict
+    ensures { result ≡ serving_verdict serving.entry content.now }
+{
+    let Some(live) = serving else {
+        return Verdict::New;
+    };
+    match (live.content, content) {
+        (Content::Listener(active), Content::Listener(update)) => {
+            compare_update(active.get(), update.get())
+        }
+        _ => Verdict::New,
+    }
+}
+
+// The verdict on an update of the listener that serves.
+fn compare_update(active: &Listener, update: &Listener) -> Verdict
+    ensures { result ≡ update_verdict active.now update.now }
+{
+    if returns_to(active, update) {
+        Verdict::Back
+    } else if changes_chains(active, update) {
+        Verdict::InPlace
+    } else {
+        Verdict::New
+    }
+}
+
+// Whether the update is the listener again.
+fn returns_to(active: &Listener, update: &Listener) -> bool
+    ensures { result ≡ returns_to active.now update.now }
+{
+    !update.body_text.as_str().is_empty() && *active == *update
+}
+
+// Whether the update differs from the listener in its chains alone.
+fn changes_chains(active: &Listener, update: &Listener) -> bool
+    ensures { result ≡ changes_chains active.now update.now }
+{
+    !update.frame_text.as_str().is_empty()
+        && !update.address.udp
+        && active.frame_text == update.frame_text
+        && update.filter_chains.len() > 0
 }
 
 // Whether a listener of another name has the address of this content.
@@ -250,17 +311,20 @@ fn stays(mentions: &Mentions<'_>, made: &Made<'_>, live: &LiveRow<'_>) -> bool
         && (mentions.is_removed(live.name) || live.warming && made.has(live.name)))
 }
 
-// What the response made with this verdict on a resource.
+// What the response did with this verdict on a resource.
 fn note<'a>(
     alloc: Global,
     made: Made<'a>,
-    verdict: Verdict,
+    verdict: &Verdict,
     item: &'a Item,
 ) -> Result<Made<'a>, AllocError>
-    ensures { IfOk result (λ new. new ≡ made_by verdict item.now.name item.now.body made.entry) }
+    ensures { IfOk result (λ new. new ≡ made_by verdict.now item.now.name item.now.body made.entry) }
 {
     match (verdict, &item.body) {
-        (Verdict::New, Body::Good(content)) => made.with(alloc, item.name.as_str(), content),
+        (Verdict::New | Verdict::InPlace, Body::Good(content)) => {
+            made.with(alloc, item.name.as_str(), address_of(content))
+        }
+        (Verdict::Back, Body::Good(_)) => made.with(alloc, item.name.as_str(), None),
         _ => Ok(made),
     }
 }

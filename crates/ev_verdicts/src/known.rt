@@ -5,8 +5,9 @@ use ev_mentions::LiveRow;
 use ev_types::{Kind, SocketAddress};
 use std::alloc::{AllocError, Global};
 
-/// What is known before a response, asked by look-ups: which generations are live, which names they depend on, and which versions
-/// are kept. Who implements it keeps tables, so that no question costs a walk over all generations.
+/// What is known before a response, asked by look-ups: which generations are live,
+/// which names they depend on, and which versions are kept.
+/// Who implements it keeps tables, so that no question costs a walk over all generations.
 pub trait Known {
     // the answers to all questions
     ghost answers: { Self → Answers };
@@ -15,8 +16,12 @@ pub trait Known {
     fn newest(&self, kind: Kind, name: &str) -> Option<LiveRow<'_>>
         ensures { result ≡ (answers self.now).newest kind name.now };
 
-    /// The live generations that listen at an address, in the order of their numbers. It is out of memory where the list has no
-    /// room.
+    /// The generation of a kind and name that serves.
+    fn serving(&self, kind: Kind, name: &str) -> Option<LiveRow<'_>>
+        ensures { result ≡ (answers self.now).serving kind name.now };
+
+    /// The live generations that listen at an address, in the order of their numbers.
+    /// It is out of memory where the list has no room.
     fn holders(
         &self,
         alloc: Global,

@@ -1,5 +1,5 @@
-//! The verdicts on the resources of a response, by the rules and by what is known before it: the generations that are live, and
-//! the versions that are kept. What is known is asked by look-ups.
+//! The verdicts on the resources of a response, by the rules and by what is known before it:
+//! the generations that are live, and the versions that are kept. What is known is asked by look-ups.
 //!
 //! # Choices
 //!

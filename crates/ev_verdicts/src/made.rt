@@ -3,11 +3,10 @@ ghost use Rattle.ev_types.specs.declared.hosts.SocketAddress.{SocketAddress};
 ghost use Rattle.ev_verdicts.specs.Judged.{has_other, is_made, names_at, with_made};
 ghost use Rattle.ev_verdicts.specs.Made.{AddsName, AddsAt};
 
-use crate::addresses::address_of;
 use crate::keys::AddressKey;
 use ev_keys::Keys;
 use ev_mentions::NameKey;
-use ev_types::{Content, Seq, SocketAddress};
+use ev_types::{Seq, SocketAddress};
 use indexmap::IndexMap;
 use std::alloc::{AllocError, Global};
 use std::marker::Model;
@@ -16,7 +15,8 @@ type Names<'a> = IndexMap<NameKey<'a>, Option<AddressKey<'a>>, Keys>;
 
 type Addresses<'a> = IndexMap<AddressKey<'a>, Seq<NameKey<'a>>, Keys>;
 
-/// The generations that a response made so far: their names, each with the address of a listener. Contracts see the list.
+/// The names under which a response made a generation so far, or went back to the one that serves,
+/// each with the address of the listener that it made. Contracts see the list.
 #[derive(Drop)]
 pub(crate) struct Made<'a> {
     names: Names<'a>,
@@ -45,7 +45,7 @@ impl<'a> Made<'a> {
         }
     }
 
-    /// Whether one of this name was made.
+    /// Whether the name is among them.
     pub(crate) fn has(&self, name: &str) -> bool
         ensures { result ≡ is_made self.now name.now }
     {
@@ -53,7 +53,7 @@ impl<'a> Made<'a> {
         self.names.contains_key(&NameKey::new(name))
     }
 
-    /// Whether one of another name that was made listens at the address.
+    /// Whether a listener that was made listens at the address, under another name.
     pub(crate) fn has_another_at(&self, address: &SocketAddress, name: &str) -> bool
         ensures { result ≡ has_other name.now (names_at address.now self.now) }
     {
@@ -64,19 +64,18 @@ impl<'a> Made<'a> {
         }
     }
 
-    /// With one more, where none of the name was made.
+    /// With one more, where the name isn't among them.
     pub(crate) fn with(
         self,
         alloc: Global,
         name: &'a str,
-        content: &'a Content,
+        address: Option<&'a SocketAddress>,
     ) -> Result<Made<'a>, AllocError>
-        ensures { IfOk result (λ made. made ≡ with_made name.now content.now self.entry) }
+        ensures { IfOk result (λ made. made ≡ with_made name.now (option_map (λ a. a.now) address.entry) self.entry) }
     {
         if self.has(name) {
             return Ok(self);
         }
-        let address = address_of(content);
         let by_address = with_address(alloc, self.by_address, name, address)?;
         let names = with_name(self.names, name, address)?;
         Ok(Made { names, by_address })

@@ -4,15 +4,15 @@ ghost use Rattle.ev_verdicts.specs.Judged.{rule_by, stale_by, is_heard_by, is_st
 
 use crate::known::Known;
 use ev_mentions::Mentions;
-use ev_types::{Body, Item, Kind};
+use ev_types::{Body, Item, Kind, Rule};
 
-/// The least rule that a resource breaks, taken addresses left aside.
+/// The lowest-numbered rule that a resource breaks, taken addresses left aside.
 pub(crate) fn rule_of<K: Known>(
     kind: Kind,
     known: &K,
     mentions: &Mentions<'_>,
     item: &Item,
-) -> Option<u8>
+) -> Option<Rule>
     ensures { result ≡ rule_by (K.answers known.now) kind mentions.now item.now }
 {
     let beat = stale_rule(kind, known, item);
@@ -22,14 +22,14 @@ pub(crate) fn rule_of<K: Known>(
 }
 
 // Rule 1: the resource is a heartbeat of a version that isn't kept, and somebody hears it.
-fn stale_rule<K: Known>(kind: Kind, known: &K, item: &Item) -> Option<u8>
+fn stale_rule<K: Known>(kind: Kind, known: &K, item: &Item) -> Option<Rule>
     ensures { result ≡ stale_by (K.answers known.now) kind item.now item.now.body }
 {
     match &item.body {
         Body::Good(_) | Body::Bad(_) => None,
         Body::Beat => {
             if is_stale(kind, known, item) {
-                Some(1)
+                Some(Rule::V1)
             } else {
                 None
             }
@@ -49,37 +49,33 @@ fn is_stale<K: Known>(kind: Kind, known: &K, item: &Item) -> bool
 fn is_heard<K: Known>(kind: Kind, known: &K, name: &str) -> bool
     ensures { result ≡ is_heard_by (K.answers known.now) kind name.now }
 {
-    match kind {
-        Kind::Cds | Kind::Lds => true,
-        Kind::Eds => known.is_watched(Kind::Eds, name),
-        Kind::Rds => known.is_watched(Kind::Rds, name),
-    }
+    !kind.is_by_name() || known.is_watched(kind, name)
 }
 
 // Rule 4: the name occurs twice in the response.
-fn twice_rule(mentions: &Mentions<'_>, item: &Item) -> Option<u8>
+fn twice_rule(mentions: &Mentions<'_>, item: &Item) -> Option<Rule>
     ensures { result ≡ twice_rule mentions.now item.now }
 {
     if mentions.is_twice(item.name.as_str()) {
-        Some(4)
+        Some(Rule::V4)
     } else {
         None
     }
 }
 
 // Rule 5: the name is removed too.
-fn removed_rule(mentions: &Mentions<'_>, item: &Item) -> Option<u8>
+fn removed_rule(mentions: &Mentions<'_>, item: &Item) -> Option<Rule>
     ensures { result ≡ removed_rule mentions.now item.now }
 {
     if mentions.is_listed(item.name.as_str()) {
-        Some(5)
+        Some(Rule::V5)
     } else {
         None
     }
 }
 
 // The form rule that a body breaks.
-fn form_rule(body: &Body) -> Option<u8>
+fn form_rule(body: &Body) -> Option<Rule>
     ensures { result ≡ form_rule body.now }
 {
     match body {
@@ -90,7 +86,7 @@ fn form_rule(body: &Body) -> Option<u8>
 }
 
 // The lesser of two rules, where there are any.
-fn lesser(rule: Option<u8>, other: Option<u8>) -> Option<u8>
+fn lesser(rule: Option<Rule>, other: Option<Rule>) -> Option<Rule>
     ensures { result ≡ lesser rule other }
 {
     match (rule, other) {

@@ -1,45 +1,49 @@
--- What a response of endpoints or routes does to a world that a state stands for.
+-- What a response of what is asked for by name does to a world that a state represents.
 use Rattle.std.proofs.Common.{◌≡◌, ◌∙◌, ◌+◌, ◌<◌, ℕ, Bool, true, false, cond, ◌&&◌, ◌||◌, List, [], ◌∷◌, ◌++◌, map, filter, length, take, get_or, refl, sym, ap, subst, true≢false, append-nil, append_assoc}
 use Rattle.std.specs.List.{list_any, AllByRecursion}
 use Rattle.std.specs.Str.{bytes_eq}
 use Rattle.std.proofs.lemmas.List.{take_more, map-append}
 use Rattle.std.proofs.lemmas.List.Elements.{filter-append}
 use Rattle.std.proofs.lemmas.List.Folds.{list_any_at}
+use Rattle.ev_types.specs.Kinds.{is_by_name}
 use Rattle.ev_types.specs.Items.{ResponseParts}
 use Rattle.ev_types.specs.Same.{bytes_decide}
 use Rattle.ev_types.specs.Statuses.{is_live}
 use Rattle.ev_types.specs.Texts.{IsName}
 use Rattle.ev_types.specs.declared.contents.Kind.{Kind}
-use Rattle.ev_types.specs.declared.contents.Kind.TheVariants.{Cds, Eds, Lds, Rds}
+use Rattle.ev_types.specs.declared.contents.Kind.TheVariants.{Cds, Lds}
 use Rattle.ev_types.specs.declared.rows.Arrival.{Arrival}
 use Rattle.ev_types.specs.declared.rows.Arrival.TheVariants.{Absent, Bad as bad}
 use Rattle.ev_types.specs.declared.rows.GenRow.{GenRow}
 use Rattle.ev_model.specs.World.{World, Arrived}
 use Rattle.ev_model.specs.Live.{lives_of}
-use Rattle.ev_model.specs.Watching.{is_watched, is_by_name, dependencies_of, Dependency}
+use Rattle.ev_model.specs.Watching.{is_watched, dependencies_of, Dependency}
 use Rattle.ev_model.specs.Verdicts.{is_among, is_removed}
-use Rattle.ev_model.specs.Rows.{arrived, absent_names, versions_left, with_removals, refuse}
+use Rattle.ev_model.specs.Rows.{arrived, versions_left, with_removals, refuse}
+use Rattle.ev_mentions.specs.Keys.{key_decides, named}
+use Rattle.ev_mentions.specs.declared.kind_keys.Key.{Key}
 use Rattle.ev_indexes.specs.declared.state.State.{State}
 use Rattle.ev_indexes.specs.Indexes.{depends_on}
-use Rattle.ev_indexes.specs.Worlds.{HasRows, needs_of}
-use Rattle.ev_indexes.specs.Needs.{HaveNames, is_needed}
+use Rattle.ev_indexes.specs.Worlds.{HasRows}
+use Rattle.ev_indexes.specs.Needs.{HaveNames, is_needed, is_on, key_of}
 use Rattle.ev_warming.specs.Changes.{is_unlisted}
 use Rattle.ev_warming.specs.Arrivals.{told_where}
+use Rattle.ev_warming.specs.Worlds.{with_removals_told}
 use Rattle.ev_warming.proofs.ForgottenLemmas.{watched-same}
 use Rattle.ev_warming.proofs.ResponseLemmas.{versions-stand}
 
 -- nothing depends on a text that is no name
-pub unneeded : (q : List ℕ) → (IsName q → ⊥) → (rows : List GenRow) → AllByRecursion (λ (r : GenRow). HaveNames (dependencies_of r.content)) rows → list_any (depends_on q) rows ≡ false
+pub unneeded : (q : Key) → (IsName q.name → ⊥) → (rows : List GenRow) → AllByRecursion (λ (r : GenRow). HaveNames (dependencies_of r.content)) rows → list_any (depends_on q) rows ≡ false
 unneeded q no_name [] all = refl
 unneeded q no_name (row ∷ rows) all = (λ i. by (is_live row.status) (dependencies_of row.content) all.0 i || list_any (depends_on q) rows) ∙ unneeded q no_name rows all.1
   where
-    over : (name : List ℕ) → IsName name → (b : Bool) → bytes_eq name q ≡ b → b ≡ false
-    over name named true e = absurd (no_name (subst IsName ((bytes_decide name q).0 e) named))
-    over name named false e = refl
+    over : (d : Dependency) → IsName d.name → (b : Bool) → is_on q d ≡ b → b ≡ false
+    over d named true e = absurd (no_name (subst (λ (k : Key). IsName k.name) ((key_decides (key_of d) q).0 e) named))
+    over d named false e = refl
 
     none : (ds : List Dependency) → HaveNames ds → is_needed q ds ≡ false
     none [] named = refl
-    none (d ∷ ds) named = (λ i. over d.name named.0 (bytes_eq d.name q) refl i || is_needed q ds) ∙ none ds named.1
+    none (d ∷ ds) named = (λ i. over d named.0 (is_on q d) refl i || is_needed q ds) ∙ none ds named.1
 
     by : (l : Bool) (ds : List Dependency) → HaveNames ds → (l && is_needed q ds) ≡ false
     by false ds named = refl
@@ -64,21 +68,21 @@ told-is false kind name world before = λ i. record world { arrivals = world.arr
 
 pub absent-more : (s t : State) (world : World) (response : ResponseParts) (kind : Kind) (rows : List GenRow) (i : ℕ) (name : List ℕ)
     → i < length response.removed → name ≡ get_or response.removed i name
-    → is_watched (lives_of world) kind name ≡ list_any (depends_on name) rows
+    → is_watched (lives_of world) kind name ≡ list_any (depends_on (named kind name)) rows
     → HasRows s (with_absent response kind world (take i response.removed))
-    → ((w : World) → HasRows s w → w.made ≡ world.made → HasRows t (told_where (is_unlisted response name && list_any (depends_on name) rows) kind Absent name w))
+    → ((w : World) → HasRows s w → HasRows t (told_where (is_unlisted response name && list_any (depends_on (named kind name)) rows) kind Absent name w))
     → HasRows t (with_absent response kind world (take (i + 1) response.removed))
 absent-more s t world response kind rows i name within is watched before step =
     subst (HasRows t)
     ((λ j. told_where (sym test j) kind Absent name (with_absent response kind world (take i response.removed)))
     ∙ told-is (is_absent response kind world name) kind name world (map (arrived world.made kind Absent) (filter (is_absent response kind world) (take i response.removed)))
     ∙ (λ j. record world { arrivals = world.arrivals ++ sym more j }))
-    (step (with_absent response kind world (take i response.removed)) before refl)
+    (step (with_absent response kind world (take i response.removed)) before)
   where
     among : is_among name response.removed ≡ true
     among = list_any_at (λ n. bytes_eq n name) response.removed i name within ((λ j. bytes_eq (sym is j) name) ∙ (bytes_decide name name).1 refl)
 
-    test : is_absent response kind world name ≡ (is_unlisted response name && list_any (depends_on name) rows)
+    test : is_absent response kind world name ≡ (is_unlisted response name && list_any (depends_on (named kind name)) rows)
     test = λ j. (among j && is_unlisted response name) && watched j
 
     more : map (arrived world.made kind Absent) (filter (is_absent response kind world) (take (i + 1) response.removed))
@@ -94,33 +98,29 @@ pub absent-none : (s : State) (world : World) (response : ResponseParts) (kind :
 absent-none s world response kind stands = subst (λ (came : List Arrived). HasRows s (record world { arrivals = came })) (sym (append-nil world.arrivals)) stands
 
 -- removals, where versions are left aside
-absences-are : (kind : Kind) (response : ResponseParts) (world : World) → is_by_name kind ≡ false
-    → record world { arrivals = world.arrivals ++ map (arrived world.made (needs_of kind) Absent) (absent_names (needs_of kind) response world); versions = versions_left (needs_of kind) response world.versions }
-    ≡ with_removals (needs_of kind) response world
-absences-are Cds response world h = refl
-absences-are Lds response world h = refl
-absences-are Eds response world h = absurd (true≢false h)
-absences-are Rds response world h = absurd (true≢false h)
+removals-are : (kind : Kind) (response : ResponseParts) (world : World) → is_by_name kind ≡ true
+    → record (with_removals_told kind response world) { versions = versions_left kind response world.versions } ≡ with_removals kind response world
+removals-are Cds response world h = absurd (true≢false (sym h))
+removals-are Lds response world h = absurd (true≢false (sym h))
+removals-are kind response world h = refl
 
-pub absences-stand : (s : State) (world : World) (kind : Kind) (response : ResponseParts) → is_by_name kind ≡ false
-    → HasRows s (record world { arrivals = world.arrivals ++ map (arrived world.made (needs_of kind) Absent) (absent_names (needs_of kind) response world) })
-    → HasRows s (with_removals (needs_of kind) response world)
-absences-stand s world kind response rows stands =
-    subst (HasRows s) (absences-are kind response world rows)
-    (versions-stand s (record world { arrivals = world.arrivals ++ map (arrived world.made (needs_of kind) Absent) (absent_names (needs_of kind) response world) }) (versions_left (needs_of kind) response world.versions) stands)
+pub removals-told : (s : State) (world : World) (kind : Kind) (response : ResponseParts) → is_by_name kind ≡ true
+    → HasRows s (with_removals_told kind response world) → HasRows s (with_removals kind response world)
+removals-told s world kind response by_name stands =
+    subst (HasRows s) (removals-are kind response world by_name)
+    (versions-stand s (with_removals_told kind response world) (versions_left kind response world.versions) stands)
 
 -- a refusal
-refusal-is : (kind : Kind) (name : List ℕ) (world : World) → is_by_name kind ≡ false
-    → told_where (is_watched (lives_of world) (needs_of kind) name) (needs_of kind) bad name world ≡ refuse (needs_of kind) name world
-refusal-is Cds name world h = refl
-refusal-is Lds name world h = refl
-refusal-is Eds name world h = absurd (true≢false h)
-refusal-is Rds name world h = absurd (true≢false h)
+refusal-is : (kind : Kind) (name : List ℕ) (world : World) → is_by_name kind ≡ true
+    → told_where (is_watched (lives_of world) kind name) kind bad name world ≡ refuse kind name world
+refusal-is Cds name world h = absurd (true≢false (sym h))
+refusal-is Lds name world h = absurd (true≢false (sym h))
+refusal-is kind name world h = refl
 
-pub refusal-stands : (s t : State) (world : World) (name : List ℕ) → is_by_name s.kind ≡ false → HasRows s world
-    → HasRows t (told_where (list_any (depends_on name) s.table.rows) (needs_of s.kind) bad name world) → HasRows t (refuse (needs_of s.kind) name world)
-refusal-stands s t world name rows stands told =
-    subst (HasRows t) ((λ i. told_where (sym (watched-same s world stands rows name) i) (needs_of s.kind) bad name world) ∙ refusal-is s.kind name world rows) told
+pub refusal-stands : (s t : State) (world : World) (kind : Kind) (name : List ℕ) → is_by_name kind ≡ true → HasRows s world
+    → HasRows t (told_where (list_any (depends_on (named kind name)) s.table.rows) kind bad name world) → HasRows t (refuse kind name world)
+refusal-stands s t world kind name by_name stands told =
+    subst (HasRows t) ((λ i. told_where (sym (watched-same s world stands (named kind name)) i) kind bad name world) ∙ refusal-is kind name world by_name) told
 
 -- nothing came
 pub quiet-stands : (s : State) (world : World) (b : Bool) (kind : Kind) (arrival : Arrival) (name : List ℕ) → b ≡ false → HasRows s world → HasRows s (told_where b kind arrival name world)

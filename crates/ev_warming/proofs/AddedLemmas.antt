@@ -1,27 +1,25 @@
--- A state that stands for a world stands for it once a new generation warms in both.
-use Rattle.std.proofs.Common.{◌≡◌, ◌∙◌, ℕ, ◌+◌, ◌<◌, ◌≤◌, Bool, true, false, cond, ◌||◌, List, [], ◌∷◌, ◌++◌, Option, None, Some, IsSome, is_some, unwrap_or, map, filter, refl, sym, ap, subst, true≢false, arith, ⊎_elim, Result, Ok, Err, OnOk}
+-- A state that represents a world represents it once a new generation warms in both.
+use Rattle.std.proofs.Common.{◌≡◌, ◌∙◌, ℕ, ◌+◌, ◌<◌, ◌≤◌, Bool, true, false, cond, ◌||◌, List, [], ◌∷◌, Option, None, Some, IsSome, is_some, unwrap_or, map, filter, refl, sym, ap, subst, true≢false, arith, ⊎_elim, Result, Ok, Err, OnOk}
 use Rattle.std.specs.List.{last_or}
 use Rattle.std.specs.Option.{option_or}
 use Rattle.std.proofs.lemmas.Bool.{ne_eqb, cases_lt}
-use Rattle.std.proofs.lemmas.List.Elements.{filter-append}
 use Rattle.std.proofs.lemmas.List.Folds.{find-append}
 use Rattle.ev_types.specs.Items.{content_kind}
-use Rattle.ev_types.specs.Kinds.{kind_same, kind_decides}
 use Rattle.ev_types.specs.Texts.{IsName}
 use Rattle.ev_types.specs.declared.contents.Kind.{Kind}
 use Rattle.ev_types.specs.declared.contents.Content.{Content}
 use Rattle.ev_types.specs.declared.hosts.Host.{Host}
+use Rattle.ev_types.specs.declared.origins.KeptChain.{KeptChain}
 use Rattle.ev_types.specs.declared.rows.GenRow.{GenRow}
 use Rattle.ev_model.specs.World.{World, HealthResult}
-use Rattle.ev_model.specs.Warming.{last_told, last_timed, value_by, has_result, is_healthy, is_result_of}
+use Rattle.ev_model.specs.Warming.{has_result, is_healthy, is_result_of}
 use Rattle.ev_model.specs.Rows.{with_statuses, replaced_status, new_row, rows_with_new}
-use Rattle.ev_endpoints.specs.Kept.{result_in}
-use Rattle.ev_generations.specs.Tables.{is_number, row_in}
+use Rattle.ev_indexes.specs.KeptEndpoints.{result_in}
+use Rattle.ev_indexes.specs.Tables.{is_number, row_in}
 use Rattle.ev_indexes.specs.declared.state.State.{State}
 use Rattle.ev_indexes.specs.Indexes.{IsIndexed, SameMarks}
-use Rattle.ev_indexes.specs.Worlds.{HasRows, needs_of, rows_of_kind}
+use Rattle.ev_indexes.specs.Worlds.{HasRows}
 use Rattle.ev_indexes.proofs.SoundLemmas.{sound-added}
-use Rattle.ev_indexes.proofs.WorldLemmas.{rows_of_kind-with_statuses}
 use Rattle.ev_warming.proofs.PromotedLemmas.{there_before}
 
 -- without a result a host isn't healthy
@@ -34,52 +32,43 @@ unheard-healthy (r ∷ results) number host none = by (is_result_of number host 
     by true h rest = absurd (true≢false h)
     by false h rest = rest h
 
--- the rows of the kind, with the new one
-new-rows : (kind : Kind) (made : ℕ) (name : List ℕ) (content : Content) (rows : List GenRow)
-    → rows_with_new kind made name content (rows_of_kind kind rows) ≡ rows_of_kind kind (rows_with_new kind made name content rows)
-new-rows kind made name content rows =
-    (λ i. sym (rows_of_kind-with_statuses kind (replaced_status kind name) rows) i ++ cond (sym ((kind_decides kind kind).1 refl) i) (new_row kind made name content ∷ []) [])
-    ∙ sym (filter-append (λ (row : GenRow). kind_same row.kind kind) (with_statuses (replaced_status kind name) rows) (new_row kind made name content ∷ []))
-
 -- a row that isn't the new one was there before
-there_early : (kind : Kind) (made : ℕ) (name : List ℕ) (content : Content) (rows : List GenRow) (n : ℕ) → n ≤ made
-    → IsSome (row_in n (rows_with_new kind made name content rows)) → IsSome (row_in n rows)
-there_early kind made name content rows n below there =
+there_early : (kind : Kind) (made : ℕ) (name : List ℕ) (content : Content) (kept : List KeptChain) (rows : List GenRow) (n : ℕ) → n ≤ made
+    → IsSome (row_in n (rows_with_new kind made name content kept rows)) → IsSome (row_in n rows)
+there_early kind made name content kept rows n below there =
     there_before n (replaced_status kind name) rows
     (by (row_in n (with_statuses (replaced_status kind name) rows))
     (subst IsSome
-    (find-append (is_number n) (with_statuses (replaced_status kind name) rows) (new_row kind made name content ∷ [])
-    ∙ (λ i. option_or (row_in n (with_statuses (replaced_status kind name) rows)) (cond (ne_eqb n (made + 1) (λ e. absurd (omega arith)) i) (Some (new_row kind made name content)) None)))
+    (find-append (is_number n) (with_statuses (replaced_status kind name) rows) (new_row kind made name content kept ∷ [])
+    ∙ (λ i. option_or (row_in n (with_statuses (replaced_status kind name) rows)) (cond (ne_eqb n (made + 1) (λ e. absurd (omega arith)) i) (Some (new_row kind made name content kept)) None)))
     there))
   where
     by : (o : Option GenRow) → IsSome (option_or o None) → IsSome o
     by None h = h
     by (Some row) h = h
 
-pub added-stands : (s t : State) (world : World) (name : List ℕ) (content : Content) → IsName name → content_kind content ≡ s.kind → IsIndexed s → HasRows s world → s.table.made ≡ world.made
-    → t.kind ≡ s.kind → t.results ≡ s.results → t.table.made ≡ s.table.made + 1 → SameMarks s.watches t.watches
-    → t.table.rows ≡ rows_with_new s.kind s.table.made name content s.table.rows
-    → HasRows t (record world { rows = rows_with_new s.kind world.made name content world.rows; made = world.made + 1 }) × (t.table.made ≡ world.made + 1)
-added-stands s t world name content named typed x stands level kind results made marks rows =
+pub added-stands : (s t : State) (world : World) (kind : Kind) (name : List ℕ) (content : Content) (kept : List KeptChain) → IsName name → content_kind content ≡ kind → IsIndexed s → HasRows s world
+    → t.results ≡ s.results → t.table.made ≡ s.table.made + 1 → SameMarks s.watches t.watches
+    → t.table.rows ≡ rows_with_new kind s.table.made name content kept s.table.rows
+    → HasRows t (record world { rows = rows_with_new kind world.made name content kept world.rows; made = world.made + 1 })
+added-stands s t world kind name content kept named typed x stands results made marks rows =
     let there : (n : ℕ) → n ≤ s.table.made → IsSome (row_in n t.table.rows) → IsSome (row_in n s.table.rows) =
-    λ n below there. there_early s.kind s.table.made name content s.table.rows n below (subst (λ (rs : List GenRow). IsSome (row_in n rs)) rows there) in (
-      record {
-        sound = sound-added world s.kind name content stands.sound named typed;
-        rows = rows ∙ (λ i. rows_with_new s.kind (level i) name content (stands.rows i)) ∙ new-rows s.kind world.made name content world.rows
-            ∙ (λ i. rows_of_kind (sym kind i) (rows_with_new s.kind world.made name content world.rows));
-        told = λ q. (marks q).0 ∙ stands.told q ∙ (λ i. last_told world.arrivals (needs_of (sym kind i)) q);
-        timed = λ q. (marks q).1 ∙ stands.timed q ∙ (λ i. last_timed world.arrivals (needs_of (sym kind i)) q);
-        value = λ q. (marks q).2 ∙ stands.value q ∙ (λ i. value_by world.arrivals (needs_of (sym kind i)) q);
-        resulted = λ n h found. (λ i. is_some (result_in (results i) n h))
-            ∙ ⊎_elim (λ above. ap is_some (x.drawn n h above) ∙ sym (stands.sound.heard n h (subst (λ m. m < n) level above)))
-            (λ below. stands.resulted n h (there n below found)) (cases_lt s.table.made n);
-        healthy = λ n h found. (λ i. unwrap_or (result_in (results i) n h) false)
-            ∙ ⊎_elim (λ above. (λ i. unwrap_or (x.drawn n h above i) false)
-            ∙ sym (unheard-healthy world.results n h (stands.sound.heard n h (subst (λ m. m < n) level above))))
-            (λ below. stands.healthy n h (there n below found)) (cases_lt s.table.made n);
-      },
-      made ∙ (λ i. level i + 1),
-    )
+    λ n below there. there_early kind s.table.made name content kept s.table.rows n below (subst (λ (rs : List GenRow). IsSome (row_in n rs)) rows there) in
+    record {
+      sound = sound-added world kind name content kept stands.sound named typed;
+      rows = rows ∙ (λ i. rows_with_new kind (stands.made i) name content kept (stands.rows i));
+      made = made ∙ (λ i. stands.made i + 1);
+      told = λ q. (marks q).0 ∙ stands.told q;
+      timed = λ q. (marks q).1 ∙ stands.timed q;
+      value = λ q. (marks q).2 ∙ stands.value q;
+      resulted = λ n h found. (λ i. is_some (result_in (results i) n h))
+          ∙ ⊎_elim (λ above. ap is_some (x.drawn n h above) ∙ sym (stands.sound.heard n h (subst (λ m. m < n) stands.made above)))
+          (λ below. stands.resulted n h (there n below found)) (cases_lt s.table.made n);
+      healthy = λ n h found. (λ i. unwrap_or (result_in (results i) n h) false)
+          ∙ ⊎_elim (λ above. (λ i. unwrap_or (x.drawn n h above i) false)
+          ∙ sym (unheard-healthy world.results n h (stands.sound.heard n h (subst (λ m. m < n) stands.made above))))
+          (λ below. stands.healthy n h (there n below found)) (cases_lt s.table.made n);
+    }
 
 -- what follows from four facts that a call ensures on success
 pub on_ok4 : {A E P Q R S T : Type 0} (r : Result A E) → OnOk r P → OnOk r Q → OnOk r R → OnOk r S → (P → Q → R → S → T) → OnOk r T

@@ -1,7 +1,6 @@
 -- Which generations a promotion makes drain, one after another.
 use Rattle.std.proofs.Common.{◌≡◌, ◌∙◌, ℕ, Bool, true, false, cond, ◌&&◌, ◌||◌, nat_eq, List, ◌++◌, Option, None, Some, option_map, option_to_list, refl, sym, ap, true≢false}
 use Rattle.std.specs.List.{IsDistinct}
-use Rattle.std.specs.Str.{bytes_eq}
 use Rattle.std.proofs.lemmas.Bool.{eqb-true, and_parts}
 use Rattle.std.proofs.lemmas.List.Folds.{list_any-append}
 use Rattle.ev_types.specs.Statuses.{is_warming, is_active}
@@ -11,13 +10,13 @@ use Rattle.ev_types.specs.declared.rows.GenRow.{GenRow}
 use Rattle.ev_model.specs.Rows.{with_statuses}
 use Rattle.ev_model.specs.Signals.{is_draining}
 use Rattle.ev_model.specs.Tidy.{status_by}
-use Rattle.ev_endpoints.specs.Kept.{ResultsKept}
-use Rattle.ev_generations.specs.Tables.{row_in, status_with, with_status, numbers_of}
-use Rattle.ev_generations.proofs.TableLemmas.{row_in-with_statuses, number-row_in}
+use Rattle.ev_indexes.specs.KeptEndpoints.{ResultsKept}
+use Rattle.ev_indexes.specs.Tables.{row_in, status_with, with_status, numbers_of}
+use Rattle.ev_indexes.proofs.TableLemmas.{row_in-with_statuses, number-row_in}
 use Rattle.ev_indexes.specs.Due.{is_one_of}
 use Rattle.ev_indexes.specs.Watched.{WatchesKept}
 use Rattle.ev_indexes.specs.Ready.{is_ready_in, is_due_found}
-use Rattle.ev_indexes.specs.Indexes.{serves, numbers_where, status_in}
+use Rattle.ev_indexes.specs.Indexes.{is_of, key_of_row, serves, numbers_where, status_in}
 use Rattle.ev_warming.specs.Promotion.{succeeded_by, rows_promoted, status_drained}
 use Rattle.ev_warming.specs.Changes.{began_to_drain}
 use Rattle.ev_indexes.proofs.WhereLemmas.{among-where, found-where}
@@ -75,20 +74,20 @@ due-found watches results (Some row) h =
 -- one of them serves, and the one before it drains
 module _ (ready : GenRow → Bool) (rows after all : List GenRow) (number : ℕ) (own : GenRow) (active : Option ℕ)
     (apart : IsDistinct nat_eq (numbers_of rows)) (found : row_in number rows ≡ Some own) (warm : is_warming own.status ≡ true) (can : ready own ≡ true)
-    (before : option_to_list active ≡ numbers_where (serves own.name) rows)
-    (changed : after ≡ with_status number Active (with_statuses (status_drained own.name) rows))
+    (before : option_to_list active ≡ numbers_where (serves (key_of_row own)) rows)
+    (changed : after ≡ with_status number Active (with_statuses (status_drained (key_of_row own)) rows))
     (first : rows_promoted ready rows ≡ all) (then : rows_promoted ready after ≡ all) where
   status-after : (n : ℕ) (o : Option GenRow) → row_in n rows ≡ o
-      → row_in n after ≡ option_map (λ (r : GenRow). record r { status = cond (nat_eq number r.number) Active (status_drained own.name r) }) o
+      → row_in n after ≡ option_map (λ (r : GenRow). record r { status = cond (nat_eq number r.number) Active (status_drained (key_of_row own) r) }) o
   status-after n o at =
       (λ i. row_in n (changed i))
-      ∙ row_in-with_statuses n (status_with number Active) (with_statuses (status_drained own.name) rows)
-      ∙ (λ i. option_map (λ (r : GenRow). record r { status = status_with number Active r }) (row_in-with_statuses n (status_drained own.name) rows i))
-      ∙ (λ i. option_map (λ (r : GenRow). record r { status = status_with number Active r }) (option_map (λ (r : GenRow). record r { status = status_drained own.name r }) (at i)))
+      ∙ row_in-with_statuses n (status_with number Active) (with_statuses (status_drained (key_of_row own)) rows)
+      ∙ (λ i. option_map (λ (r : GenRow). record r { status = status_with number Active r }) (row_in-with_statuses n (status_drained (key_of_row own)) rows i))
+      ∙ (λ i. option_map (λ (r : GenRow). record r { status = status_with number Active r }) (option_map (λ (r : GenRow). record r { status = status_drained (key_of_row own) r }) (at i)))
       ∙ twice o
     where
-      twice : (o : Option GenRow) → option_map (λ (r : GenRow). record r { status = status_with number Active r }) (option_map (λ (r : GenRow). record r { status = status_drained own.name r }) o)
-          ≡ option_map (λ (r : GenRow). record r { status = cond (nat_eq number r.number) Active (status_drained own.name r) }) o
+      twice : (o : Option GenRow) → option_map (λ (r : GenRow). record r { status = status_with number Active r }) (option_map (λ (r : GenRow). record r { status = status_drained (key_of_row own) r }) o)
+          ≡ option_map (λ (r : GenRow). record r { status = cond (nat_eq number r.number) Active (status_drained (key_of_row own) r) }) o
       twice None = refl
       twice (Some r) = refl
 
@@ -99,7 +98,7 @@ module _ (ready : GenRow → Bool) (rows after all : List GenRow) (number : ℕ)
       cc
 
   -- the row drains in the end
-  gone : (n : ℕ) (r : GenRow) → row_in n rows ≡ Some r → serves own.name r ≡ true → nat_eq number r.number ≡ false → is_draining (status_in (row_in n all)) ≡ true
+  gone : (n : ℕ) (r : GenRow) → row_in n rows ≡ Some r → serves (key_of_row own) r ≡ true → nat_eq number r.number ≡ false → is_draining (status_in (row_in n all)) ≡ true
   gone n r at served other =
       let new : row_in n after ≡ Some (record r { status = Draining }) =
       status-after n (Some r) at ∙ (λ i. Some (record r { status = cond (other i) Active (cond (served i) Draining r.status) })) in
@@ -119,30 +118,30 @@ module _ (ready : GenRow → Bool) (rows after all : List GenRow) (number : ℕ)
       cold : is_active own.status ≡ false
       cold = (λ i. is_active (warm-is own.status warm i))
 
-      over : (r : GenRow) → row_in n rows ≡ Some r → (b : Bool) → serves own.name r ≡ b → (c : Bool) → nat_eq number r.number ≡ c
+      over : (r : GenRow) → row_in n rows ≡ Some r → (b : Bool) → serves (key_of_row own) r ≡ b → (c : Bool) → nat_eq number r.number ≡ c
           → (is_one_of (option_to_list active) n || (is_active (cond c Active (cond b Draining r.status)) && is_draining (status_in (row_in n all)))) ≡ (is_active r.status && is_draining (status_in (row_in n all)))
       over r at true e true f =
-          absurd (true≢false (sym warm ∙ (λ i. is_warming (sym (own-is n r at f) i).status) ∙ cold-active r.status (and_parts (is_active r.status) (bytes_eq r.name own.name) e).0))
+          absurd (true≢false (sym warm ∙ (λ i. is_warming (sym (own-is n r at f) i).status) ∙ cold-active r.status (and_parts (is_active r.status) (is_of (key_of_row own) r) e).0))
       over r at true e false f =
           (λ i. is_one_of (before i) n || (false && is_draining (status_in (row_in n all))))
-          ∙ (λ i. among-where (serves own.name) n r rows at e i || (false && is_draining (status_in (row_in n all))))
-          ∙ sym (λ i. (and_parts (is_active r.status) (bytes_eq r.name own.name) e).0 i && gone n r at e f i)
+          ∙ (λ i. among-where (serves (key_of_row own)) n r rows at e i || (false && is_draining (status_in (row_in n all))))
+          ∙ sym (λ i. (and_parts (is_active r.status) (is_of (key_of_row own) r) e).0 i && gone n r at e f i)
       over r at false e true f =
           (λ i. is_one_of (before i) n || is_draining (status_in (row_in n all)))
-          ∙ (λ i. fails-where (serves own.name) n r rows apart at e i || stays n r at (own-is n r at f) i)
+          ∙ (λ i. fails-where (serves (key_of_row own)) n r rows apart at e i || stays n r at (own-is n r at f) i)
           ∙ (λ i. sym ((λ j. is_active (own-is n r at f j).status) ∙ cold) i && is_draining (status_in (row_in n all)))
       over r at false e false f =
           (λ i. is_one_of (before i) n || (is_active r.status && is_draining (status_in (row_in n all))))
-          ∙ (λ i. fails-where (serves own.name) n r rows apart at e i || (is_active r.status && is_draining (status_in (row_in n all))))
+          ∙ (λ i. fails-where (serves (key_of_row own)) n r rows apart at e i || (is_active r.status && is_draining (status_in (row_in n all))))
 
       by : (o : Option GenRow) → row_in n rows ≡ o → (is_one_of (option_to_list active) n || began_to_drain n after all) ≡ began_to_drain n rows all
       by None at =
           (λ i. is_one_of (before i) n || (is_active (status_in (status-after n None at i)) && is_draining (status_in (row_in n all))))
-          ∙ (λ i. absent-where (serves own.name) n rows apart at i || false)
+          ∙ (λ i. absent-where (serves (key_of_row own)) n rows apart at i || false)
           ∙ (λ i. is_active (status_in (sym at i)) && is_draining (status_in (row_in n all)))
       by (Some r) at =
           (λ i. is_one_of (option_to_list active) n || (is_active (status_in (status-after n (Some r) at i)) && is_draining (status_in (row_in n all))))
-          ∙ over r at (serves own.name r) refl (nat_eq number r.number) refl
+          ∙ over r at (serves (key_of_row own) r) refl (nat_eq number r.number) refl
           ∙ (λ i. is_active (status_in (sym at i)) && is_draining (status_in (row_in n all)))
 
 -- one more of those that began to drain

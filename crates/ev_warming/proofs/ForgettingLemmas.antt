@@ -1,7 +1,6 @@
 -- What forgetting does to a state: no live row looks at what goes, so the indexes stay searches of the rows.
 use Rattle.std.proofs.Common.{◌≡◌, ◌∙◌, ◌<◌, ℕ, Bool, true, false, cond, not, ◌&&◌, ◌||◌, nat_eq, List, [], ◌∷◌, Option, None, Some, IfSome, is_some, filter, refl, sym, ap, subst, true≢false, ◌+◌, take, get_or, length, ◌++◌}
 use Rattle.std.specs.List.{list_any, AllByRecursion}
-use Rattle.std.specs.Str.{bytes_eq}
 use Rattle.std.proofs.lemmas.Bool.{eqb-true, not-true, or_right}
 use Rattle.std.proofs.lemmas.List.Folds.{list_any_more, list_any-append}
 use Rattle.ev_types.specs.Hosts.{HostRowParts}
@@ -11,16 +10,17 @@ use Rattle.ev_types.specs.declared.hosts.Host.{Host}
 use Rattle.ev_types.specs.declared.rows.GenRow.{GenRow}
 use Rattle.ev_model.specs.Warming.{is_checked}
 use Rattle.ev_model.specs.Watching.{dependencies_of, Dependency}
-use Rattle.ev_endpoints.specs.Kept.{ResultsKept, marked_in, result_in}
-use Rattle.ev_generations.specs.Tables.{row_in, numbers_of}
-use Rattle.ev_generations.proofs.TableLemmas.{number-row_in}
+use Rattle.ev_indexes.specs.KeptEndpoints.{ResultsKept, marked_in, result_in}
+use Rattle.ev_indexes.specs.Tables.{row_in, numbers_of}
+use Rattle.ev_indexes.proofs.TableLemmas.{number-row_in}
+use Rattle.ev_mentions.specs.declared.kind_keys.Key.{Key}
 use Rattle.ev_indexes.specs.declared.watches.Watch.{Watch}
 use Rattle.ev_indexes.specs.declared.state.State.{State}
 use Rattle.ev_indexes.specs.Watched.{WatchesKept, unwatched, watch_in, has_watcher}
 use Rattle.ev_indexes.specs.Ready.{assignment_in, are_results_in, is_answered_in, is_ready_in, is_due_found, is_due_at}
 use Rattle.ev_indexes.specs.Indexes.{IsAssignmentOf, IsIndexed, depends_on, waits, numbers_where}
 use Rattle.ev_indexes.specs.Due.{is_one_of}
-use Rattle.ev_indexes.specs.Needs.{is_needed}
+use Rattle.ev_indexes.specs.Needs.{is_needed, is_on}
 use Rattle.ev_warming.specs.Forgetting.{needs_in, is_need_of, is_idle, keeps_result, loses_result, IsUnheard, IsTidyBut}
 use Rattle.ev_indexes.proofs.WhereLemmas.{any-found, flipped}
 use Rattle.ev_indexes.proofs.WaitLemmas.{waits-depends, watcher-index}
@@ -65,14 +65,14 @@ results-same : (old new : ResultsKept) (n : ℕ) (hosts : List HostRowParts) →
 results-same old new n [] all = refl
 results-same old new n (h ∷ hosts) all = λ i. is_some (all.0 i) && results-same old new n hosts all.1 i
 
-agrees-same : (old new : WatchesKept) (q : List ℕ) → watch_in new q ≡ watch_in old q → Agrees old new q
+agrees-same : (old new : WatchesKept) (q : Key) → watch_in new q ≡ watch_in old q → Agrees old new q
 agrees-same old new q e = record { told = λ i. (e i).told; timed = λ i. (e i).timed; value = λ i. (e i).value }
 
 -- names go that no live row depends on
-module _ (rows : List GenRow) (old new : WatchesKept) (test : List ℕ → Bool)
-    (forgot : (q : List ℕ) → watch_in new q ≡ cond (test q && is_idle rows q) unwatched (watch_in old q)) where
+module _ (rows : List GenRow) (old new : WatchesKept) (test : Key → Bool)
+    (forgot : (q : Key) → watch_in new q ≡ cond (test q && is_idle rows q) unwatched (watch_in old q)) where
   -- a name that a live row depends on is known as before
-  pub busy-same : (q : List ℕ) → list_any (depends_on q) rows ≡ true → watch_in new q ≡ watch_in old q
+  pub busy-same : (q : Key) → list_any (depends_on q) rows ≡ true → watch_in new q ≡ watch_in old q
   busy-same q busy = forgot q ∙ (λ i. cond (test q && not (busy i)) unwatched (watch_in old q)) ∙ by (test q)
     where
       by : (b : Bool) → cond (b && false) unwatched (watch_in old q) ≡ watch_in old q
@@ -100,7 +100,7 @@ module _ (rows : List GenRow) (old new : WatchesKept) (test : List ℕ → Bool)
 -- what nobody needs any more of one row went
 module _ (s : State) (number : ℕ) (row : GenRow) (x : IsIndexed s) (found : row_in number s.table.rows ≡ Some row)
     (watches : WatchesKept)
-    (forgot : (q : List ℕ) → watch_in watches q ≡ cond (is_needed q (dependencies_of row.content) && is_idle s.table.rows q) unwatched (watch_in s.watches q))
+    (forgot : (q : Key) → watch_in watches q ≡ cond (is_needed q (dependencies_of row.content) && is_idle s.table.rows q) unwatched (watch_in s.watches q))
     (results : ResultsKept)
     (trimmed : (n : ℕ) (h : Host) → result_in results n h ≡ cond (nat_eq number n && not (keeps_result s.watches h row)) None (result_in s.results n h))
     (unmarks : (n : ℕ) → marked_in results n ≡ cond (nat_eq number n) None (marked_in s.results n)) where
@@ -138,7 +138,7 @@ module _ (s : State) (number : ℕ) (row : GenRow) (x : IsIndexed s) (found : ro
       by None at = refl
       by (Some r) at = over r at (is_warming r.status) refl
 
-  stays : (test : GenRow → Bool) (q : List ℕ) (f : Watch → List ℕ) → f unwatched ≡ [] → f (watch_in s.watches q) ≡ numbers_where test s.table.rows
+  stays : (test : GenRow → Bool) (q : Key) (f : Watch → List ℕ) → f unwatched ≡ [] → f (watch_in s.watches q) ≡ numbers_where test s.table.rows
       → ((r : GenRow) → test r ≡ true → depends_on q r ≡ true) → f (watch_in watches q) ≡ numbers_where test s.table.rows
   stays test q f empty index narrower = ap f (forgot q) ∙ by (is_needed q (dependencies_of row.content)) (list_any (depends_on q) s.table.rows) refl
     where
@@ -154,7 +154,6 @@ module _ (s : State) (number : ℕ) (row : GenRow) (x : IsIndexed s) (found : ro
   pub indexed-forgot : IsIndexed (record s { watches = watches; results = results })
   indexed-forgot = record {
     table = x.table;
-    kinds = x.kinds;
     active = x.active;
     warming = x.warming;
     unlimited = λ q. stays (waits q false) q (λ (w : Watch). w.unlimited) refl (x.unlimited q) (λ r h. waits-depends q false r h);
@@ -178,7 +177,7 @@ cond_more false false false u v = refl
 
 -- all that nobody needs any more of these rows went
 module _ (s : State) (stale : List ℕ) (tidy : IsTidyBut s stale) (watches : WatchesKept)
-    (forgot : (q : List ℕ) → watch_in watches q ≡ cond (is_need_of s.table.rows stale q && is_idle s.table.rows q) unwatched (watch_in s.watches q))
+    (forgot : (q : Key) → watch_in watches q ≡ cond (is_need_of s.table.rows stale q && is_idle s.table.rows q) unwatched (watch_in s.watches q))
     (results : ResultsKept)
     (trimmed : (n : ℕ) (h : Host) → result_in results n h ≡ cond (is_one_of stale n && loses_result s.watches h (row_in n s.table.rows)) None (result_in s.results n h))
     (unmarks : (n : ℕ) → marked_in results n ≡ cond (is_one_of stale n && is_some (row_in n s.table.rows)) None (marked_in s.results n)) where
@@ -200,7 +199,7 @@ module _ (s : State) (stale : List ℕ) (tidy : IsTidyBut s stale) (watches : Wa
           × (rows ≡ sym (assignment_in-agrees s.watches watches row.content (need-same s.table.rows s.watches watches (is_need_of s.table.rows stale) forgot n row at live)) i))
           (tidy.marked n e row at live)
 
-      marks : (q : List ℕ) → list_any (depends_on q) s.table.rows ≡ false → (b : Bool) → is_need_of s.table.rows stale q ≡ b → IsUnheard (watch_in watches q)
+      marks : (q : Key) → list_any (depends_on q) s.table.rows ≡ false → (b : Bool) → is_need_of s.table.rows stale q ≡ b → IsUnheard (watch_in watches q)
       marks q none true e =
           subst IsUnheard (sym (forgot q ∙ (λ i. cond (e i && not (none i)) unwatched (watch_in s.watches q)))) (record { told = refl; timed = refl; value = refl })
       marks q none false e =
@@ -219,9 +218,9 @@ module _ (s : State) (stale : List ℕ) (tidy : IsTidyBut s stale) (watches : Wa
 
 -- the step of forgetting, row by row
 pub watch-more : (rows : List GenRow) (old now new : WatchesKept) (stale : List ℕ) (i number : ℕ) → i < length stale → number ≡ get_or stale i number
-    → ((q : List ℕ) → watch_in now q ≡ cond (is_need_of rows (take i stale) q && is_idle rows q) unwatched (watch_in old q))
-    → ((q : List ℕ) → watch_in new q ≡ cond (is_needed q (needs_in (row_in number rows)) && is_idle rows q) unwatched (watch_in now q))
-    → (q : List ℕ) → watch_in new q ≡ cond (is_need_of rows (take (i + 1) stale) q && is_idle rows q) unwatched (watch_in old q)
+    → ((q : Key) → watch_in now q ≡ cond (is_need_of rows (take i stale) q && is_idle rows q) unwatched (watch_in old q))
+    → ((q : Key) → watch_in new q ≡ cond (is_needed q (needs_in (row_in number rows)) && is_idle rows q) unwatched (watch_in now q))
+    → (q : Key) → watch_in new q ≡ cond (is_need_of rows (take (i + 1) stale) q && is_idle rows q) unwatched (watch_in old q)
 watch-more rows old now new stale i number within is before step q =
     step q
     ∙ (λ j. cond (is_needed q (needs_in (row_in number rows)) && is_idle rows q) unwatched (before q j))
@@ -234,7 +233,7 @@ watch-more rows old now new stale i number within is before step q =
         ∙ (λ j. is_need_of rows (take i stale) q || is_needed q (needs_in (row_in (sym is j) rows)))
 
 pub result-more : (rows : List GenRow) (watches now : WatchesKept) (old mid new : ResultsKept) (stale : List ℕ) (i number : ℕ) → i < length stale → number ≡ get_or stale i number
-    → ((q : List ℕ) → watch_in now q ≡ cond (is_need_of rows (take i stale) q && is_idle rows q) unwatched (watch_in watches q))
+    → ((q : Key) → watch_in now q ≡ cond (is_need_of rows (take i stale) q && is_idle rows q) unwatched (watch_in watches q))
     → ((n : ℕ) (h : Host) → result_in mid n h ≡ cond (is_one_of (take i stale) n && loses_result watches h (row_in n rows)) None (result_in old n h))
     → ((n : ℕ) (h : Host) → result_in new n h ≡ cond (nat_eq number n && loses_result now h (row_in n rows)) None (result_in mid n h))
     → (n : ℕ) (h : Host) → result_in new n h ≡ cond (is_one_of (take (i + 1) stale) n && loses_result watches h (row_in n rows)) None (result_in old n h)
@@ -251,11 +250,11 @@ result-more rows watches now old mid new stale i number within is forgot before 
         ∙ (λ j. is_one_of (take i stale) n || flipped n number j)
 
 -- a name is idle where no number is in its index
-pub idle-index : (s : State) → IsIndexed s → (q : List ℕ) → not (has_watcher (watch_in s.watches q)) ≡ is_idle s.table.rows q
+pub idle-index : (s : State) → IsIndexed s → (q : Key) → not (has_watcher (watch_in s.watches q)) ≡ is_idle s.table.rows q
 idle-index s x q = ap not (watcher-index s x q)
 
 -- some are forgotten, and then more
-pub forgets-more : (q : List ℕ) (ds es : List Dependency) (old now new : Watch)
+pub forgets-more : (q : Key) (ds es : List Dependency) (old now new : Watch)
     → now ≡ cond (is_needed q ds && not (has_watcher old)) unwatched old
     → new ≡ cond (is_needed q es && not (has_watcher now)) unwatched now
     → new ≡ cond (is_needed q (ds ++ es) && not (has_watcher old)) unwatched old
@@ -263,7 +262,7 @@ forgets-more q ds es old now new first second =
     second
     ∙ (λ i. cond (is_needed q es && not (has_watcher (first i))) unwatched (first i))
     ∙ by (is_needed q ds) (is_needed q es) (has_watcher old) refl
-    ∙ (λ i. cond (sym (list_any-append (λ (d : Dependency). bytes_eq d.name q) ds es) i && not (has_watcher old)) unwatched old)
+    ∙ (λ i. cond (sym (list_any-append (is_on q) ds es) i && not (has_watcher old)) unwatched old)
   where
     by : (a b w : Bool) → has_watcher old ≡ w
         → cond (b && not (has_watcher (cond (a && not w) unwatched old))) unwatched (cond (a && not w) unwatched old) ≡ cond ((a || b) && not w) unwatched old

@@ -1,9 +1,8 @@
--- A state that stands for a world stands for it once both have forgotten what nobody needs any more.
+-- A state that represents a world represents it once both have forgotten what nobody needs any more.
 use Rattle.std.proofs.Common.{◌≡◌, ◌∙◌, ℕ, Bool, true, false, cond, not, ◌&&◌, ◌||◌, nat_eq, List, [], ◌∷◌, Option, None, Some, IsSome, is_some, unwrap_or, map, filter, refl, sym, ap, subst, true≢false}
 use Rattle.std.specs.List.{list_any, last_or, AllByRecursion, IsDistinct}
 use Rattle.std.specs.Str.{bytes_eq}
 use Rattle.std.proofs.lemmas.Bool.{eqb-true, eq-eqb, and_parts}
-use Rattle.ev_types.specs.Items.{content_kind}
 use Rattle.ev_types.specs.Kinds.{kind_same, kind_decides}
 use Rattle.ev_types.specs.Same.{bytes_decide}
 use Rattle.ev_types.specs.SameHosts.{host_same, host_decides, has_host}
@@ -13,71 +12,35 @@ use Rattle.ev_types.specs.declared.hosts.Host.{Host}
 use Rattle.ev_types.specs.declared.rows.Live.{Live}
 use Rattle.ev_types.specs.declared.rows.GenRow.{GenRow}
 use Rattle.ev_model.specs.World.{World, Arrived, HealthResult}
-use Rattle.ev_model.specs.Live.{live_of, lives_of}
-use Rattle.ev_model.specs.Watching.{has_dependency, is_watched, is_by_name, dependencies_of}
+use Rattle.ev_model.specs.Live.{lives_of}
+use Rattle.ev_model.specs.Watching.{is_watched}
 use Rattle.ev_model.specs.Warming.{is_word, is_timeout, last_told, last_timed, value_by, has_result, is_healthy, is_result_of, assignment_by, is_for}
 use Rattle.ev_model.specs.Tidy.{arrivals_watched, without_unwatched, is_result_due, without_old_results}
-use Rattle.ev_endpoints.specs.Kept.{ResultsKept, marked_in, result_in}
-use Rattle.ev_generations.specs.Tables.{row_in, numbers_of}
-use Rattle.ev_generations.proofs.TableLemmas.{number-row_in}
+use Rattle.ev_indexes.specs.KeptEndpoints.{ResultsKept, marked_in, result_in}
+use Rattle.ev_indexes.specs.Tables.{row_in, numbers_of}
+use Rattle.ev_indexes.proofs.TableLemmas.{number-row_in}
+use Rattle.ev_mentions.specs.declared.kind_keys.Key.{Key}
 use Rattle.ev_indexes.specs.declared.state.State.{State}
 use Rattle.ev_indexes.specs.Due.{is_one_of}
 use Rattle.ev_indexes.specs.Watched.{WatchesKept, unwatched, watch_in}
 use Rattle.ev_indexes.specs.Indexes.{depends_on}
-use Rattle.ev_indexes.specs.Worlds.{HasRows, needs_of, rows_of_kind}
-use Rattle.ev_indexes.specs.Needs.{is_needed}
+use Rattle.ev_indexes.specs.Worlds.{HasRows}
 use Rattle.ev_warming.specs.Forgetting.{is_need_of, is_idle, keeps_result, loses_result, IsUnheard, IsTidyBut}
 use Rattle.ev_indexes.proofs.WhereLemmas.{any-found, all-found}
-use Rattle.ev_indexes.proofs.RowLemmas.{any_agrees, all_then, found-of_kind, all-at}
-use Rattle.ev_indexes.proofs.SoundLemmas.{contents-of}
-use Rattle.ev_indexes.proofs.DependencyLemmas.{has_dependency-of}
+use Rattle.ev_indexes.proofs.ReadLemmas.{watched-world}
 use Rattle.ev_indexes.proofs.WorldLemmas.{hosts-by}
 use Rattle.ev_warming.proofs.ForgettingLemmas.{busy-same, loses-same, tidy-forgot}
 use Rattle.ev_warming.proofs.SortedLemmas.{last_made-same, value_by-same}
 
 -- who is watched in the world
-
-any-lives : (f : Live → Bool) (rows : List GenRow) → list_any f (map live_of (filter (λ (row : GenRow). is_live row.status) rows)) ≡ list_any (λ (row : GenRow). is_live row.status && f (live_of row)) rows
-any-lives f [] = refl
-any-lives f (row ∷ rows) = by (is_live row.status) (any-lives f rows)
-  where
-    by : (b : Bool) → list_any f (map live_of (filter (λ (r : GenRow). is_live r.status) rows)) ≡ list_any (λ (r : GenRow). is_live r.status && f (live_of r)) rows
-        → list_any f (map live_of (cond b (row ∷ filter (λ (r : GenRow). is_live r.status) rows) (filter (λ (r : GenRow). is_live r.status) rows)))
-        ≡ ((b && f (live_of row)) || list_any (λ (r : GenRow). is_live r.status && f (live_of r)) rows)
-    by true h = ap (λ b. f (live_of row) || b) h
-    by false h = h
-
-any-of_kind : (kind : Kind) (f : GenRow → Bool) (rows : List GenRow) → list_any f (rows_of_kind kind rows) ≡ list_any (λ (row : GenRow). kind_same row.kind kind && f row) rows
-any-of_kind kind f [] = refl
-any-of_kind kind f (row ∷ rows) = by (kind_same row.kind kind) (any-of_kind kind f rows)
-  where
-    by : (b : Bool) → list_any f (rows_of_kind kind rows) ≡ list_any (λ (r : GenRow). kind_same r.kind kind && f r) rows
-        → list_any f (cond b (row ∷ rows_of_kind kind rows) (rows_of_kind kind rows)) ≡ ((b && f row) || list_any (λ (r : GenRow). kind_same r.kind kind && f r) rows)
-    by true h = ap (λ b. f row || b) h
-    by false h = h
-
-swapped : (a b c : Bool) → (a && (b && c)) ≡ (b && (a && c))
-swapped true b c = refl
-swapped false true c = refl
-swapped false false c = refl
-
-pub watched-same : (s : State) (world : World) → HasRows s world → is_by_name s.kind ≡ false → (q : List ℕ) → is_watched (lives_of world) (needs_of s.kind) q ≡ list_any (depends_on q) s.table.rows
-watched-same s world stands k q =
-    any-lives (λ (live : Live). has_dependency (needs_of s.kind) q live.content) world.rows
-    ∙ any_agrees (λ (r : GenRow). is_live r.status && has_dependency (needs_of s.kind) q r.content) (λ (r : GenRow). kind_same r.kind s.kind && depends_on q r) world.rows
-    (all_then (λ (r : GenRow). content_kind r.content ≡ r.kind)
-    (λ (r : GenRow). (is_live r.status && has_dependency (needs_of s.kind) q r.content) ≡ (kind_same r.kind s.kind && depends_on q r)) world.rows
-    (λ r typed. (λ i. is_live r.status && has_dependency-of s.kind q r.content k i) ∙ (λ i. is_live r.status && (kind_same (typed i) s.kind && is_needed q (dependencies_of r.content)))
-    ∙ swapped (is_live r.status) (kind_same r.kind s.kind) (is_needed q (dependencies_of r.content)))
-    stands.sound.typed)
-    ∙ sym (any-of_kind s.kind (depends_on q) world.rows)
-    ∙ ap (list_any (depends_on q)) (sym stands.rows)
+pub watched-same : (s : State) (world : World) → HasRows s world → (q : Key) → is_watched (lives_of world) q.kind q.name ≡ list_any (depends_on q) s.table.rows
+watched-same s world stands q = sym (watched-world s world stands q)
 
 pub both-same : {A : Type 0} (x : A) (b : Bool) → x ≡ cond b x x
 both-same x true = refl
 both-same x false = refl
 
--- what is left of what came for a name
+-- what is left of what was received for a name
 pub left-for : (lives : List Live) (arrivals : List Arrived) (kind : Kind) (q : List ℕ) → filter (is_for kind q) (arrivals_watched lives arrivals) ≡ cond (is_watched lives kind q) (filter (is_for kind q) arrivals) []
 left-for lives [] kind q = both-same [] (is_watched lives kind q)
 left-for lives (a ∷ arrivals) kind q = by (is_watched lives a.kind a.name) refl (is_for kind q a) refl (left-for lives arrivals kind q)
@@ -178,63 +141,60 @@ there-is None h = absurd (true≢false (sym h))
 there-is (Some row) h = (row, refl)
 
 module _ (s : State) (stale : List ℕ) (tidy : IsTidyBut s stale) (watches : WatchesKept)
-    (forgot : (q : List ℕ) → watch_in watches q ≡ cond (is_need_of s.table.rows stale q && is_idle s.table.rows q) unwatched (watch_in s.watches q))
+    (forgot : (q : Key) → watch_in watches q ≡ cond (is_need_of s.table.rows stale q && is_idle s.table.rows q) unwatched (watch_in s.watches q))
     (results : ResultsKept)
     (trimmed : (n : ℕ) (h : Host) → result_in results n h ≡ cond (is_one_of stale n && loses_result s.watches h (row_in n s.table.rows)) None (result_in s.results n h))
     (unmarks : (n : ℕ) → marked_in results n ≡ cond (is_one_of stale n && is_some (row_in n s.table.rows)) None (marked_in s.results n))
-    (world : World) (stands : HasRows s world) (rows : is_by_name s.kind ≡ false) where
+    (world : World) (stands : HasRows s world) where
   abbrev arrivals : List Arrived
   arrivals = arrivals_watched (lives_of world) world.arrivals
 
-  came-busy : (q : List ℕ) → list_any (depends_on q) s.table.rows ≡ true → filter (is_for (needs_of s.kind) q) arrivals ≡ filter (is_for (needs_of s.kind) q) world.arrivals
+  came-busy : (q : Key) → list_any (depends_on q) s.table.rows ≡ true → filter (is_for q.kind q.name) arrivals ≡ filter (is_for q.kind q.name) world.arrivals
   came-busy q e =
-      left-for (lives_of world) world.arrivals (needs_of s.kind) q
-      ∙ (λ i. cond ((watched-same s world stands rows q ∙ e) i) (filter (is_for (needs_of s.kind) q) world.arrivals) [])
+      left-for (lives_of world) world.arrivals q.kind q.name
+      ∙ (λ i. cond ((watched-same s world stands q ∙ e) i) (filter (is_for q.kind q.name) world.arrivals) [])
 
-  came-idle : (q : List ℕ) → list_any (depends_on q) s.table.rows ≡ false → filter (is_for (needs_of s.kind) q) arrivals ≡ []
+  came-idle : (q : Key) → list_any (depends_on q) s.table.rows ≡ false → filter (is_for q.kind q.name) arrivals ≡ []
   came-idle q e =
-      left-for (lives_of world) world.arrivals (needs_of s.kind) q
-      ∙ (λ i. cond ((watched-same s world stands rows q ∙ e) i) (filter (is_for (needs_of s.kind) q) world.arrivals) [])
+      left-for (lives_of world) world.arrivals q.kind q.name
+      ∙ (λ i. cond ((watched-same s world stands q ∙ e) i) (filter (is_for q.kind q.name) world.arrivals) [])
 
-  busy : (q : List ℕ) → list_any (depends_on q) s.table.rows ≡ true → watch_in watches q ≡ watch_in s.watches q
+  busy : (q : Key) → list_any (depends_on q) s.table.rows ≡ true → watch_in watches q ≡ watch_in s.watches q
   busy q e = busy-same s.table.rows s.watches watches (is_need_of s.table.rows stale) forgot q e
 
-  idle : (q : List ℕ) → list_any (depends_on q) s.table.rows ≡ false → IsUnheard (watch_in watches q)
+  idle : (q : Key) → list_any (depends_on q) s.table.rows ≡ false → IsUnheard (watch_in watches q)
   idle q e = (tidy-forgot s stale tidy watches forgot results trimmed unmarks).marks q e refl
 
-  told : (q : List ℕ) → (watch_in watches q).told ≡ last_told arrivals (needs_of s.kind) q
+  told : (q : Key) → (watch_in watches q).told ≡ last_told arrivals q.kind q.name
   told q = by (list_any (depends_on q) s.table.rows) refl
     where
-      by : (b : Bool) → list_any (depends_on q) s.table.rows ≡ b → (watch_in watches q).told ≡ last_told arrivals (needs_of s.kind) q
-      by true e = (λ i. (busy q e i).told) ∙ stands.told q ∙ last_made-same is_word world.arrivals arrivals (needs_of s.kind) q (sym (came-busy q e))
-      by false e = (idle q e).told ∙ last_made-same is_word [] arrivals (needs_of s.kind) q (sym (came-idle q e))
+      by : (b : Bool) → list_any (depends_on q) s.table.rows ≡ b → (watch_in watches q).told ≡ last_told arrivals q.kind q.name
+      by true e = (λ i. (busy q e i).told) ∙ stands.told q ∙ last_made-same is_word world.arrivals arrivals q.kind q.name (sym (came-busy q e))
+      by false e = (idle q e).told ∙ last_made-same is_word [] arrivals q.kind q.name (sym (came-idle q e))
 
-  timed : (q : List ℕ) → (watch_in watches q).timed ≡ last_timed arrivals (needs_of s.kind) q
+  timed : (q : Key) → (watch_in watches q).timed ≡ last_timed arrivals q.kind q.name
   timed q = by (list_any (depends_on q) s.table.rows) refl
     where
-      by : (b : Bool) → list_any (depends_on q) s.table.rows ≡ b → (watch_in watches q).timed ≡ last_timed arrivals (needs_of s.kind) q
-      by true e = (λ i. (busy q e i).timed) ∙ stands.timed q ∙ last_made-same is_timeout world.arrivals arrivals (needs_of s.kind) q (sym (came-busy q e))
-      by false e = (idle q e).timed ∙ last_made-same is_timeout [] arrivals (needs_of s.kind) q (sym (came-idle q e))
+      by : (b : Bool) → list_any (depends_on q) s.table.rows ≡ b → (watch_in watches q).timed ≡ last_timed arrivals q.kind q.name
+      by true e = (λ i. (busy q e i).timed) ∙ stands.timed q ∙ last_made-same is_timeout world.arrivals arrivals q.kind q.name (sym (came-busy q e))
+      by false e = (idle q e).timed ∙ last_made-same is_timeout [] arrivals q.kind q.name (sym (came-idle q e))
 
-  value : (q : List ℕ) → (watch_in watches q).value ≡ value_by arrivals (needs_of s.kind) q
+  value : (q : Key) → (watch_in watches q).value ≡ value_by arrivals q.kind q.name
   value q = by (list_any (depends_on q) s.table.rows) refl
     where
-      by : (b : Bool) → list_any (depends_on q) s.table.rows ≡ b → (watch_in watches q).value ≡ value_by arrivals (needs_of s.kind) q
-      by true e = (λ i. (busy q e i).value) ∙ stands.value q ∙ value_by-same world.arrivals arrivals (needs_of s.kind) q (sym (came-busy q e))
-      by false e = (idle q e).value ∙ value_by-same [] arrivals (needs_of s.kind) q (sym (came-idle q e))
+      by : (b : Bool) → list_any (depends_on q) s.table.rows ≡ b → (watch_in watches q).value ≡ value_by arrivals q.kind q.name
+      by true e = (λ i. (busy q e i).value) ∙ stands.value q ∙ value_by-same world.arrivals arrivals q.kind q.name (sym (came-busy q e))
+      by false e = (idle q e).value ∙ value_by-same [] arrivals q.kind q.name (sym (came-idle q e))
 
   -- the machine keeps the results that the state keeps
   module _ (n : ℕ) (h : Host) (row : GenRow) (at : row_in n s.table.rows ≡ Some row) where
-    typed : content_kind row.content ≡ s.kind
-    typed = all-at (λ (r : GenRow). content_kind r.content ≡ s.kind) n row s.table.rows at (contents-of s world stands)
-
     due-same : (r : HealthResult) → is_result_of n h r ≡ true → is_result_due arrivals world.rows r ≡ keeps_result watches h row
     due-same r e =
         let p = and_parts (nat_eq r.number n) (host_same r.host h) e in
         (λ i. list_any (λ (other : GenRow). is_live other.status && nat_eq other.number (eqb-true r.number n p.0 i) && has_host ((host_decides r.host h).0 p.1 i) (assignment_by arrivals other.content)) world.rows)
         ∙ any-numbered (λ (other : GenRow). has_host h (assignment_by arrivals other.content)) n row world.rows
-        (found-of_kind s.kind n row world.rows stands.sound.table.apart ((λ i. row_in n (sym stands.rows i)) ∙ at)) stands.sound.table.apart
-        ∙ (λ i. is_live row.status && has_host h (sym (hosts-by s.kind watches arrivals value row.content typed) i))
+        ((λ i. row_in n (sym stands.rows i)) ∙ at) stands.sound.table.apart
+        ∙ (λ i. is_live row.status && has_host h (sym (hosts-by watches arrivals value row.content) i))
 
     left : filter (is_result_of n h) (filter (is_result_due arrivals world.rows) world.results) ≡ cond (keeps_result watches h row) (filter (is_result_of n h) world.results) []
     left = results-left (is_result_due arrivals world.rows) (keeps_result watches h row) n h due-same world.results
@@ -280,6 +240,7 @@ module _ (s : State) (stale : List ℕ) (tidy : IsTidyBut s stale) (watches : Wa
       heard = λ n h above. none-left (is_result_of n h) (is_result_due arrivals world.rows) world.results (stands.sound.heard n h above);
     };
     rows = stands.rows;
+    made = stands.made;
     told = told;
     timed = timed;
     value = value;

@@ -1,8 +1,8 @@
--- What a health result does: the indexes stay searches of the rows, and a state that stands for a world stands for it with the result.
-use Rattle.std.proofs.Common.{◌≡◌, ◌∙◌, ◌<◌, ℕ, Bool, true, false, cond, not, ◌&&◌, ◌||◌, nat_eq, List, [], ◌∷◌, ◌++◌, ◌⊎◌, inl, inr, Option, None, Some, IfSome, IsSome, is_some, option_to_list, unwrap_or, map, filter, refl, sym, ap, subst, true≢false}
+-- What a health result does: the indexes stay searches of the rows, and a state that represents a world represents it
+-- with the result.
+use Rattle.std.proofs.Common.{◌≡◌, ◌∙◌, ◌<◌, ℕ, Bool, true, false, cond, not, ◌&&◌, ◌||◌, nat_eq, List, [], ◌∷◌, ◌++◌, inl, inr, Option, None, Some, IfSome, IsSome, is_some, option_to_list, unwrap_or, map, filter, refl, sym, ap, subst, true≢false}
 use Rattle.std.specs.Option.{option_and_then}
 use Rattle.std.specs.List.{list_any, last_or}
-use Rattle.std.specs.Str.{bytes_eq}
 use Rattle.std.proofs.Math.Bool.{or-true}
 use Rattle.std.proofs.lemmas.Bool.{eqb-true, eq-eqb, and_parts}
 use Rattle.std.proofs.lemmas.Option.{none-some as not_some}
@@ -10,8 +10,6 @@ use Rattle.std.proofs.lemmas.List.{map-append}
 use Rattle.std.proofs.lemmas.List.Elements.{filter-append}
 use Rattle.std.proofs.lemmas.List.Folds.{list_any-append}
 use Rattle.ev_types.specs.Hosts.{HostRowParts}
-use Rattle.ev_types.specs.Items.{content_kind}
-use Rattle.ev_types.specs.Kinds.{kind_same}
 use Rattle.ev_types.specs.SameHosts.{host_same, host_decides, has_host}
 use Rattle.ev_types.specs.Statuses.{is_warming, is_active, is_live}
 use Rattle.ev_types.specs.declared.hosts.Host.{Host}
@@ -22,9 +20,11 @@ use Rattle.ev_types.specs.declared.rows.GenRow.{GenRow}
 use Rattle.ev_model.specs.World.{World, HealthResult}
 use Rattle.ev_model.specs.Warming.{is_checked, assignment_by, is_result_of, has_result}
 use Rattle.ev_model.specs.Signals.{is_meant, rows_meant, result_for, with_results}
-use Rattle.ev_endpoints.specs.Kept.{ResultsKept, marked_in, result_in, Notes}
-use Rattle.ev_generations.specs.Tables.{row_in, numbers_of}
-use Rattle.ev_generations.proofs.TableLemmas.{number-row_in}
+use Rattle.ev_model.specs.Rows.{is_row_of}
+use Rattle.ev_indexes.specs.KeptEndpoints.{ResultsKept, marked_in, result_in, Notes}
+use Rattle.ev_indexes.specs.Tables.{row_in, numbers_of}
+use Rattle.ev_indexes.proofs.TableLemmas.{number-row_in}
+use Rattle.ev_mentions.specs.Keys.{named}
 use Rattle.ev_indexes.specs.declared.state.State.{State}
 use Rattle.ev_indexes.specs.Due.{is_one_of, has_number}
 use Rattle.ev_indexes.specs.Standings.{standing_in}
@@ -33,10 +33,9 @@ use Rattle.ev_indexes.specs.Ready.{are_results_in, assignment_in, is_answered_in
 use Rattle.ev_indexes.specs.Indexes.{IsAssignmentOf, IsIndexed, serves, warms, passes}
 use Rattle.ev_warming.specs.Forgetting.{IsTidyBut, keeps_result}
 use Rattle.ev_warming.specs.Health.{takes_at, is_meant_in, numbers_meant, MarksAssignments, MayMarkOwn, NotesEach}
-use Rattle.ev_indexes.specs.Worlds.{HasRows, rows_of_kind}
+use Rattle.ev_indexes.specs.Worlds.{HasRows}
 use Rattle.ev_indexes.proofs.WhereLemmas.{flipped, among-row}
-use Rattle.ev_indexes.proofs.RowLemmas.{all_then, both_all, any-some, filter-rows_of_kind, filter_agrees}
-use Rattle.ev_indexes.proofs.SoundLemmas.{contents-of}
+use Rattle.ev_indexes.proofs.RowLemmas.{any-some}
 use Rattle.ev_indexes.proofs.WorldLemmas.{hosts}
 use Rattle.ev_warming.proofs.ArrivalLemmas.{last_or-append}
 
@@ -67,7 +66,6 @@ pub indexed-noted : (s : State) (number : ℕ) (row : GenRow) (host : Host) (hea
     → IsIndexed (record s { results = results; due = due })
 indexed-noted s number row host healthy results due x found notes marks looked = record {
   table = x.table;
-  kinds = x.kinds;
   active = x.active;
   warming = x.warming;
   unlimited = x.unlimited;
@@ -161,34 +159,34 @@ holder watches host rows (Some k) m e h =
     (k, (λ i. is_one_of (cond (h i) (k ∷ []) []) k) ∙ (λ i. eq-eqb k k refl i || false))
 
 module _ (s : State) (x : IsIndexed s) (name : List ℕ) (host : Host) (served warmed : Bool)
-    (takes_served : served ≡ takes_at s.watches host (standing_in s.names name).active s.table.rows)
-    (takes_warmed : warmed ≡ takes_at s.watches host (standing_in s.names name).warming s.table.rows) where
+    (takes_served : served ≡ takes_at s.watches host (standing_in s.names (named Cds name)).active s.table.rows)
+    (takes_warmed : warmed ≡ takes_at s.watches host (standing_in s.names (named Cds name)).warming s.table.rows) where
   abbrev takes : GenRow → Bool
   takes row = takes_result s.watches host row.content
 
   -- the numbers that the result is for are those of the one that serves and of the one that warms, where they take it
   pub among-meant : (n : ℕ) → is_one_of (numbers_meant s.watches name host s.table.rows) n
-      ≡ (is_one_of (cond served (option_to_list (standing_in s.names name).active) []) n || is_one_of (cond warmed (option_to_list (standing_in s.names name).warming) []) n)
+      ≡ (is_one_of (cond served (option_to_list (standing_in s.names (named Cds name)).active) []) n || is_one_of (cond warmed (option_to_list (standing_in s.names (named Cds name)).warming) []) n)
   among-meant n =
       among-row (is_meant_in s.watches name host) n s.table.rows x.table.apart ∙ by (row_in n s.table.rows)
-      ∙ (λ i. (sym (among-row (serves name) n s.table.rows x.table.apart) i && passes takes (row_in n s.table.rows))
-      || (sym (among-row (warms name) n s.table.rows x.table.apart) i && passes takes (row_in n s.table.rows)))
-      ∙ (λ i. (is_one_of (sym (x.active name) i) n && passes takes (row_in n s.table.rows)) || (is_one_of (sym (x.warming name) i) n && passes takes (row_in n s.table.rows)))
-      ∙ (λ i. sym (among-taken takes s.table.rows (standing_in s.names name).active served takes_served n) i
-      || sym (among-taken takes s.table.rows (standing_in s.names name).warming warmed takes_warmed n) i)
+      ∙ (λ i. (sym (among-row (serves (named Cds name)) n s.table.rows x.table.apart) i && passes takes (row_in n s.table.rows))
+      || (sym (among-row (warms (named Cds name)) n s.table.rows x.table.apart) i && passes takes (row_in n s.table.rows)))
+      ∙ (λ i. (is_one_of (sym (x.active (named Cds name)) i) n && passes takes (row_in n s.table.rows)) || (is_one_of (sym (x.warming (named Cds name)) i) n && passes takes (row_in n s.table.rows)))
+      ∙ (λ i. sym (among-taken takes s.table.rows (standing_in s.names (named Cds name)).active served takes_served n) i
+      || sym (among-taken takes s.table.rows (standing_in s.names (named Cds name)).warming warmed takes_warmed n) i)
     where
-      by : (o : Option GenRow) → passes (is_meant_in s.watches name host) o ≡ ((passes (serves name) o && passes takes o) || (passes (warms name) o && passes takes o))
+      by : (o : Option GenRow) → passes (is_meant_in s.watches name host) o ≡ ((passes (serves (named Cds name)) o && passes takes o) || (passes (warms (named Cds name)) o && passes takes o))
       by None = refl
-      by (Some row) = either_way row.status (bytes_eq row.name name) (takes_result s.watches host row.content)
+      by (Some row) = either_way row.status (is_row_of Cds name row) (takes_result s.watches host row.content)
 
   -- what both notes do together
-  pub notes-both : (healthy : Bool) (middle new : ResultsKept) → NotesEach s.results middle (cond served (option_to_list (standing_in s.names name).active) []) host healthy
-      → NotesEach middle new (cond warmed (option_to_list (standing_in s.names name).warming) []) host healthy
+  pub notes-both : (healthy : Bool) (middle new : ResultsKept) → NotesEach s.results middle (cond served (option_to_list (standing_in s.names (named Cds name)).active) []) host healthy
+      → NotesEach middle new (cond warmed (option_to_list (standing_in s.names (named Cds name)).warming) []) host healthy
       → NotesEach s.results new (numbers_meant s.watches name host s.table.rows) host healthy
   notes-both healthy middle new first second n h =
       second n h
-      ∙ (λ i. cond (is_one_of (cond warmed (option_to_list (standing_in s.names name).warming) []) n && host_same host h) (Some healthy) (first n h i))
-      ∙ by (is_one_of (cond served (option_to_list (standing_in s.names name).active) []) n) (is_one_of (cond warmed (option_to_list (standing_in s.names name).warming) []) n) (host_same host h)
+      ∙ (λ i. cond (is_one_of (cond warmed (option_to_list (standing_in s.names (named Cds name)).warming) []) n && host_same host h) (Some healthy) (first n h i))
+      ∙ by (is_one_of (cond served (option_to_list (standing_in s.names (named Cds name)).active) []) n) (is_one_of (cond warmed (option_to_list (standing_in s.names (named Cds name)).warming) []) n) (host_same host h)
       ∙ (λ i. cond (sym (among-meant n) i && host_same host h) (Some healthy) (result_in s.results n h))
     where
       by : (a b c : Bool) → cond (b && c) (Some healthy) (cond (a && c) (Some healthy) (result_in s.results n h)) ≡ cond ((a || b) && c) (Some healthy) (result_in s.results n h)
@@ -205,14 +203,14 @@ module _ (s : State) (x : IsIndexed s) (name : List ℕ) (host : Host) (served w
   any-meant =
       any-some (is_meant_in s.watches name host) s.table.rows
       ∙ by served warmed
-      (λ h. let there = holder s.watches host s.table.rows (standing_in s.names name).active served takes_served h in
+      (λ h. let there = holder s.watches host s.table.rows (standing_in s.names (named Cds name)).active served takes_served h in
       among-some (numbers_meant s.watches name host s.table.rows) there.0
-      (among-meant there.0 ∙ (λ i. there.1 i || is_one_of (cond warmed (option_to_list (standing_in s.names name).warming) []) there.0)))
-      (λ h. let there = holder s.watches host s.table.rows (standing_in s.names name).warming warmed takes_warmed h in
+      (among-meant there.0 ∙ (λ i. there.1 i || is_one_of (cond warmed (option_to_list (standing_in s.names (named Cds name)).warming) []) there.0)))
+      (λ h. let there = holder s.watches host s.table.rows (standing_in s.names (named Cds name)).warming warmed takes_warmed h in
       among-some (numbers_meant s.watches name host s.table.rows) there.0
-      (among-meant there.0 ∙ (λ i. is_one_of (cond served (option_to_list (standing_in s.names name).active) []) there.0 || there.1 i) ∙ or-true (is_one_of (cond served (option_to_list (standing_in s.names name).active) []) there.0)))
+      (among-meant there.0 ∙ (λ i. is_one_of (cond served (option_to_list (standing_in s.names (named Cds name)).active) []) there.0 || there.1 i) ∙ or-true (is_one_of (cond served (option_to_list (standing_in s.names (named Cds name)).active) []) there.0)))
       (λ h k. none-some (numbers_meant s.watches name host s.table.rows) (λ n. among-meant n
-      ∙ (λ i. is_one_of (cond (h i) (option_to_list (standing_in s.names name).active) []) n || is_one_of (cond (k i) (option_to_list (standing_in s.names name).warming) []) n)))
+      ∙ (λ i. is_one_of (cond (h i) (option_to_list (standing_in s.names (named Cds name)).active) []) n || is_one_of (cond (k i) (option_to_list (standing_in s.names (named Cds name)).warming) []) n)))
     where
       by : (a b : Bool) → (a ≡ true → has_number (numbers_meant s.watches name host s.table.rows) ≡ true) → (b ≡ true → has_number (numbers_meant s.watches name host s.table.rows) ≡ true)
           → (a ≡ false → b ≡ false → has_number (numbers_meant s.watches name host s.table.rows) ≡ false) → has_number (numbers_meant s.watches name host s.table.rows) ≡ (a || b)
@@ -255,36 +253,27 @@ last-more (row ∷ rows) host healthy n h o =
         none false = refl
     by false b c more = more o
 
--- clusters that stand for a world
-module _ (s : State) (world : World) (stands : HasRows s world) (x : IsIndexed s) (cds : s.kind ≡ Cds) (name : List ℕ) (host : Host) where
+-- a state that represents a world
+module _ (s : State) (world : World) (stands : HasRows s world) (x : IsIndexed s) (name : List ℕ) (host : Host) where
   -- the result is for the same rows
   pub rows_meant-same : rows_meant world.arrivals name host world.rows ≡ filter (is_meant_in s.watches name host) s.table.rows
-  rows_meant-same =
-      sym (filter-rows_of_kind Cds (is_meant world.arrivals name host)
-      (λ row h. first (kind_same row.kind Cds) (bytes_eq row.name name) (is_live row.status) (is_checked row.content) (has_host host (assignment_by world.arrivals row.content)) h) world.rows)
-      ∙ (λ i. filter (is_meant world.arrivals name host) (rows_of_kind (sym cds i) world.rows))
-      ∙ ap (filter (is_meant world.arrivals name host)) (sym stands.rows)
-      ∙ sym (filter_agrees (is_meant_in s.watches name host) (is_meant world.arrivals name host) s.table.rows
-      (all_then (λ (r : GenRow). (r.kind ≡ s.kind) × (content_kind r.content ≡ s.kind)) (λ (r : GenRow). is_meant_in s.watches name host r ≡ is_meant world.arrivals name host r)
-      s.table.rows over (both_all (λ (r : GenRow). r.kind ≡ s.kind) (λ (r : GenRow). content_kind r.content ≡ s.kind) s.table.rows x.kinds (contents-of s world stands))))
+  rows_meant-same = ap (filter (is_meant world.arrivals name host)) (sym stands.rows) ∙ each s.table.rows
     where
-      first : (k n l c a : Bool) → ((((k && n) && l) && c) && a) ≡ true → k ≡ true
-      first true n l c a h = refl
-      first false n l c a h = h
+      by : (n l c a : Bool) → (((n && l) && c) && a) ≡ ((l && n) && (c && a))
+      by true true true a = refl
+      by true true false a = refl
+      by true false c a = refl
+      by false true c a = refl
+      by false false c a = refl
 
-      by : (k n l c a : Bool) → k ≡ true → ((l && n) && (c && a)) ≡ ((((k && n) && l) && c) && a)
-      by false n l c a h = absurd (true≢false (sym h))
-      by true true true true a h = refl
-      by true true true false a h = refl
-      by true true false c a h = refl
-      by true false true c a h = refl
-      by true false false c a h = refl
+      over : (r : GenRow) → is_meant world.arrivals name host r ≡ is_meant_in s.watches name host r
+      over r =
+          by (is_row_of Cds name r) (is_live r.status) (is_checked r.content) (has_host host (assignment_by world.arrivals r.content))
+          ∙ (λ i. (is_live r.status && is_row_of Cds name r) && (is_checked r.content && has_host host (sym (hosts s world stands r.content) i)))
 
-      over : (r : GenRow) → (r.kind ≡ s.kind) × (content_kind r.content ≡ s.kind) → is_meant_in s.watches name host r ≡ is_meant world.arrivals name host r
-      over r (k, c) =
-          (λ i. (is_live r.status && bytes_eq r.name name) && (is_checked r.content && has_host host (hosts s world stands r.content c i)))
-          ∙ by (kind_same r.kind Cds) (bytes_eq r.name name) (is_live r.status) (is_checked r.content) (has_host host (assignment_by world.arrivals r.content))
-          ((λ i. kind_same ((k ∙ cds) i) Cds))
+      each : (rs : List GenRow) → filter (is_meant world.arrivals name host) rs ≡ filter (is_meant_in s.watches name host) rs
+      each [] = refl
+      each (r ∷ rs) = λ i. cond (over r i) (r ∷ each rs i) (each rs i)
 
   pub any_meant-same : list_any (is_meant_in s.watches name host) s.table.rows ≡ list_any (is_meant world.arrivals name host) world.rows
   any_meant-same =
@@ -296,6 +285,7 @@ module _ (s : State) (world : World) (stands : HasRows s world) (x : IsIndexed s
   noted-stands healthy results due notes = record {
     sound = record { table = stands.sound.table; typed = stands.sound.typed; named = stands.sound.named; heard = heard_too };
     rows = stands.rows;
+    made = stands.made;
     told = stands.told;
     timed = stands.timed;
     value = stands.value;
@@ -352,8 +342,8 @@ noted-tidy s x name host healthy results due notes marks stale tidy = record {
     by n row h found fresh lost true e true f =
         let meant : is_meant_in s.watches name host row ≡ true =
         (λ i. passes (is_meant_in s.watches name host) (sym found i)) ∙ sym (among-row (is_meant_in s.watches name host) n s.table.rows x.table.apart) ∙ e in
-        let live = and_parts (is_live row.status && bytes_eq row.name name) (takes_result s.watches host row.content) meant in
-        let own = and_parts (is_live row.status) (bytes_eq row.name name) live.0 in
+        let live = and_parts (is_live row.status && is_row_of Cds name row) (takes_result s.watches host row.content) meant in
+        let own = and_parts (is_live row.status) (is_row_of Cds name row) live.0 in
         let here = and_parts (is_checked row.content) (has_host host (assignment_in s.watches row.content)) live.1 in
         absurd (true≢false ((λ i. sym own.0 i && sym here.1 i) ∙ (λ i. is_live row.status && has_host ((host_decides host h).0 f i) (assignment_in s.watches row.content)) ∙ lost))
     by n row h found fresh lost true e false f = tidy.results n row h found fresh lost

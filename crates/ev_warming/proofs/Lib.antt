@@ -21,5 +21,5 @@ pub mod AbsenceLemmas
 pub mod JudgedLemmas
 pub mod QuietLemmas
 pub mod PromotedLemmas
-pub mod MadeLemmas
-pub mod PlaceLemmas
+pub mod StepLemmas
+pub mod ChainLemmas

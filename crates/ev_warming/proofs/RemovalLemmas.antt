@@ -2,23 +2,21 @@
 use Rattle.std.proofs.Common.{◌≡◌, ◌∙◌, ◌<◌, ℕ, Bool, true, false, cond, not, ◌&&◌, ◌||◌, nat_eq, List, [], ◌∷◌, Option, None, Some, IsSome, filter, refl, sym, ap, subst, true≢false}
 use Rattle.std.specs.List.{list_any, AllByRecursion, IsDistinct}
 use Rattle.std.proofs.lemmas.Bool.{eqb-true, eq-eqb, not-true}
-use Rattle.std.specs.Str.{bytes_eq}
 use Rattle.ev_types.specs.Items.{content_kind}
-use Rattle.ev_types.specs.Kinds.{kind_same}
 use Rattle.ev_types.specs.Texts.{IsName}
 use Rattle.ev_types.specs.Statuses.{is_warming, is_active, is_live}
-use Rattle.ev_types.specs.declared.contents.Kind.{Kind}
 use Rattle.ev_types.specs.declared.rows.RowStatus.{RowStatus}
 use Rattle.ev_types.specs.declared.rows.RowStatus.TheVariants.{Warming, Active, Draining, Dropped}
 use Rattle.ev_types.specs.declared.rows.GenRow.{GenRow}
 use Rattle.ev_model.specs.World.{World}
 use Rattle.ev_model.specs.Watching.{dependencies_of}
-use Rattle.ev_generations.specs.Tables.{GenerationsParts, IsTable, is_number, row_in, numbers_of, without_row}
+use Rattle.ev_indexes.specs.Tables.{GenerationsParts, IsTable, is_number, row_in, numbers_of, without_row}
+use Rattle.ev_mentions.specs.declared.kind_keys.Key.{Key}
 use Rattle.ev_warming.specs.declared.manager.Manager.{Manager}
 use Rattle.ev_indexes.specs.Ready.{is_ready_in, is_due_found, is_due_at}
 use Rattle.ev_indexes.specs.Addresses.{listens_at}
-use Rattle.ev_indexes.specs.Indexes.{depends_on, waits, serves, warms, numbers_where, holds}
-use Rattle.ev_indexes.specs.Worlds.{HasRows, rows_of_kind}
+use Rattle.ev_indexes.specs.Indexes.{is_of, depends_on, waits, serves, warms, numbers_where, holds}
+use Rattle.ev_indexes.specs.Worlds.{HasRows}
 use Rattle.ev_indexes.specs.Needs.{HaveNames, is_needed}
 use Rattle.ev_warming.specs.Changes.{is_over}
 use Rattle.ev_warming.specs.Forgetting.{is_need_of}
@@ -82,20 +80,6 @@ where-without test number (row ∷ rows) all = by (nat_eq number row.number) ref
     by false e true f rest = (λ i. numbers_of (cond (f i) (row ∷ filter test (without_row number rows)) (filter test (without_row number rows)))) ∙ ap (λ ns. row.number ∷ ns) rest
     by false e false f rest = (λ i. numbers_of (cond (f i) (row ∷ filter test (without_row number rows)) (filter test (without_row number rows)))) ∙ rest
 
--- a row of other kinds or numbers stays
-kinds-without : (kind : Kind) (number : ℕ) (rows : List GenRow) → without_row number (rows_of_kind kind rows) ≡ rows_of_kind kind (without_row number rows)
-kinds-without kind number [] = refl
-kinds-without kind number (row ∷ rows) = by (kind_same row.kind kind) refl (nat_eq number row.number) refl (kinds-without kind number rows)
-  where
-    by : (k : Bool) → kind_same row.kind kind ≡ k → (a : Bool) → nat_eq number row.number ≡ a → without_row number (rows_of_kind kind rows) ≡ rows_of_kind kind (without_row number rows)
-        → without_row number (cond k (row ∷ rows_of_kind kind rows) (rows_of_kind kind rows)) ≡ rows_of_kind kind (cond (not a) (row ∷ without_row number rows) (without_row number rows))
-    by true e true f rest = (λ i. cond (not (f i)) (row ∷ without_row number (rows_of_kind kind rows)) (without_row number (rows_of_kind kind rows))) ∙ rest
-    by true e false f rest =
-        (λ i. cond (not (f i)) (row ∷ without_row number (rows_of_kind kind rows)) (without_row number (rows_of_kind kind rows))) ∙ ap (λ (rs : List GenRow). row ∷ rs) rest
-        ∙ (λ i. cond (sym e i) (row ∷ rows_of_kind kind (without_row number rows)) (rows_of_kind kind (without_row number rows)))
-    by false e true f rest = rest
-    by false e false f rest = rest ∙ (λ i. cond (sym e i) (row ∷ rows_of_kind kind (without_row number rows)) (rows_of_kind kind (without_row number rows)))
-
 over-is : (o : Option GenRow) → is_over o ≡ true → (row : GenRow) × (o ≡ Some row) × (is_live row.status ≡ false)
 over-is None h = absurd (true≢false (sym h))
 over-is (Some row) h = (row, refl, not-true (is_live row.status) h)
@@ -129,7 +113,7 @@ module _ (m : Manager) (number : ℕ) (kept : IsKept m) (forgotten : m.stale ≡
   found : (n : ℕ) → row_in n table.rows ≡ cond (nat_eq number n) None (row_in n m.state.table.rows)
   found n = (λ i. row_in n (rows i)) ∙ row_in-without number n m.state.table.rows
 
-  dependent : (q : List ℕ) → depends_on q gone.0 ≡ false
+  dependent : (q : Key) → depends_on q gone.0 ≡ false
   dependent q = λ i. gone.2 i && is_needed q (dependencies_of gone.0.content)
 
   due : (n : ℕ) → is_due_at m.state.watches m.state.results n m.state.table.rows ≡ is_due_at m.state.watches m.state.results n table.rows
@@ -142,7 +126,7 @@ module _ (m : Manager) (number : ℕ) (kept : IsKept m) (forgotten : m.stale ≡
           ∙ (λ i. (cold gone.0.status gone.2).0 i && is_ready_in m.state.watches m.state.results gone.0)
       by false e = refl
 
-  any-same : (q : List ℕ) → list_any (depends_on q) table.rows ≡ false → list_any (depends_on q) m.state.table.rows ≡ false
+  any-same : (q : Key) → list_any (depends_on q) table.rows ≡ false → list_any (depends_on q) m.state.table.rows ≡ false
   any-same q none = each m.state.table.rows ((λ i. list_any (depends_on q) (sym rows i)) ∙ none) (each' m.state.table.rows (all-found number gone.0 m.state.table.rows gone.1 kept.indexed.table.apart))
     where
       each' : (rs : List GenRow) → AllByRecursion (λ (r : GenRow). nat_eq number r.number ≡ true → r ≡ gone.0) rs → AllByRecursion (λ (r : GenRow). nat_eq number r.number ≡ true → depends_on q r ≡ false) rs
@@ -166,7 +150,6 @@ module _ (m : Manager) (number : ℕ) (kept : IsKept m) (forgotten : m.stale ≡
 
   pub kept-without : IsKept (record m { state = record m.state { table = table } })
   kept-without = record {
-    rows = kept.rows;
     indexed = record {
       table =
           let same : table ≡ record { rows = without_row number m.state.table.rows; made = m.state.table.made } = λ i. record { rows = rows i; made = made i } in
@@ -174,9 +157,8 @@ module _ (m : Manager) (number : ℕ) (kept : IsKept m) (forgotten : m.stale ≡
             apart = apart-filter (λ (r : GenRow). not (is_number number r)) m.state.table.rows kept.indexed.table.apart;
             drawn = λ n above. row_in-without number n m.state.table.rows ∙ none (nat_eq number n) (row_in n m.state.table.rows) (kept.indexed.table.drawn n above);
           });
-      kinds = subst (AllByRecursion (λ (r : GenRow). r.kind ≡ m.state.kind)) (sym rows) (all-filter (λ (r : GenRow). r.kind ≡ m.state.kind) (λ (r : GenRow). not (is_number number r)) m.state.table.rows kept.indexed.kinds);
-      active = λ q. kept.indexed.active q ∙ sym (fails (serves q) (λ i. (cold gone.0.status gone.2).1 i && bytes_eq gone.0.name q));
-      warming = λ q. kept.indexed.warming q ∙ sym (fails (warms q) (λ i. (cold gone.0.status gone.2).0 i && bytes_eq gone.0.name q));
+      active = λ q. kept.indexed.active q ∙ sym (fails (serves q) (λ i. (cold gone.0.status gone.2).1 i && is_of q gone.0));
+      warming = λ q. kept.indexed.warming q ∙ sym (fails (warms q) (λ i. (cold gone.0.status gone.2).0 i && is_of q gone.0));
       unlimited = λ q. kept.indexed.unlimited q ∙ sym (fails (waits q false) (depends-waits q false gone.0 (dependent q)));
       limited = λ q. kept.indexed.limited q ∙ sym (fails (waits q true) (depends-waits q true gone.0 (dependent q)));
       holders = λ a. kept.indexed.holders a ∙ sym (fails (holds a) (λ i. gone.2 i && listens_at a gone.0.content));
@@ -208,7 +190,8 @@ module _ (m : Manager) (number : ℕ) (kept : IsKept m) (forgotten : m.stale ≡
       named = all-filter (λ (r : GenRow). IsName r.name) (λ (r : GenRow). not (is_number number r)) world.rows stands.sound.named;
       heard = stands.sound.heard;
     };
-    rows = rows ∙ ap (without_row number) stands.rows ∙ kinds-without m.state.kind number world.rows;
+    rows = rows ∙ ap (without_row number) stands.rows;
+    made = made ∙ stands.made;
     told = stands.told;
     timed = stands.timed;
     value = stands.value;

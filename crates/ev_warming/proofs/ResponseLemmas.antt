@@ -1,4 +1,4 @@
--- What a response does to a world that a state stands for.
+-- What a response does to a world that a state represents.
 use Rattle.std.proofs.Common.{◌≡◌, ◌∙◌, ◌+◌, ◌<◌, ℕ, Bool, true, false, cond, ◌&&◌, ◌||◌, List, [], ◌∷◌, ◌++◌, length, take, drop, get_or, refl, sym, subst, true≢false}
 use Rattle.std.specs.List.{AllByRecursion}
 use Rattle.std.specs.Str.{bytes_eq}
@@ -6,18 +6,17 @@ use Rattle.std.proofs.lemmas.Bool.{false_from_ne_true}
 use Rattle.std.proofs.lemmas.List.{take_more, drop_more}
 use Rattle.std.proofs.lemmas.List.Folds.{list_any-append, list_any_at}
 use Rattle.ev_types.specs.Items.{ItemParts, ResponseParts}
-use Rattle.ev_types.specs.Kinds.{kind_same}
+use Rattle.ev_types.specs.Kinds.{is_by_name, kind_same}
 use Rattle.ev_types.specs.Same.{bytes_decide}
 use Rattle.ev_types.specs.Texts.{IsName}
 use Rattle.ev_types.specs.declared.contents.Kind.{Kind}
-use Rattle.ev_types.specs.declared.contents.Kind.TheVariants.{Cds, Eds, Lds, Rds}
+use Rattle.ev_types.specs.declared.contents.Kind.TheVariants.{Cds, Lds}
 use Rattle.ev_types.specs.declared.events.Verdict.{Verdict}
 use Rattle.ev_types.specs.declared.rows.RowStatus.{RowStatus}
 use Rattle.ev_types.specs.declared.rows.RowStatus.TheVariants.{Warming, Active, Draining, Dropped}
 use Rattle.ev_types.specs.declared.rows.KeptVersion.{KeptVersion}
 use Rattle.ev_types.specs.declared.rows.GenRow.{GenRow}
 use Rattle.ev_model.specs.World.{World}
-use Rattle.ev_model.specs.Watching.{is_by_name}
 use Rattle.ev_model.specs.Verdicts.{is_among, is_removed}
 use Rattle.ev_model.specs.Rows.{versions_left, with_statuses, removed_status, rows_left, add_item, add_items, with_removals}
 use Rattle.ev_model.specs.Signals.{ended_status, rows_ended}
@@ -32,6 +31,7 @@ pub versions-stand : (s : State) (world : World) (versions : List KeptVersion) �
 versions-stand s world versions stands = record {
   sound = record { table = stands.sound.table; typed = stands.sound.typed; named = stands.sound.named; heard = stands.sound.heard };
   rows = stands.rows;
+  made = stands.made;
   told = stands.told;
   timed = stands.timed;
   value = stands.value;
@@ -113,7 +113,7 @@ unnamed-left kind response name rows bad named =
     by row h true false e = refl
     by row h true true e = absurd (bad (subst IsName (sym ((bytes_decide name row.name).0 e)) h))
 
--- the same rows in a world that a state stands for
+-- the same rows in a world that a state represents
 pub rows-stand : (s : State) (world : World) (rows : List GenRow) → world.rows ≡ rows → HasRows s world → HasRows s (record world { rows = rows })
 rows-stand s world rows e stands = subst (λ (rs : List GenRow). HasRows s (record world { rows = rs })) e stands
 
@@ -152,8 +152,8 @@ nothing-left kind response rows = sym (statuses_same rows) ∙ (λ i. with_statu
     by row true = refl
     by row false = refl
 
-pub nothing-stands : (s : State) (world : World) (response : ResponseParts) → HasRows s world → HasRows s (record world { rows = with_statuses (status_left_by s.kind response []) world.rows })
-nothing-stands s world response stands = rows-stand s world (with_statuses (status_left_by s.kind response []) world.rows) (nothing-left s.kind response world.rows) stands
+pub nothing-stands : (s : State) (world : World) (kind : Kind) (response : ResponseParts) → HasRows s world → HasRows s (record world { rows = with_statuses (status_left_by kind response []) world.rows })
+nothing-stands s world kind response stands = rows-stand s world (with_statuses (status_left_by kind response []) world.rows) (nothing-left kind response world.rows) stands
 
 -- one resource more has come in
 pub item-more : (kind : Kind) (verdicts : List Verdict) (items : List ItemParts) (place : ℕ) (verdict : Verdict) (item : ItemParts) (world : World)
@@ -168,21 +168,13 @@ removals-are : (kind : Kind) (response : ResponseParts) (world : World) → is_b
     → record world { rows = rows_left kind response world.rows; versions = versions_left kind response world.versions } ≡ with_removals kind response world
 removals-are Cds response world h = refl
 removals-are Lds response world h = refl
-removals-are Eds response world h = absurd (true≢false h)
-removals-are Rds response world h = absurd (true≢false h)
+removals-are kind response world h = absurd (true≢false h)
 
 pub removals-stand : (s : State) (world : World) (kind : Kind) (response : ResponseParts) → is_by_name kind ≡ false → HasRows s (record world { rows = rows_left kind response world.rows })
     → HasRows s (with_removals kind response world)
 removals-stand s world kind response rows stands =
     subst (HasRows s) (removals-are kind response world rows)
     (versions-stand s (record world { rows = rows_left kind response world.rows }) (versions_left kind response world.versions) stands)
-
--- removals draw no number
-pub removals-draw : (kind : Kind) (response : ResponseParts) (world : World) → world.made ≡ (with_removals kind response world).made
-removals-draw Cds response world = refl
-removals-draw Lds response world = refl
-removals-draw Eds response world = refl
-removals-draw Rds response world = refl
 
 -- a listed name is removed where no resource has it
 pub is_unlisted-listed : (response : ResponseParts) (name : List ℕ) (removed : Bool) → removed ≡ is_removed response name → is_among name response.removed ≡ true → is_unlisted response name ≡ removed

@@ -1,27 +1,26 @@
 -- Which generations retired: what each step reports, and what steps report together.
 use Rattle.std.proofs.Common.{◌≡◌, ◌∙◌, ℕ, Bool, true, false, cond, not, ◌&&◌, ◌||◌, nat_eq, List, [], ◌∷◌, ◌++◌, Option, None, Some, option_map, option_to_list, refl, sym, ap, true≢false}
-use Rattle.std.specs.List.{AllByRecursion, IsDistinct}
+use Rattle.std.specs.List.{IsDistinct}
 use Rattle.std.specs.Option.{option_or}
-use Rattle.std.specs.Str.{bytes_eq}
 use Rattle.std.proofs.lemmas.Bool.{not-true}
 use Rattle.std.proofs.lemmas.List.Folds.{list_any-append, find-append}
-use Rattle.ev_types.specs.Kinds.{kind_same, kind_decides}
 use Rattle.ev_types.specs.Statuses.{is_warming, is_active, is_live}
 use Rattle.ev_types.specs.declared.contents.Kind.{Kind}
 use Rattle.ev_types.specs.declared.contents.Content.{Content}
 use Rattle.ev_types.specs.declared.rows.RowStatus.{RowStatus}
+use Rattle.ev_types.specs.declared.origins.KeptChain.{KeptChain}
 use Rattle.ev_types.specs.declared.rows.RowStatus.TheVariants.{Warming, Active, Draining, Dropped}
 use Rattle.ev_types.specs.declared.rows.GenRow.{GenRow}
-use Rattle.ev_model.specs.Rows.{with_statuses, replaced_status, removed_status, new_row, rows_with_new}
+use Rattle.ev_model.specs.Rows.{is_row_of, with_statuses, replaced_status, removed_status, new_row, rows_with_new}
 use Rattle.ev_model.specs.Signals.{ended_status, rows_ended}
-use Rattle.ev_generations.specs.Tables.{is_number, row_in, numbers_of}
-use Rattle.ev_generations.proofs.TableLemmas.{row_in-with_statuses}
+use Rattle.ev_indexes.specs.Tables.{is_number, row_in, numbers_of}
+use Rattle.ev_indexes.proofs.TableLemmas.{row_in-with_statuses}
+use Rattle.ev_mentions.specs.Keys.{named}
 use Rattle.ev_indexes.specs.Due.{is_one_of}
 use Rattle.ev_indexes.specs.Indexes.{serves, warms, numbers_where}
 use Rattle.ev_warming.specs.Changes.{is_over, has_retired, Tells}
 use Rattle.ev_indexes.proofs.WhereLemmas.{among-where}
 use Rattle.ev_warming.proofs.DrainLemmas.{absent-where, fails-where}
-use Rattle.ev_indexes.proofs.RowLemmas.{all-at}
 
 -- nothing changed, and nothing is reported
 pub tells-none : (rows : List GenRow) (numbers : List ℕ) → Tells rows rows numbers numbers
@@ -112,40 +111,36 @@ passing test n row rows apart at = by (test row) refl
     by true e = among-where test n row rows at e
     by false e = fails-where test n row rows apart at e
 
-module _ (kind : Kind) (name : List ℕ) (rows : List GenRow) (apart : IsDistinct nat_eq (numbers_of rows)) (kinds : AllByRecursion (λ (r : GenRow). r.kind ≡ kind) rows) where
-  own_kind : (n : ℕ) (row : GenRow) → row_in n rows ≡ Some row → kind_same row.kind kind ≡ true
-  own_kind n row at = (λ i. kind_same (all-at (λ (r : GenRow). r.kind ≡ kind) n row rows at kinds i) kind) ∙ (kind_decides kind kind).1 refl
-
+module _ (kind : Kind) (name : List ℕ) (rows : List GenRow) (apart : IsDistinct nat_eq (numbers_of rows)) where
   -- a name comes to its end
-  pub tells-ended : (warming active : Option ℕ) (after : List GenRow) (numbers : List ℕ) → option_to_list warming ≡ numbers_where (warms name) rows → option_to_list active ≡ numbers_where (serves name) rows
+  pub tells-ended : (warming active : Option ℕ) (after : List GenRow) (numbers : List ℕ) → option_to_list warming ≡ numbers_where (warms (named kind name)) rows → option_to_list active ≡ numbers_where (serves (named kind name)) rows
       → after ≡ rows_ended kind name rows → Tells rows after numbers (numbers ++ (option_to_list warming ++ option_to_list active))
   tells-ended warming active after numbers w a e =
       tells-statused (ended_status kind name) rows after numbers (option_to_list warming ++ option_to_list active) e some none ended
     where
-      by : (st : RowStatus) (k b : Bool) → k ≡ true → ((is_warming st && b) || (is_active st && b)) ≡ (is_live st && not (is_live (cond (k && b) (removed_status st) st)))
-      by st false b e = absurd (true≢false (sym e))
-      by Warming true true e = refl
-      by Warming true false e = refl
-      by Active true true e = refl
-      by Active true false e = refl
-      by Draining true b e = refl
-      by Dropped true b e = refl
+      by : (st : RowStatus) (b : Bool) → ((is_warming st && b) || (is_active st && b)) ≡ (is_live st && not (is_live (cond b (removed_status st) st)))
+      by Warming true = refl
+      by Warming false = refl
+      by Active true = refl
+      by Active false = refl
+      by Draining b = refl
+      by Dropped b = refl
 
       some : (n : ℕ) (row : GenRow) → row_in n rows ≡ Some row → is_one_of (option_to_list warming ++ option_to_list active) n ≡ (is_live row.status && not (is_live (ended_status kind name row)))
       some n row at =
           list_any-append (nat_eq n) (option_to_list warming) (option_to_list active)
           ∙ (λ i. is_one_of (w i) n || is_one_of (a i) n)
-          ∙ (λ i. passing (warms name) n row rows apart at i || passing (serves name) n row rows apart at i)
-          ∙ by row.status (kind_same row.kind kind) (bytes_eq row.name name) (own_kind n row at)
+          ∙ (λ i. passing (warms (named kind name)) n row rows apart at i || passing (serves (named kind name)) n row rows apart at i)
+          ∙ by row.status (is_row_of kind name row)
 
       none : (n : ℕ) → row_in n rows ≡ None → is_one_of (option_to_list warming ++ option_to_list active) n ≡ false
       none n at =
           list_any-append (nat_eq n) (option_to_list warming) (option_to_list active)
           ∙ (λ i. is_one_of (w i) n || is_one_of (a i) n)
-          ∙ (λ i. absent-where (warms name) n rows apart at i || absent-where (serves name) n rows apart at i)
+          ∙ (λ i. absent-where (warms (named kind name)) n rows apart at i || absent-where (serves (named kind name)) n rows apart at i)
 
       ended : (row : GenRow) → is_live row.status ≡ false → is_live (ended_status kind name row) ≡ false
-      ended row over = ended-by row.status (kind_same row.kind kind && bytes_eq row.name name) over
+      ended row over = ended-by row.status (is_row_of kind name row) over
         where
           ended-by : (st : RowStatus) (b : Bool) → is_live st ≡ false → is_live (cond b (removed_status st) st) ≡ false
           ended-by Warming b h = absurd (true≢false h)
@@ -155,33 +150,29 @@ module _ (kind : Kind) (name : List ℕ) (rows : List GenRow) (apart : IsDistinc
           ended-by Dropped true h = refl
           ended-by Dropped false h = refl
 
-  -- a new generation warms
-  pub tells-added : (made : ℕ) (content : Content) (warming : Option ℕ) (after : List GenRow) (numbers : List ℕ) → option_to_list warming ≡ numbers_where (warms name) rows
-      → after ≡ rows_with_new kind made name content rows → Tells rows after numbers (numbers ++ option_to_list warming)
-  tells-added made content warming after numbers w e =
-      tells-then rows (with_statuses (replaced_status kind name) rows) after numbers (numbers ++ option_to_list warming) (numbers ++ option_to_list warming)
-      (tells-statused (replaced_status kind name) rows (with_statuses (replaced_status kind name) rows) numbers (option_to_list warming) refl some none ended)
-      (tells-more (with_statuses (replaced_status kind name) rows) after (new_row kind made name content) (numbers ++ option_to_list warming) e refl)
+  -- the one that warms under the name is dropped
+  pub tells-replaced : (warming : Option ℕ) (after : List GenRow) (numbers : List ℕ) → option_to_list warming ≡ numbers_where (warms (named kind name)) rows
+      → after ≡ with_statuses (replaced_status kind name) rows → Tells rows after numbers (numbers ++ option_to_list warming)
+  tells-replaced warming after numbers w e = tells-statused (replaced_status kind name) rows after numbers (option_to_list warming) e some none ended
     where
-      by : (st : RowStatus) (k b : Bool) → k ≡ true → (is_warming st && b) ≡ (is_live st && not (is_live (cond ((k && b) && is_warming st) Dropped st)))
-      by st false b e = absurd (true≢false (sym e))
-      by Warming true true e = refl
-      by Warming true false e = refl
-      by Active true true e = refl
-      by Active true false e = refl
-      by Draining true b e = refl
-      by Dropped true b e = refl
+      by : (st : RowStatus) (b : Bool) → (is_warming st && b) ≡ (is_live st && not (is_live (cond (b && is_warming st) Dropped st)))
+      by Warming true = refl
+      by Warming false = refl
+      by Active true = refl
+      by Active false = refl
+      by Draining b = refl
+      by Dropped b = refl
 
       some : (n : ℕ) (row : GenRow) → row_in n rows ≡ Some row → is_one_of (option_to_list warming) n ≡ (is_live row.status && not (is_live (replaced_status kind name row)))
       some n row at =
-          (λ i. is_one_of (w i) n) ∙ passing (warms name) n row rows apart at
-          ∙ by row.status (kind_same row.kind kind) (bytes_eq row.name name) (own_kind n row at)
+          (λ i. is_one_of (w i) n) ∙ passing (warms (named kind name)) n row rows apart at
+          ∙ by row.status (is_row_of kind name row)
 
       none : (n : ℕ) → row_in n rows ≡ None → is_one_of (option_to_list warming) n ≡ false
-      none n at = (λ i. is_one_of (w i) n) ∙ absent-where (warms name) n rows apart at
+      none n at = (λ i. is_one_of (w i) n) ∙ absent-where (warms (named kind name)) n rows apart at
 
       ended : (row : GenRow) → is_live row.status ≡ false → is_live (replaced_status kind name row) ≡ false
-      ended row over = ended-by row.status (kind_same row.kind kind && bytes_eq row.name name) over
+      ended row over = ended-by row.status (is_row_of kind name row) over
         where
           ended-by : (st : RowStatus) (b : Bool) → is_live st ≡ false → is_live (cond (b && is_warming st) Dropped st) ≡ false
           ended-by Warming b h = absurd (true≢false h)
@@ -190,3 +181,12 @@ module _ (kind : Kind) (name : List ℕ) (rows : List GenRow) (apart : IsDistinc
           ended-by Draining false h = refl
           ended-by Dropped true h = refl
           ended-by Dropped false h = refl
+
+  -- a new generation warms
+  pub tells-added : (made : ℕ) (content : Content) (kept : List KeptChain) (warming : Option ℕ) (after : List GenRow) (numbers : List ℕ)
+      → option_to_list warming ≡ numbers_where (warms (named kind name)) rows
+      → after ≡ rows_with_new kind made name content kept rows → Tells rows after numbers (numbers ++ option_to_list warming)
+  tells-added made content kept warming after numbers w e =
+      tells-then rows (with_statuses (replaced_status kind name) rows) after numbers (numbers ++ option_to_list warming) (numbers ++ option_to_list warming)
+      (tells-replaced warming (with_statuses (replaced_status kind name) rows) numbers w refl)
+      (tells-more (with_statuses (replaced_status kind name) rows) after (new_row kind made name content kept) (numbers ++ option_to_list warming) e refl)

@@ -5,9 +5,9 @@ use Rattle.ev_types.specs.declared.rows.RowStatus.{RowStatus}
 use Rattle.ev_types.specs.declared.rows.RowStatus.TheVariants.{Warming, Active, Draining, Dropped}
 use Rattle.ev_types.specs.declared.rows.GenRow.{GenRow}
 use Rattle.ev_model.specs.Tidy.{status_by}
-use Rattle.ev_endpoints.specs.Kept.{ResultsKept}
-use Rattle.ev_generations.specs.Tables.{row_in}
-use Rattle.ev_generations.proofs.TableLemmas.{row_in-with_statuses}
+use Rattle.ev_indexes.specs.KeptEndpoints.{ResultsKept}
+use Rattle.ev_indexes.specs.Tables.{row_in}
+use Rattle.ev_indexes.proofs.TableLemmas.{row_in-with_statuses}
 use Rattle.ev_indexes.specs.Watched.{WatchesKept}
 use Rattle.ev_indexes.specs.Ready.{is_ready_in, is_due_found, is_due_at}
 use Rattle.ev_indexes.specs.Indexes.{status_in}

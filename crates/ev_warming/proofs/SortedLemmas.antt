@@ -1,4 +1,4 @@
--- What came for a name, and of it what is of one sort.
+-- What was received for a name, and of it what is of one sort.
 use Rattle.std.proofs.Common.{◌≡◌, ◌∙◌, ℕ, Bool, true, false, cond, ◌&&◌, List, [], ◌∷◌, filter, refl, sym, ap, map, None}
 use Rattle.ev_types.specs.declared.contents.Kind.{Kind}
 use Rattle.ev_types.specs.declared.rows.Arrival.{Arrival}
@@ -19,7 +19,8 @@ sort-for is (a ∷ arrivals) kind q = by (is_for kind q a) (is a.arrival) refl (
     by true false e h = h ∙ (λ i. cond (sym e i) (a ∷ filter (λ (a : Arrived). is a.arrival) (filter (is_for kind q) arrivals)) (filter (λ (a : Arrived). is a.arrival) (filter (is_for kind q) arrivals)))
     by false c e h = h
 
--- where the same came for a name, the last of a sort came when as many numbers were drawn, and the value is the same
+-- where the same came for a name, the last of a sort came when as many numbers were allocated,
+-- and the value is the same
 pub last_made-same : (is : Arrival → Bool) (before after : List Arrived) (kind : Kind) (q : List ℕ) → filter (is_for kind q) before ≡ filter (is_for kind q) after
     → last_made is before kind q ≡ last_made is after kind q
 last_made-same is before after kind q same =

@@ -2,14 +2,11 @@
 use Rattle.std.proofs.Common.{◌≡◌, ◌∙◌, ◌+◌, ℕ, Bool, true, false, cond, ◌&&◌, ◌||◌, nat_eq, List, [], ◌∷◌, ◌++◌, Option, None, Some, IfSome, option_map, option_to_list, refl, sym, ap, subst, true≢false, arith, append_assoc}
 use Rattle.std.specs.List.{list_any, AllByRecursion, IsDistinct}
 use Rattle.std.specs.Option.{option_or}
-use Rattle.std.specs.Str.{bytes_eq}
 use Rattle.std.proofs.Math.Bool.{or-true}
 use Rattle.std.proofs.lemmas.Bool.{eqb-true, and_parts, false_from_ne_true, or_right}
 use Rattle.std.proofs.lemmas.Option.{none-some}
 use Rattle.std.proofs.lemmas.List.Folds.{list_any-append, find-append}
 use Rattle.ev_types.specs.Hosts.{HostRowParts}
-use Rattle.ev_types.specs.Kinds.{kind_same}
-use Rattle.ev_types.specs.Same.{bytes_decide}
 use Rattle.ev_types.specs.SameHosts.{has_host}
 use Rattle.ev_types.specs.Statuses.{is_warming, is_active, is_live}
 use Rattle.ev_types.specs.declared.contents.Kind.{Kind}
@@ -17,6 +14,7 @@ use Rattle.ev_types.specs.declared.contents.Content.{Content}
 use Rattle.ev_types.specs.declared.hosts.Host.{Host}
 use Rattle.ev_types.specs.declared.rows.Arrival.{Arrival}
 use Rattle.ev_types.specs.declared.rows.RowStatus.{RowStatus}
+use Rattle.ev_types.specs.declared.origins.KeptChain.{KeptChain}
 use Rattle.ev_types.specs.declared.rows.RowStatus.TheVariants.{Warming, Active, Draining, Dropped}
 use Rattle.ev_types.specs.declared.rows.GenRow.{GenRow}
 use Rattle.ev_model.specs.World.{opening}
@@ -24,9 +22,11 @@ use Rattle.ev_model.specs.Rows.{is_row_of, with_statuses, replaced_status, remov
 use Rattle.ev_model.specs.Signals.{ended_status, rows_ended, is_draining}
 use Rattle.ev_model.specs.Tidy.{status_by}
 use Rattle.ev_model.specs.Watching.{dependencies_of}
-use Rattle.ev_endpoints.specs.Kept.{marked_in, result_in}
-use Rattle.ev_generations.specs.Tables.{is_number, row_in, numbers_of}
-use Rattle.ev_generations.proofs.TableLemmas.{row_in-with_statuses}
+use Rattle.ev_indexes.specs.KeptEndpoints.{marked_in, result_in}
+use Rattle.ev_indexes.specs.Tables.{is_number, row_in, numbers_of}
+use Rattle.ev_indexes.proofs.TableLemmas.{row_in-with_statuses}
+use Rattle.ev_mentions.specs.Keys.{key_same, key_decides, named}
+use Rattle.ev_mentions.specs.declared.kind_keys.Key.{Key}
 use Rattle.ev_indexes.specs.declared.names.Standing.{Standing}
 use Rattle.ev_indexes.specs.declared.watches.Watch.{Watch}
 use Rattle.ev_indexes.specs.declared.state.State.{State}
@@ -88,7 +88,7 @@ none-less f g less (x ∷ xs) none = by (f x) refl none (g x) refl (none-less f 
     by false e h true d rest = absurd (true≢false (sym (less x d) ∙ e))
     by false e h false d rest = rest h
 
-marks-agree : (old new : WatchesKept) → SameMarks old new → (q : List ℕ) → Agrees old new q
+marks-agree : (old new : WatchesKept) → SameMarks old new → (q : Key) → Agrees old new q
 marks-agree old new marks q = record { told = (marks q).0; timed = (marks q).1; value = (marks q).2 }
 
 unheard-same : (old new : Watch) → new.told ≡ old.told → new.timed ≡ old.timed → new.value ≡ old.value → IsUnheard old → IsUnheard new
@@ -119,13 +119,13 @@ module _ (s t : State) (f : GenRow → RowStatus) (stale more : List ℕ) (apart
       by None = refl
       by (Some r) = refl
 
-  no-need : (q : List ℕ) → is_need_of t.table.rows (stale ++ more) q ≡ false → (is_need_of s.table.rows stale q ≡ false) × (is_need_of s.table.rows more q ≡ false)
+  no-need : (q : Key) → is_need_of t.table.rows (stale ++ more) q ≡ false → (is_need_of s.table.rows stale q ≡ false) × (is_need_of s.table.rows more q ≡ false)
   no-need q none =
       let both : (is_need_of s.table.rows stale q || is_need_of s.table.rows more q) ≡ false =
       sym (list_any-append (λ n. is_needed q (needs_in (row_in n s.table.rows))) stale more) ∙ sym (λ i. list_any (λ n. is_needed q (need-after n i)) (stale ++ more)) ∙ none in
       (none-first (is_need_of s.table.rows stale q) (is_need_of s.table.rows more q) both, none-second (is_need_of s.table.rows stale q) (is_need_of s.table.rows more q) both)
 
-  idle-before : (q : List ℕ) → list_any (depends_on q) t.table.rows ≡ false → is_need_of s.table.rows more q ≡ false → list_any (depends_on q) s.table.rows ≡ false
+  idle-before : (q : Key) → list_any (depends_on q) t.table.rows ≡ false → is_need_of s.table.rows more q ≡ false → list_any (depends_on q) s.table.rows ≡ false
   idle-before q none unneeded = by (list_any (depends_on q) s.table.rows) refl
     where
       by : (b : Bool) → list_any (depends_on q) s.table.rows ≡ b → b ≡ false
@@ -195,7 +195,7 @@ module _ (s t : State) (new : GenRow) (stale : List ℕ)
   row-more : (n : ℕ) → row_in n t.table.rows ≡ option_or (row_in n s.table.rows) (cond (nat_eq n new.number) (Some new) None)
   row-more n = (λ i. row_in n (rows i)) ∙ find-append (is_number n) s.table.rows (new ∷ [])
 
-  needs-more : (q : List ℕ) (n : ℕ) → is_needed q (needs_in (row_in n s.table.rows)) ≡ true → is_needed q (needs_in (row_in n t.table.rows)) ≡ true
+  needs-more : (q : Key) (n : ℕ) → is_needed q (needs_in (row_in n s.table.rows)) ≡ true → is_needed q (needs_in (row_in n t.table.rows)) ≡ true
   needs-more q n h = ap (λ o. is_needed q (needs_in o)) (row-more n) ∙ by (row_in n s.table.rows) h
     where
       by : (o : Option GenRow) → is_needed q (needs_in o) ≡ true → is_needed q (needs_in (option_or o (cond (nat_eq n new.number) (Some new) None))) ≡ true
@@ -244,25 +244,23 @@ module _ (s t : State) (new : GenRow) (stale : List ℕ)
           ∙ (λ i. keeps_result t.watches h (same i)) ∙ lost)
 
 -- what is live of a name retires
-ended-told : (kind : Kind) (name : List ℕ) (rows : List GenRow) (standing : Standing) → option_to_list standing.active ≡ numbers_where (serves name) rows → option_to_list standing.warming ≡ numbers_where (warms name) rows
+ended-told : (kind : Kind) (name : List ℕ) (rows : List GenRow) (standing : Standing) → option_to_list standing.active ≡ numbers_where (serves (named kind name)) rows → option_to_list standing.warming ≡ numbers_where (warms (named kind name)) rows
     → (n : ℕ) (row : GenRow) → row_in n rows ≡ Some row → is_live row.status ≡ true → is_live (ended_status kind name row) ≡ false
     → is_one_of (option_to_list standing.warming ++ option_to_list standing.active) n ≡ true
 ended-told kind name rows standing active warming n row at live over =
     list_any-append (nat_eq n) (option_to_list standing.warming) (option_to_list standing.active)
-    ∙ by row.status refl (kind_same row.kind kind) (bytes_eq row.name name) refl live over
+    ∙ by row.status refl (is_row_of kind name row) refl live over
   where
-    by : (st : RowStatus) → row.status ≡ st → (k b : Bool) → bytes_eq row.name name ≡ b → is_live st ≡ true → is_live (cond (k && b) (removed_status st) st) ≡ false
+    by : (st : RowStatus) → row.status ≡ st → (b : Bool) → is_row_of kind name row ≡ b → is_live st ≡ true → is_live (cond b (removed_status st) st) ≡ false
         → (is_one_of (option_to_list standing.warming) n || is_one_of (option_to_list standing.active) n) ≡ true
-    by Warming e true true f l o = λ i. ((λ j. is_one_of (warming j) n) ∙ among-where (warms name) n row rows at (λ j. is_warming (e j) && f j)) i || is_one_of (option_to_list standing.active) n
-    by Active e true true f l o =
-        (λ i. is_one_of (option_to_list standing.warming) n || ((λ j. is_one_of (active j) n) ∙ among-where (serves name) n row rows at (λ j. is_active (e j) && f j)) i)
+    by Warming e true f l o = λ i. ((λ j. is_one_of (warming j) n) ∙ among-where (warms (named kind name)) n row rows at (λ j. is_warming (e j) && f j)) i || is_one_of (option_to_list standing.active) n
+    by Active e true f l o =
+        (λ i. is_one_of (option_to_list standing.warming) n || ((λ j. is_one_of (active j) n) ∙ among-where (serves (named kind name)) n row rows at (λ j. is_active (e j) && f j)) i)
         ∙ or-true (is_one_of (option_to_list standing.warming) n)
-    by Warming e true false f l o = absurd (true≢false o)
-    by Active e true false f l o = absurd (true≢false o)
-    by Warming e false b f l o = absurd (true≢false o)
-    by Active e false b f l o = absurd (true≢false o)
-    by Draining e k b f l o = absurd (true≢false (sym l))
-    by Dropped e k b f l o = absurd (true≢false (sym l))
+    by Warming e false f l o = absurd (true≢false o)
+    by Active e false f l o = absurd (true≢false o)
+    by Draining e b f l o = absurd (true≢false (sym l))
+    by Dropped e b f l o = absurd (true≢false (sym l))
 
 ended-ended : (kind : Kind) (name : List ℕ) (row : GenRow) → is_live row.status ≡ false → is_live (ended_status kind name row) ≡ false
 ended-ended kind name row over = by row.status (is_row_of kind name row) over
@@ -275,30 +273,28 @@ ended-ended kind name row over = by row.status (is_row_of kind name row) over
     by Dropped true h = refl
     by Dropped false h = refl
 
-pub tidy-ended : (s t : State) (name : List ℕ) (standing : Standing) (stale : List ℕ) → IsIndexed s → standing ≡ standing_in s.names name
-    → t.table.rows ≡ rows_ended s.kind name s.table.rows → SameMarks s.watches t.watches → t.results ≡ s.results → IsTidyBut s stale
+pub tidy-ended : (s t : State) (kind : Kind) (name : List ℕ) (standing : Standing) (stale : List ℕ) → IsIndexed s → standing ≡ standing_in s.names (named kind name)
+    → t.table.rows ≡ rows_ended kind name s.table.rows → SameMarks s.watches t.watches → t.results ≡ s.results → IsTidyBut s stale
     → IsTidyBut t ((stale ++ option_to_list standing.warming) ++ option_to_list standing.active)
-tidy-ended s t name standing stale x is rows marks results tidy =
+tidy-ended s t kind name standing stale x is rows marks results tidy =
     subst (IsTidyBut t) (sym (append_assoc stale (option_to_list standing.warming) (option_to_list standing.active)))
-    (tidy-statused s t (ended_status s.kind name) stale (option_to_list standing.warming ++ option_to_list standing.active) x.table.apart rows marks results
-    (ended-told s.kind name s.table.rows standing ((λ i. option_to_list (is i).active) ∙ x.active name) ((λ i. option_to_list (is i).warming) ∙ x.warming name))
-    (ended-ended s.kind name) tidy)
+    (tidy-statused s t (ended_status kind name) stale (option_to_list standing.warming ++ option_to_list standing.active) x.table.apart rows marks results
+    (ended-told kind name s.table.rows standing ((λ i. option_to_list (is i).active) ∙ x.active (named kind name)) ((λ i. option_to_list (is i).warming) ∙ x.warming (named kind name)))
+    (ended-ended kind name) tidy)
 
 -- the one that warms under a name is dropped, and a new one warms
-replaced-told : (kind : Kind) (name : List ℕ) (rows : List GenRow) (warming : Option ℕ) → option_to_list warming ≡ numbers_where (warms name) rows
+replaced-told : (kind : Kind) (name : List ℕ) (rows : List GenRow) (warming : Option ℕ) → option_to_list warming ≡ numbers_where (warms (named kind name)) rows
     → (n : ℕ) (row : GenRow) → row_in n rows ≡ Some row → is_live row.status ≡ true → is_live (replaced_status kind name row) ≡ false → is_one_of (option_to_list warming) n ≡ true
-replaced-told kind name rows warming index n row at live over = by row.status refl (kind_same row.kind kind) (bytes_eq row.name name) refl live over
+replaced-told kind name rows warming index n row at live over = by row.status refl (is_row_of kind name row) refl live over
   where
-    by : (st : RowStatus) → row.status ≡ st → (k b : Bool) → bytes_eq row.name name ≡ b → is_live st ≡ true → is_live (cond ((k && b) && is_warming st) Dropped st) ≡ false
+    by : (st : RowStatus) → row.status ≡ st → (b : Bool) → is_row_of kind name row ≡ b → is_live st ≡ true → is_live (cond (b && is_warming st) Dropped st) ≡ false
         → is_one_of (option_to_list warming) n ≡ true
-    by Warming e true true f l o = (λ j. is_one_of (index j) n) ∙ among-where (warms name) n row rows at (λ j. is_warming (e j) && f j)
-    by Active e true true f l o = absurd (true≢false o)
-    by Warming e true false f l o = absurd (true≢false o)
-    by Active e true false f l o = absurd (true≢false o)
-    by Warming e false b f l o = absurd (true≢false o)
-    by Active e false b f l o = absurd (true≢false o)
-    by Draining e k b f l o = absurd (true≢false (sym l))
-    by Dropped e k b f l o = absurd (true≢false (sym l))
+    by Warming e true f l o = (λ j. is_one_of (index j) n) ∙ among-where (warms (named kind name)) n row rows at (λ j. is_warming (e j) && f j)
+    by Active e true f l o = absurd (true≢false o)
+    by Warming e false f l o = absurd (true≢false o)
+    by Active e false f l o = absurd (true≢false o)
+    by Draining e b f l o = absurd (true≢false (sym l))
+    by Dropped e b f l o = absurd (true≢false (sym l))
 
 replaced-ended : (kind : Kind) (name : List ℕ) (row : GenRow) → is_live row.status ≡ false → is_live (replaced_status kind name row) ≡ false
 replaced-ended kind name row over = by row.status (is_row_of kind name row) over
@@ -311,16 +307,23 @@ replaced-ended kind name row over = by row.status (is_row_of kind name row) over
     by Dropped true h = refl
     by Dropped false h = refl
 
-pub tidy-added : (s t : State) (name : List ℕ) (content : Content) (warming : Option ℕ) (stale : List ℕ) → IsIndexed s → warming ≡ (standing_in s.names name).warming
-    → t.table.rows ≡ rows_with_new s.kind s.table.made name content s.table.rows → SameMarks s.watches t.watches → t.results ≡ s.results → IsTidyBut s stale
+pub tidy-replaced : (s t : State) (kind : Kind) (name : List ℕ) (warming : Option ℕ) (stale : List ℕ) → IsIndexed s → warming ≡ (standing_in s.names (named kind name)).warming
+    → t.table.rows ≡ with_statuses (replaced_status kind name) s.table.rows → SameMarks s.watches t.watches → t.results ≡ s.results → IsTidyBut s stale
     → IsTidyBut t (stale ++ option_to_list warming)
-tidy-added s t name content warming stale x is rows marks results tidy =
-    let mid : State = record s { table = record { rows = with_statuses (replaced_status s.kind name) s.table.rows; made = s.table.made } } in
-    tidy-more mid t (new_row s.kind s.table.made name content) (stale ++ option_to_list warming) rows marks results
+tidy-replaced s t kind name warming stale x is rows marks results tidy =
+    tidy-statused s t (replaced_status kind name) stale (option_to_list warming) x.table.apart rows marks results
+    (replaced-told kind name s.table.rows warming (ap option_to_list is ∙ x.warming (named kind name)))
+    (replaced-ended kind name) tidy
+
+pub tidy-added : (s t : State) (kind : Kind) (name : List ℕ) (content : Content) (kept : List KeptChain) (warming : Option ℕ) (stale : List ℕ) → IsIndexed s
+    → warming ≡ (standing_in s.names (named kind name)).warming
+    → t.table.rows ≡ rows_with_new kind s.table.made name content kept s.table.rows → SameMarks s.watches t.watches → t.results ≡ s.results → IsTidyBut s stale
+    → IsTidyBut t (stale ++ option_to_list warming)
+tidy-added s t kind name content kept warming stale x is rows marks results tidy =
+    let mid : State = record s { table = record { rows = with_statuses (replaced_status kind name) s.table.rows; made = s.table.made } } in
+    tidy-more mid t (new_row kind s.table.made name content kept) (stale ++ option_to_list warming) rows marks results
     (λ h. x.drawn (s.table.made + 1) h (omega arith)) (x.unmarked (s.table.made + 1) (omega arith))
-    (tidy-statused s mid (replaced_status s.kind name) stale (option_to_list warming) x.table.apart refl (λ q. (refl, refl, refl)) refl
-    (replaced-told s.kind name s.table.rows warming (ap option_to_list is ∙ x.warming name))
-    (replaced-ended s.kind name) tidy)
+    (tidy-replaced s mid kind name warming stale x is refl (λ q. (refl, refl, refl)) refl tidy)
 
 -- those that served drain where one of their name is promoted
 module _ (s t : State) (ready : GenRow → Bool) (drained stale : List ℕ) (x : IsIndexed s) (rows : t.table.rows ≡ rows_promoted ready s.table.rows)
@@ -353,55 +356,55 @@ module _ (s t : State) (ready : GenRow → Bool) (drained stale : List ℕ) (x :
   tidy-promoted =
       tidy-statused s t status_of stale drained x.table.apart rows marks results over (λ row h. ends row.status (succeeded_by ready s.table.rows row) (ready row) h) tidy
 
--- something came for a name: those that depend on it are told
-pub tidy-arrived : (s t : State) (name : List ℕ) (made : ℕ) (arrival : Arrival) (stale : List ℕ) → IsIndexed s → list_any (depends_on name) s.table.rows ≡ true → t.table ≡ s.table
-    → Sets unwatched s.watches t.watches name (with_arrival made arrival (watch_in s.watches name)) → t.results ≡ s.results → IsTidyBut s stale
-    → IsTidyBut t (stale ++ (watchers_of (watch_in s.watches name)))
-tidy-arrived s t name made arrival stale x watched table sets results tidy = record {
-  marks = λ q none unneeded. marks q ((λ i. list_any (depends_on q) (sym table i).rows) ∙ none) unneeded (bytes_eq name q) refl;
+-- something was received for a name: those that depend on it are told
+pub tidy-arrived : (s t : State) (key : Key) (made : ℕ) (arrival : Arrival) (stale : List ℕ) → IsIndexed s → list_any (depends_on key) s.table.rows ≡ true → t.table ≡ s.table
+    → Sets unwatched s.watches t.watches key (with_arrival made arrival (watch_in s.watches key)) → t.results ≡ s.results → IsTidyBut s stale
+    → IsTidyBut t (stale ++ (watchers_of (watch_in s.watches key)))
+tidy-arrived s t key made arrival stale x watched table sets results tidy = record {
+  marks = λ q none unneeded. marks q ((λ i. list_any (depends_on q) (sym table i).rows) ∙ none) unneeded (key_same key q) refl;
   results = λ n row h at absent lost. (λ i. result_in (results i) n h)
-      ∙ gone n row h ((λ i. row_in n (sym table i).rows) ∙ at) (sym (list_any-append (nat_eq n) stale (watchers_of (watch_in s.watches name))) ∙ absent) lost (is_live row.status) refl (is_needed name (dependencies_of row.content)) refl;
+      ∙ gone n row h ((λ i. row_in n (sym table i).rows) ∙ at) (sym (list_any-append (nat_eq n) stale (watchers_of (watch_in s.watches key))) ∙ absent) lost (is_live row.status) refl (is_needed key (dependencies_of row.content)) refl;
   marked = λ n absent row at live.
-      kept n row ((λ i. row_in n (sym table i).rows) ∙ at) (sym (list_any-append (nat_eq n) stale (watchers_of (watch_in s.watches name))) ∙ absent) live (is_needed name (dependencies_of row.content)) refl;
+      kept n row ((λ i. row_in n (sym table i).rows) ∙ at) (sym (list_any-append (nat_eq n) stale (watchers_of (watch_in s.watches key))) ∙ absent) live (is_needed key (dependencies_of row.content)) refl;
 }
   where
-    same : (q : List ℕ) → bytes_eq name q ≡ false → watch_in t.watches q ≡ watch_in s.watches q
-    same q e = sets q ∙ (λ i. cond (e i) (with_arrival made arrival (watch_in s.watches name)) (watch_in s.watches q))
+    same : (q : Key) → key_same key q ≡ false → watch_in t.watches q ≡ watch_in s.watches q
+    same q e = sets q ∙ (λ i. cond (e i) (with_arrival made arrival (watch_in s.watches key)) (watch_in s.watches q))
 
-    other : (q : List ℕ) → bytes_eq q name ≡ false → Agrees s.watches t.watches q
+    other : (q : Key) → key_same q key ≡ false → Agrees s.watches t.watches q
     other q e =
-        let far : bytes_eq name q ≡ false = false_from_ne_true (bytes_eq name q) (λ d. true≢false (sym ((bytes_decide q name).1 (sym ((bytes_decide name q).0 d))) ∙ e)) in
+        let far : key_same key q ≡ false = false_from_ne_true (key_same key q) (λ d. true≢false (sym ((key_decides q key).1 (sym ((key_decides key q).0 d))) ∙ e)) in
         record { told = λ i. (same q far i).told; timed = λ i. (same q far i).timed; value = λ i. (same q far i).value }
 
-    marks : (q : List ℕ) → list_any (depends_on q) s.table.rows ≡ false → is_need_of t.table.rows (stale ++ (watchers_of (watch_in s.watches name))) q ≡ false → (b : Bool) → bytes_eq name q ≡ b → IsUnheard (watch_in t.watches q)
-    marks q none unneeded true e = absurd (true≢false (sym watched ∙ (λ i. list_any (depends_on ((bytes_decide name q).0 e i)) s.table.rows) ∙ none))
+    marks : (q : Key) → list_any (depends_on q) s.table.rows ≡ false → is_need_of t.table.rows (stale ++ (watchers_of (watch_in s.watches key))) q ≡ false → (b : Bool) → key_same key q ≡ b → IsUnheard (watch_in t.watches q)
+    marks q none unneeded true e = absurd (true≢false (sym watched ∙ (λ i. list_any (depends_on ((key_decides key q).0 e i)) s.table.rows) ∙ none))
     marks q none unneeded false e =
         subst IsUnheard (sym (same q e))
         (tidy.marks q none
-        (none-first (is_need_of s.table.rows stale q) (is_need_of s.table.rows (watchers_of (watch_in s.watches name)) q)
-        (sym (list_any-append (λ n. is_needed q (needs_in (row_in n s.table.rows))) stale (watchers_of (watch_in s.watches name)))
-        ∙ (λ i. is_need_of (sym table i).rows (stale ++ (watchers_of (watch_in s.watches name))) q) ∙ unneeded)))
+        (none-first (is_need_of s.table.rows stale q) (is_need_of s.table.rows (watchers_of (watch_in s.watches key)) q)
+        (sym (list_any-append (λ n. is_needed q (needs_in (row_in n s.table.rows))) stale (watchers_of (watch_in s.watches key)))
+        ∙ (λ i. is_need_of (sym table i).rows (stale ++ (watchers_of (watch_in s.watches key))) q) ∙ unneeded)))
 
-    gone : (n : ℕ) (row : GenRow) (h : Host) → row_in n s.table.rows ≡ Some row → (is_one_of stale n || is_one_of (watchers_of (watch_in s.watches name)) n) ≡ false → keeps_result t.watches h row ≡ false
-        → (l : Bool) → is_live row.status ≡ l → (needs : Bool) → is_needed name (dependencies_of row.content) ≡ needs → result_in s.results n h ≡ None
+    gone : (n : ℕ) (row : GenRow) (h : Host) → row_in n s.table.rows ≡ Some row → (is_one_of stale n || is_one_of (watchers_of (watch_in s.watches key)) n) ≡ false → keeps_result t.watches h row ≡ false
+        → (l : Bool) → is_live row.status ≡ l → (needs : Bool) → is_needed key (dependencies_of row.content) ≡ needs → result_in s.results n h ≡ None
     gone n row h at absent lost false l needs f =
-        tidy.results n row h at (none-first (is_one_of stale n) (is_one_of (watchers_of (watch_in s.watches name)) n) absent) (λ i. l i && has_host h (assignment_in s.watches row.content))
+        tidy.results n row h at (none-first (is_one_of stale n) (is_one_of (watchers_of (watch_in s.watches key)) n) absent) (λ i. l i && has_host h (assignment_in s.watches row.content))
     gone n row h at absent lost true l true f =
-        absurd (true≢false (sym ((λ i. is_one_of (watchers-index s x name i) n) ∙ among-depends name n row s.table.rows at (λ i. l i && f i))
-        ∙ none-second (is_one_of stale n) (is_one_of (watchers_of (watch_in s.watches name)) n) absent))
+        absurd (true≢false (sym ((λ i. is_one_of (watchers-index s x key i) n) ∙ among-depends key n row s.table.rows at (λ i. l i && f i))
+        ∙ none-second (is_one_of stale n) (is_one_of (watchers_of (watch_in s.watches key)) n) absent))
     gone n row h at absent lost true l false f =
-        tidy.results n row h at (none-first (is_one_of stale n) (is_one_of (watchers_of (watch_in s.watches name)) n) absent)
-        ((λ i. is_live row.status && has_host h (sym (assignment_in-agrees s.watches t.watches row.content (agrees-other s.watches t.watches name other (dependencies_of row.content) f)) i)) ∙ lost)
+        tidy.results n row h at (none-first (is_one_of stale n) (is_one_of (watchers_of (watch_in s.watches key)) n) absent)
+        ((λ i. is_live row.status && has_host h (sym (assignment_in-agrees s.watches t.watches row.content (agrees-other s.watches t.watches key other (dependencies_of row.content) f)) i)) ∙ lost)
 
-    kept : (n : ℕ) (row : GenRow) → row_in n s.table.rows ≡ Some row → (is_one_of stale n || is_one_of (watchers_of (watch_in s.watches name)) n) ≡ false → is_live row.status ≡ true
-        → (needs : Bool) → is_needed name (dependencies_of row.content) ≡ needs → IfSome (marked_in t.results n) (IsAssignmentOf t.watches row.content)
+    kept : (n : ℕ) (row : GenRow) → row_in n s.table.rows ≡ Some row → (is_one_of stale n || is_one_of (watchers_of (watch_in s.watches key)) n) ≡ false → is_live row.status ≡ true
+        → (needs : Bool) → is_needed key (dependencies_of row.content) ≡ needs → IfSome (marked_in t.results n) (IsAssignmentOf t.watches row.content)
     kept n row at absent live true f =
-        absurd (true≢false (sym ((λ i. is_one_of (watchers-index s x name i) n) ∙ among-depends name n row s.table.rows at (λ i. live i && f i))
-        ∙ none-second (is_one_of stale n) (is_one_of (watchers_of (watch_in s.watches name)) n) absent))
+        absurd (true≢false (sym ((λ i. is_one_of (watchers-index s x key i) n) ∙ among-depends key n row s.table.rows at (λ i. live i && f i))
+        ∙ none-second (is_one_of stale n) (is_one_of (watchers_of (watch_in s.watches key)) n) absent))
     kept n row at absent live false f =
-        marks-moved s.watches t.watches row.content (assignment_in-agrees s.watches t.watches row.content (agrees-other s.watches t.watches name other (dependencies_of row.content) f))
+        marks-moved s.watches t.watches row.content (assignment_in-agrees s.watches t.watches row.content (agrees-other s.watches t.watches key other (dependencies_of row.content) f))
         (marked_in s.results n) (marked_in t.results n) (λ i. marked_in (results i) n)
-        (tidy.marked n (none-first (is_one_of stale n) (is_one_of (watchers_of (watch_in s.watches name)) n) absent) row at live)
+        (tidy.marked n (none-first (is_one_of stale n) (is_one_of (watchers_of (watch_in s.watches key)) n) absent) row at live)
 
 -- where nothing happened there is nothing to forget
 pub tidy-new : (s : State) → HasRows s (opening 0 []) → IsTidyBut s []

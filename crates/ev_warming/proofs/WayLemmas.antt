@@ -1,24 +1,25 @@
--- A generation that is due makes its predecessor drain and serves: by numbers as the code does it, and by names as promotion says it.
+-- A generation that is due makes its predecessor drain and serves: by numbers as the code does it, and by names as
+-- promotion says it.
 use Rattle.std.proofs.Common.{◌≡◌, ◌∙◌, ℕ, Bool, true, false, cond, not, ◌&&◌, ◌||◌, nat_eq, List, [], ◌∷◌, ◌++◌, Option, None, Some, option_map, option_to_list, refl, sym, ap, true≢false}
 use Rattle.std.proofs.Math.Bool.{or-false}
-use Rattle.std.specs.Str.{bytes_eq}
 use Rattle.std.proofs.lemmas.Bool.{eqb-true, eq-eqb, false_from_ne_true, and_parts, and_from}
 use Rattle.std.proofs.lemmas.List.Folds.{list_any-append}
-use Rattle.ev_types.specs.Same.{bytes_decide}
 use Rattle.ev_types.specs.Statuses.{is_warming, is_active, is_live}
 use Rattle.ev_types.specs.declared.rows.RowStatus.{RowStatus}
 use Rattle.ev_types.specs.declared.rows.RowStatus.TheVariants.{Warming, Active, Draining, Dropped}
 use Rattle.ev_types.specs.declared.rows.GenRow.{GenRow}
 use Rattle.ev_model.specs.Rows.{removed_status, with_statuses}
-use Rattle.ev_generations.specs.Tables.{row_in, status_with, with_status}
-use Rattle.ev_generations.proofs.TableLemmas.{row_in-with_statuses, number-row_in}
-use Rattle.ev_endpoints.specs.Kept.{ResultsKept}
+use Rattle.ev_indexes.specs.Tables.{row_in, status_with, with_status}
+use Rattle.ev_indexes.proofs.TableLemmas.{row_in-with_statuses, number-row_in}
+use Rattle.ev_indexes.specs.KeptEndpoints.{ResultsKept}
+use Rattle.ev_mentions.specs.Keys.{key_decides}
+use Rattle.ev_mentions.specs.declared.kind_keys.Key.{Key}
 use Rattle.ev_indexes.specs.declared.state.State.{State}
 use Rattle.ev_indexes.specs.Due.{is_one_of}
 use Rattle.ev_indexes.specs.Standings.{standing_in}
 use Rattle.ev_indexes.specs.Watched.{numbers_without, WatchesKept}
 use Rattle.ev_indexes.specs.Ready.{is_ready_in, is_due_in, is_due_found}
-use Rattle.ev_indexes.specs.Indexes.{IsIndexed, serves, warms, SameMarks, numbers_where, status_in}
+use Rattle.ev_indexes.specs.Indexes.{IsIndexed, is_of, key_of_row, serves, warms, SameMarks, numbers_where, status_in}
 use Rattle.ev_warming.specs.Promotion.{rows_promoted, status_drained}
 use Rattle.ev_model.specs.Watching.{dependencies_of}
 use Rattle.ev_warming.proofs.ReadyLemmas.{is_ready_in-agrees, agrees-all}
@@ -44,25 +45,25 @@ pub found_warm : (o : Option GenRow) → is_warming (status_in o) ≡ true → (
 found_warm None h = absurd (true≢false (sym h))
 found_warm (Some row) h = (row, refl)
 
-module _ (s : State) (x : IsIndexed s) (name : List ℕ) where
+module _ (s : State) (x : IsIndexed s) (key : Key) where
   -- no generation serves the name
-  pub way-none : (standing_in s.names name).active ≡ None → s.table.rows ≡ with_statuses (status_drained name) s.table.rows
+  pub way-none : (standing_in s.names key).active ≡ None → s.table.rows ≡ with_statuses (status_drained key) s.table.rows
   way-none none =
       sym (statuses_same s.table.rows)
-      ∙ statuses_agree (λ (r : GenRow). r.status) (status_drained name) s.table.rows
-      (all_then (λ (r : GenRow). is_one_of (numbers_where (serves name) s.table.rows) r.number ≡ serves name r) (λ (r : GenRow). r.status ≡ status_drained name r) s.table.rows
-      (λ r h. λ i. cond ((sym (λ j. is_one_of ((sym (x.active name) ∙ ap option_to_list none) j) r.number) ∙ h) i) Draining r.status)
-      (where-members (serves name) s.table.rows x.table.apart))
+      ∙ statuses_agree (λ (r : GenRow). r.status) (status_drained key) s.table.rows
+      (all_then (λ (r : GenRow). is_one_of (numbers_where (serves key) s.table.rows) r.number ≡ serves key r) (λ (r : GenRow). r.status ≡ status_drained key r) s.table.rows
+      (λ r h. λ i. cond ((sym (λ j. is_one_of ((sym (x.active key) ∙ ap option_to_list none) j) r.number) ∙ h) i) Draining r.status)
+      (where-members (serves key) s.table.rows x.table.apart))
 
-  module _ (p : ℕ) (at : (standing_in s.names name).active ≡ Some p) where
-    members : numbers_where (serves name) s.table.rows ≡ p ∷ []
-    members = sym (x.active name) ∙ ap option_to_list at
+  module _ (p : ℕ) (at : (standing_in s.names key).active ≡ Some p) where
+    members : numbers_where (serves key) s.table.rows ≡ p ∷ []
+    members = sym (x.active key) ∙ ap option_to_list at
 
-    theirs : (row : GenRow) × (row_in p s.table.rows ≡ Some row) × (serves name row ≡ true)
-    theirs = found-where (serves name) p s.table.rows x.table.apart ((λ i. is_one_of (members i) p) ∙ or-false (nat_eq p p) ∙ eq-eqb p p refl)
+    theirs : (row : GenRow) × (row_in p s.table.rows ≡ Some row) × (serves key row ≡ true)
+    theirs = found-where (serves key) p s.table.rows x.table.apart ((λ i. is_one_of (members i) p) ∙ or-false (nat_eq p p) ∙ eq-eqb p p refl)
 
     serving : is_active theirs.0.status ≡ true
-    serving = (and_parts (is_active theirs.0.status) (bytes_eq theirs.0.name name) theirs.2).0
+    serving = (and_parts (is_active theirs.0.status) (is_of key theirs.0) theirs.2).0
 
     pub way-live : is_live (status_in (row_in p s.table.rows)) ≡ true
     way-live = (λ i. is_live (status_in (theirs.1 i))) ∙ live-active theirs.0.status serving
@@ -70,13 +71,13 @@ module _ (s : State) (x : IsIndexed s) (name : List ℕ) where
     removed : removed_status (status_in (row_in p s.table.rows)) ≡ Draining
     removed = (λ i. removed_status (status_in (theirs.1 i))) ∙ removed-active theirs.0.status serving
 
-    pub way-rows : with_status p (removed_status (status_in (row_in p s.table.rows))) s.table.rows ≡ with_statuses (status_drained name) s.table.rows
+    pub way-rows : with_status p (removed_status (status_in (row_in p s.table.rows))) s.table.rows ≡ with_statuses (status_drained key) s.table.rows
     way-rows =
         (λ i. with_status p (removed i) s.table.rows)
-        ∙ statuses_agree (status_with p Draining) (status_drained name) s.table.rows
-        (all_then (λ (r : GenRow). is_one_of (numbers_where (serves name) s.table.rows) r.number ≡ serves name r) (λ (r : GenRow). status_with p Draining r ≡ status_drained name r) s.table.rows
+        ∙ statuses_agree (status_with p Draining) (status_drained key) s.table.rows
+        (all_then (λ (r : GenRow). is_one_of (numbers_where (serves key) s.table.rows) r.number ≡ serves key r) (λ (r : GenRow). status_with p Draining r ≡ status_drained key r) s.table.rows
         (λ r h. λ i. cond ((flipped p r.number ∙ sym (or-false (nat_eq r.number p)) ∙ (λ j. is_one_of (sym members j) r.number) ∙ h) i) Draining r.status)
-        (where-members (serves name) s.table.rows x.table.apart))
+        (where-members (serves key) s.table.rows x.table.apart))
 
     pub way-row : (number : ℕ) (row : GenRow) (status : RowStatus) → row_in number s.table.rows ≡ Some row → is_warming row.status ≡ true
         → row_in number (with_status p status s.table.rows) ≡ row_in number s.table.rows
@@ -104,11 +105,11 @@ module _ (s : State) (x : IsIndexed s) (name : List ℕ) where
         by false e = refl
 
     pub way-alone : (t : State) → IsIndexed t → t.table.rows ≡ with_status p (removed_status (status_in (row_in p s.table.rows))) s.table.rows
-        → (standing_in t.names name).active ≡ None
+        → (standing_in t.names key).active ≡ None
     way-alone t y e =
-        emptied (standing_in t.names name).active
-        (y.active name ∙ ap (numbers_where (serves name)) (e ∙ (λ i. with_status p (removed i) s.table.rows))
-        ∙ where-left (serves name) p Draining (λ r. refl) s.table.rows
+        emptied (standing_in t.names key).active
+        (y.active key ∙ ap (numbers_where (serves key)) (e ∙ (λ i. with_status p (removed i) s.table.rows))
+        ∙ where-left (serves key) p Draining (λ r. refl) s.table.rows
         ∙ ap (numbers_without p) members
         ∙ without-one p (Some p) (or-false (nat_eq p p) ∙ eq-eqb p p refl))
 
@@ -123,40 +124,40 @@ module _ (s : State) (x : IsIndexed s) (number : ℕ) (row : GenRow) (found : ro
   ready : is_ready_in s.watches s.results row ≡ true
   ready = (and_parts (is_warming row.status) (is_ready_in s.watches s.results row) is_due).1
 
-  named : warms row.name row ≡ true
-  named = and_from (is_warming row.status) (bytes_eq row.name row.name) warm ((bytes_decide row.name row.name).1 refl)
+  named : warms (key_of_row row) row ≡ true
+  named = and_from (is_warming row.status) (is_of (key_of_row row) row) warm ((key_decides (key_of_row row) (key_of_row row)).1 refl)
 
-  lone : numbers_where (warms row.name) s.table.rows ≡ number ∷ []
+  lone : numbers_where (warms (key_of_row row)) s.table.rows ≡ number ∷ []
   lone =
-      let o = (standing_in s.names row.name).warming in
-      sym (x.warming row.name)
-      ∙ ap option_to_list (only number o ((λ i. is_one_of (x.warming row.name i) number) ∙ among-where (warms row.name) number row s.table.rows found named))
+      let o = (standing_in s.names (key_of_row row)).warming in
+      sym (x.warming (key_of_row row))
+      ∙ ap option_to_list (only number o ((λ i. is_one_of (x.warming (key_of_row row) i) number) ∙ among-where (warms (key_of_row row)) number row s.table.rows found named))
 
-  key : (r : GenRow) → is_one_of (numbers_where (warms row.name) s.table.rows) r.number ≡ warms row.name r → nat_eq number r.number ≡ warms row.name r
-  key r h = flipped number r.number ∙ sym (or-false (nat_eq r.number number)) ∙ (λ j. is_one_of (sym lone j) r.number) ∙ h
+  same_row : (r : GenRow) → is_one_of (numbers_where (warms (key_of_row row)) s.table.rows) r.number ≡ warms (key_of_row row) r → nat_eq number r.number ≡ warms (key_of_row row) r
+  same_row r h = flipped number r.number ∙ sym (or-false (nat_eq r.number number)) ∙ (λ j. is_one_of (sym lone j) r.number) ∙ h
 
-  once : (rows : List GenRow) → rows ≡ with_statuses (status_drained row.name) s.table.rows → with_status number Active rows ≡ rows_once row.name s.table.rows
+  once : (rows : List GenRow) → rows ≡ with_statuses (status_drained (key_of_row row)) s.table.rows → with_status number Active rows ≡ rows_once (key_of_row row) s.table.rows
   once rows e =
       ap (with_status number Active) e
-      ∙ with_statuses-twice (status_with number Active) (status_drained row.name) s.table.rows
-      ∙ statuses_agree (λ (r : GenRow). status_with number Active (row_with (status_drained row.name r) r)) (status_once row.name) s.table.rows
-      (all_then (λ (r : GenRow). is_one_of (numbers_where (warms row.name) s.table.rows) r.number ≡ warms row.name r)
-      (λ (r : GenRow). status_with number Active (row_with (status_drained row.name r) r) ≡ status_once row.name r) s.table.rows
-      (λ r h. λ i. cond (key r h i) Active (status_drained row.name r))
-      (where-members (warms row.name) s.table.rows x.table.apart))
+      ∙ with_statuses-twice (status_with number Active) (status_drained (key_of_row row)) s.table.rows
+      ∙ statuses_agree (λ (r : GenRow). status_with number Active (row_with (status_drained (key_of_row row) r) r)) (status_once (key_of_row row)) s.table.rows
+      (all_then (λ (r : GenRow). is_one_of (numbers_where (warms (key_of_row row)) s.table.rows) r.number ≡ warms (key_of_row row) r)
+      (λ (r : GenRow). status_with number Active (row_with (status_drained (key_of_row row) r) r) ≡ status_once (key_of_row row) r) s.table.rows
+      (λ r h. λ i. cond (same_row r h i) Active (status_drained (key_of_row row) r))
+      (where-members (warms (key_of_row row)) s.table.rows x.table.apart))
 
-  pub promoted-one : (rows : List GenRow) → rows ≡ with_statuses (status_drained row.name) s.table.rows
+  pub promoted-one : (rows : List GenRow) → rows ≡ with_statuses (status_drained (key_of_row row)) s.table.rows
       → rows_promoted (is_ready_in s.watches s.results) (with_status number Active rows) ≡ rows_promoted (is_ready_in s.watches s.results) s.table.rows
   promoted-one rows e =
       ap (rows_promoted (is_ready_in s.watches s.results)) (once rows e)
-      ∙ rows_promoted-once (is_ready_in s.watches s.results) (λ status r. refl) row.name s.kind s.table.rows x.kinds
-      (any-found (λ (r : GenRow). warms row.name r && is_ready_in s.watches s.results r) number row s.table.rows found
-      (and_from (warms row.name row) (is_ready_in s.watches s.results row) named ready))
-      (all_then (λ (r : GenRow). (is_one_of (numbers_where (warms row.name) s.table.rows) r.number ≡ warms row.name r) × (nat_eq number r.number ≡ true → r ≡ row))
-      (λ (r : GenRow). warms row.name r ≡ true → is_ready_in s.watches s.results r ≡ true) s.table.rows
-      (λ r (h, q) w. (λ i. is_ready_in s.watches s.results (q (key r h ∙ w) i)) ∙ ready)
-      (both_all (λ (r : GenRow). is_one_of (numbers_where (warms row.name) s.table.rows) r.number ≡ warms row.name r) (λ (r : GenRow). nat_eq number r.number ≡ true → r ≡ row)
-      s.table.rows (where-members (warms row.name) s.table.rows x.table.apart) (all-found number row s.table.rows found x.table.apart)))
+      ∙ rows_promoted-once (is_ready_in s.watches s.results) (λ status r. refl) (key_of_row row) s.table.rows
+      (any-found (λ (r : GenRow). warms (key_of_row row) r && is_ready_in s.watches s.results r) number row s.table.rows found
+      (and_from (warms (key_of_row row) row) (is_ready_in s.watches s.results row) named ready))
+      (all_then (λ (r : GenRow). (is_one_of (numbers_where (warms (key_of_row row)) s.table.rows) r.number ≡ warms (key_of_row row) r) × (nat_eq number r.number ≡ true → r ≡ row))
+      (λ (r : GenRow). warms (key_of_row row) r ≡ true → is_ready_in s.watches s.results r ≡ true) s.table.rows
+      (λ r (h, q) w. (λ i. is_ready_in s.watches s.results (q (same_row r h ∙ w) i)) ∙ ready)
+      (both_all (λ (r : GenRow). is_one_of (numbers_where (warms (key_of_row row)) s.table.rows) r.number ≡ warms (key_of_row row) r) (λ (r : GenRow). nat_eq number r.number ≡ true → r ≡ row)
+      s.table.rows (where-members (warms (key_of_row row)) s.table.rows x.table.apart) (all-found number row s.table.rows found x.table.apart)))
 
 -- readiness by the same marks is the same
 pub ready-same : (old new : WatchesKept) (results : ResultsKept) → SameMarks old new → is_ready_in new results ≡ is_ready_in old results
@@ -164,7 +165,7 @@ ready-same old new results same =
     λ i row. is_ready_in-agrees old new results row (agrees-all old new (λ q. record { told = (same q).0; timed = (same q).1; value = (same q).2 }) (dependencies_of row.content)) i
 
 pub marks-then : (a b c : WatchesKept) → SameMarks a b → SameMarks b c → SameMarks a c
-marks-then a b c p q = λ name. ((q name).0 ∙ (p name).0, (q name).1 ∙ (p name).1, (q name).2 ∙ (p name).2)
+marks-then a b c p q = λ key. ((q key).0 ∙ (p key).0, (q key).1 ∙ (p key).1, (q key).2 ∙ (p key).2)
 
 -- where none is due, promotion does nothing
 pub promoted-done : (s : State) → IsIndexed s → s.due ≡ [] → rows_promoted (is_ready_in s.watches s.results) s.table.rows ≡ s.table.rows

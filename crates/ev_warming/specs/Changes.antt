@@ -7,13 +7,15 @@ use Rattle.ev_types.specs.declared.contents.Content.{Content}
 use Rattle.ev_types.specs.declared.contents.Kind.{Kind}
 use Rattle.ev_types.specs.declared.rows.RowStatus.{RowStatus}
 use Rattle.ev_types.specs.declared.rows.GenRow.{GenRow}
+use Rattle.ev_types.specs.declared.origins.KeptChain.{KeptChain}
 use Rattle.ev_model.specs.Rows.{removed_status, with_statuses, rows_with_new}
 use Rattle.ev_model.specs.Signals.{is_draining, rows_ended}
 use Rattle.ev_model.specs.Verdicts.{items_named, is_among}
-use Rattle.ev_generations.specs.Tables.{row_in, with_status}
+use Rattle.ev_indexes.specs.Tables.{row_in, with_status}
+use Rattle.ev_mentions.specs.declared.kind_keys.Key.{Key}
 use Rattle.ev_indexes.specs.declared.state.State.{State}
 use Rattle.ev_indexes.specs.Due.{is_one_of}
-use Rattle.ev_indexes.specs.Indexes.{status_in, name_in, serves, warms, numbers_where}
+use Rattle.ev_indexes.specs.Indexes.{status_in, key_in, serves, warms, numbers_where}
 use Rattle.ev_indexes.specs.Ready.{is_ready_in, is_due_at}
 use Rattle.ev_indexes.specs.Reads.{names_watched}
 use Rattle.ev_indexes.specs.Watched.{watch_in, watchers_of}
@@ -45,7 +47,8 @@ abbrev pub status_left_by : Kind → ResponseParts → List (List ℕ) → GenRo
 status_left_by kind response names row =
     if kind_same row.kind kind && (is_among row.name names && is_unlisted response row.name) then removed_status row.status else row.status
 
--- the second list has the first one's numbers and those of the rows that retired in between, and a row that is over stays over
+-- the second list has the first one's numbers and those of the rows that retired in between, and a row that is over
+-- stays over
 pub record Tells (before after : List GenRow) (numbers more : List ℕ) : Type 0 where
   pub told : (number : ℕ) → is_one_of more number ≡ (is_one_of numbers number || has_retired number before after)
   pub stays : (number : ℕ) → is_over (row_in number before) ≡ true → is_over (row_in number after) ≡ true
@@ -74,27 +77,27 @@ BeganToDrain numbers old new =
 
 -- where none of these drains, the same names are watched as before
 abbrev pub WatchesTheSame : List ℕ → State → State → Type 0
-WatchesTheSame drained old new = drained ≡ [] → names_watched new.table.rows ≡ names_watched old.table.rows
+WatchesTheSame drained old new = drained ≡ [] → (kind : Kind) → names_watched kind new.table.rows ≡ names_watched kind old.table.rows
 
 -- the number is that of the row that serves the name, where one does
-abbrev pub ServesName : Option ℕ → List ℕ → State → Type 0
-ServesName number name s = option_to_list number ≡ numbers_where (serves name) s.table.rows
+abbrev pub ServesName : Option ℕ → Key → State → Type 0
+ServesName number key s = option_to_list number ≡ numbers_where (serves key) s.table.rows
 
 -- the number is that of the row that warms under the name, where one does
-abbrev pub WarmsUnder : Option ℕ → List ℕ → State → Type 0
-WarmsUnder number name s = option_to_list number ≡ numbers_where (warms name) s.table.rows
+abbrev pub WarmsUnder : Option ℕ → Key → State → Type 0
+WarmsUnder number key s = option_to_list number ≡ numbers_where (warms key) s.table.rows
 
 -- the numbers that are kept with the name: those of the generations that depend on it
-abbrev pub watchers_in : State → List ℕ → List ℕ
-watchers_in s name = watchers_of (watch_in s.watches name)
+abbrev pub watchers_in : State → Key → List ℕ
+watchers_in s key = watchers_of (watch_in s.watches key)
 
--- the rows once the name has come to its end
-abbrev pub EndsRows : State → State → List ℕ → Type 0
-EndsRows old new name = new.table.rows ≡ rows_ended old.kind name old.table.rows
+-- the rows once the name of a kind has come to its end
+abbrev pub EndsRows : State → State → Kind → List ℕ → Type 0
+EndsRows old new kind name = new.table.rows ≡ rows_ended kind name old.table.rows
 
--- the rows with a new one, which takes the place of one that warms under its name
-abbrev pub AddsRow : State → State → List ℕ → Content → Type 0
-AddsRow old new name content = new.table.rows ≡ rows_with_new old.kind old.table.made name content old.table.rows
+-- the rows with a new one, which keeps these chains and takes the place of one that warms under its name
+abbrev pub AddsRow : State → State → Kind → List ℕ → Content → List KeptChain → Type 0
+AddsRow old new kind name content kept = new.table.rows ≡ rows_with_new kind old.table.made name content kept old.table.rows
 
 -- these rows once the one of this number drains, or is dropped where it warmed
 abbrev pub rows_retired : ℕ → List GenRow → List GenRow
@@ -102,26 +105,26 @@ rows_retired number rows = with_status number (removed_status (status_in (row_in
 
 -- these rows once the one drains that serves the name of the row of this number
 abbrev pub rows_giving_way : ℕ → List GenRow → List GenRow
-rows_giving_way number rows = with_statuses (status_drained (name_in (row_in number rows))) rows
+rows_giving_way number rows = with_statuses (status_drained (key_in (row_in number rows))) rows
 
 -- these rows once all serve that warm and are ready by what the state knows
 abbrev pub promoted_by : State → List GenRow → List GenRow
 promoted_by s rows = rows_promoted (is_ready_in s.watches s.results) rows
 
--- the kind and the results stay
+-- the results stay
 abbrev pub KeepsResults : State → State → Type 0
 KeepsResults old new =
     new ≡ record old { table = new.table; names = new.names; watches = new.watches; addresses = new.addresses; due = new.due }
 
--- the kind, what is known of names, who holds an address and the results stay
+-- what is known of names, who holds an address and the results stay
 abbrev pub KeepsKnown : State → State → Type 0
 KeepsKnown old new = new ≡ record old { table = new.table; names = new.names; due = new.due }
 
--- the kind, the rows with their names and addresses, and which are due stay
+-- the rows with their names and addresses, and which are due stay
 abbrev pub KeepsTable : State → State → Type 0
 KeepsTable old new = new ≡ record old { watches = new.watches; results = new.results }
 
--- the kind and the results stay, and none is due any more
+-- the results stay, and none is due any more
 abbrev pub LeavesNoneDue : State → State → Type 0
 LeavesNoneDue old new =
     new ≡ record old { table = new.table; names = new.names; watches = new.watches; addresses = new.addresses; due = [] }

@@ -1,14 +1,16 @@
--- Which generations a health result is for, and what it does to what is kept: the machine's words, where what came is looked up.
--- Source: cluster manager warming of Envoy's documentation: a checked cluster waits for a first result of each host.
+-- Which generations a health result is for, and what it does to what is kept: the machine's words, where what came is
+-- looked up. Source: cluster manager warming of Envoy's documentation: a checked cluster waits for a first result of
+-- each host.
 use Rattle.std.specs.Prelude.{◌≡◌, ◌⊎◌, ℕ, Bool, true, ◌&&◌, nat_eq, if◌then◌else◌, List, [], Option, Some, IfSome, option_and_then, option_to_list}
 use Rattle.std.specs.List.{list_any}
-use Rattle.std.specs.Str.{bytes_eq}
 use Rattle.ev_types.specs.SameHosts.{host_same}
 use Rattle.ev_types.specs.Statuses.{is_live}
+use Rattle.ev_types.specs.declared.contents.Kind.TheVariants.{Cds}
 use Rattle.ev_types.specs.declared.hosts.Host.{Host}
 use Rattle.ev_types.specs.declared.rows.GenRow.{GenRow}
-use Rattle.ev_endpoints.specs.Kept.{ResultsKept, marked_in, result_in}
-use Rattle.ev_generations.specs.Tables.{row_in}
+use Rattle.ev_model.specs.Rows.{is_row_of}
+use Rattle.ev_indexes.specs.KeptEndpoints.{ResultsKept, marked_in, result_in}
+use Rattle.ev_indexes.specs.Tables.{row_in}
 use Rattle.ev_indexes.specs.declared.state.State.{State}
 use Rattle.ev_indexes.specs.Due.{is_one_of}
 use Rattle.ev_indexes.specs.Watched.{WatchesKept}
@@ -21,9 +23,9 @@ abbrev pub takes_at : WatchesKept → Host → Option ℕ → List GenRow → Bo
 takes_at watches host number rows =
     passes (λ (row : GenRow). takes_result watches host row.content) (option_and_then (λ n. row_in n rows) number)
 
--- a result of the host is for this row: a live one of the name
+-- a result of the host is for this row: a live cluster of the name
 abbrev pub is_meant_in : WatchesKept → List ℕ → Host → GenRow → Bool
-is_meant_in watches name host row = is_live row.status && bytes_eq row.name name && takes_result watches host row.content
+is_meant_in watches name host row = is_live row.status && is_row_of Cds name row && takes_result watches host row.content
 
 -- the numbers of the rows that a result of the host is for
 abbrev pub numbers_meant : WatchesKept → List ℕ → Host → List GenRow → List ℕ

@@ -1,47 +1,33 @@
--- What calls do to the worlds that a state stands for, and what they read of them.
-use Rattle.std.specs.Prelude.{◌≡◌, ◌+◌, ℕ, Bool, ◌&&◌, List, [], ◌∷◌, ◌++◌, filter, map}
+-- What calls do to the worlds that a state represents, and what they read of them.
+use Rattle.std.specs.Prelude.{◌≡◌, ◌+◌, ℕ, Bool, ◌&&◌, if◌then◌else◌, List, [], ◌∷◌, ◌++◌, map}
 use Rattle.std.specs.List.{list_any}
 use Rattle.ev_types.specs.Items.{ResponseParts}
-use Rattle.ev_types.specs.Kinds.{kind_same}
 use Rattle.ev_types.specs.declared.contents.Content.{Content}
+use Rattle.ev_types.specs.Kinds.{kind_same}
 use Rattle.ev_types.specs.declared.contents.Kind.{Kind}
-use Rattle.ev_types.specs.declared.contents.Kind.TheVariants.{Cds}
+use Rattle.ev_types.specs.declared.contents.Kind.TheVariants.{Sds}
 use Rattle.ev_types.specs.declared.events.Verdict.{Verdict}
 use Rattle.ev_types.specs.declared.hosts.Host.{Host}
+use Rattle.ev_types.specs.declared.origins.KeptChain.{KeptChain}
 use Rattle.ev_types.specs.declared.rows.Arrival.{Arrival}
 use Rattle.ev_types.specs.declared.rows.Arrival.TheVariants.{Absent}
-use Rattle.ev_types.specs.declared.rows.Live.{Live}
 use Rattle.ev_model.specs.World.{World}
-use Rattle.ev_model.specs.Live.{lives_of}
-use Rattle.ev_model.specs.Rows.{arrived, absent_names, rows_left, rows_with_new, with_statuses, with_removals, add_items}
+use Rattle.ev_model.specs.Rows.{arrived, absent_names, rows_left, rows_replaced, rows_with_new, with_statuses, with_removals, add_items}
 use Rattle.ev_model.specs.Signals.{is_meant, rows_meant, rows_ended, with_results}
 use Rattle.ev_model.specs.Tidy.{without_unwatched, without_old_results}
-use Rattle.ev_generations.specs.Tables.{without_row}
+use Rattle.ev_indexes.specs.Tables.{without_row}
+use Rattle.ev_mentions.specs.Keys.{named}
 use Rattle.ev_indexes.specs.declared.state.State.{State}
 use Rattle.ev_indexes.specs.Indexes.{depends_on}
-use Rattle.ev_indexes.specs.Worlds.{HasRows, needs_of}
+use Rattle.ev_indexes.specs.Worlds.{HasRows}
 use Rattle.ev_warming.specs.Arrivals.{told_where}
 use Rattle.ev_warming.specs.Changes.{is_unlisted, status_left_by}
 
--- whatever world the first state stands for, the second one stands for that world changed so
+-- whatever world the first state represents, the second one represents that world changed so
 abbrev pub Follows : State → State → (World → World) → Type 0
 Follows old new change = (world : World) → HasRows old world → HasRows new (change world)
 
--- whatever world the first state stands for in which so many numbers were drawn, the second one stands for that world changed so
-abbrev pub FollowsAt : ℕ → State → State → (World → World) → Type 0
-FollowsAt made old new change = (world : World) → HasRows old world → made ≡ world.made → HasRows new (change world)
-
--- whatever world the first state stands for in which so many numbers were drawn, the second one stands for that world changed so, and as
--- many numbers were drawn in both
-abbrev pub FollowsDrawing : ℕ → State → State → (World → World) → Type 0
-FollowsDrawing made old new change = (world : World) → HasRows old world → made ≡ world.made
-    → HasRows new (change world) × (new.table.made ≡ (change world).made)
-
--- the world as it is
-abbrev pub unchanged : World → World
-unchanged world = world
-
--- whatever world the state stands for, the answer is what is read of it so
+-- whatever world the state represents, the answer is what is read of it so
 abbrev pub AnswersFor : {A : Type 0} → State → A → (World → A) → Type 0
 AnswersFor s answer reading = (world : World) → HasRows s world → answer ≡ reading world
 
@@ -61,28 +47,37 @@ with_name_left kind response name world = record world { rows = with_statuses (s
 abbrev pub with_rows_ended : Kind → List ℕ → World → World
 with_rows_ended kind name world = record world { rows = rows_ended kind name world.rows }
 
--- the world with a new generation
-abbrev pub with_generation : Kind → List ℕ → Content → World → World
-with_generation kind name content world =
-    record world { rows = rows_with_new kind world.made name content world.rows; made = world.made + 1 }
+-- the world with a new generation, which keeps these chains
+abbrev pub with_generation : Kind → List ℕ → Content → List KeptChain → World → World
+with_generation kind name content kept world =
+    record world { rows = rows_with_new kind world.made name content kept world.rows; made = world.made + 1 }
+
+-- the world once the generation that warms under a name is dropped
+abbrev pub with_rows_replaced : Kind → List ℕ → World → World
+with_rows_replaced kind name world = record world { rows = rows_replaced kind name world.rows }
 
 -- the world without the generation of this number
 abbrev pub without_generation : ℕ → World → World
 without_generation number world = record world { rows = without_row number world.rows }
 
--- the world once something came for a name, where a live row of the state depends on it
-abbrev pub with_told : State → Arrival → List ℕ → World → World
-with_told s arrival name world = told_where (list_any (depends_on name) s.table.rows) (needs_of s.kind) arrival name world
+-- the world once something was received for a name of a kind, where a live row of the state depends on it
+abbrev pub with_told : State → Kind → Arrival → List ℕ → World → World
+with_told s kind arrival name world = told_where (list_any (depends_on (named kind name)) s.table.rows) kind arrival name world
 
--- the world once a removed name is reported as absent, where no resource has it and a live row of the state depends on it
-abbrev pub with_name_absent : State → ResponseParts → List ℕ → World → World
-with_name_absent s response name world =
-    told_where (is_unlisted response name && list_any (depends_on name) s.table.rows) (needs_of s.kind) Absent name world
+-- the world once a removed name is reported as absent, where no resource has it and a live row of the state depends on
+-- it
+abbrev pub with_name_absent : State → Kind → ResponseParts → List ℕ → World → World
+with_name_absent s kind response name world =
+    told_where (is_unlisted response name && list_any (depends_on (named kind name)) s.table.rows) kind Absent name world
 
 -- the world once each watched name that a response removes is reported as absent
 abbrev pub with_names_absent : Kind → ResponseParts → World → World
 with_names_absent kind response world =
     record world { arrivals = world.arrivals ++ map (arrived world.made kind Absent) (absent_names kind response world) }
+
+-- the same, where names are those of anything but secrets: of these nobody hears
+abbrev pub with_removals_told : Kind → ResponseParts → World → World
+with_removals_told kind response world = if kind_same kind Sds then world else with_names_absent kind response world
 
 -- the world with a health result of a host of a cluster, for the rows that it means something to
 abbrev pub with_result : List ℕ → Host → Bool → World → World
@@ -95,15 +90,3 @@ without_unneeded world = without_old_results (without_unwatched world)
 -- a health result of a host of a cluster means something to a row of the world
 abbrev pub means_something : List ℕ → Host → World → Bool
 means_something name host world = list_any (is_meant world.arrivals name host) world.rows
-
--- the live rows of this kind
-abbrev pub lives_of_kind : Kind → World → List Live
-lives_of_kind kind world = filter (λ (live : Live). kind_same live.kind kind) (lives_of world)
-
--- the second state of clusters follows the first one with a health result
-abbrev pub FollowsResult : State → State → List ℕ → Host → Bool → Type 0
-FollowsResult old new name host healthy = old.kind ≡ Cds → Follows old new (with_result name host healthy)
-
--- of clusters the answer is whether a health result means something
-abbrev pub AnswersMeaning : State → Bool → List ℕ → Host → Type 0
-AnswersMeaning s answer name host = s.kind ≡ Cds → AnswersFor s answer (means_something name host)

@@ -1,74 +1,95 @@
-//! Responses of what generations depend on: endpoints, or routes.
+//! Responses of what generations depend on: of a kind that is asked for by name.
 
 ghost use Rattle.std.specs.Prelude.{◌≡◌, true, Some, length, OnOk};
 ghost use Rattle.std.specs.List.{list_any};
+ghost use Rattle.ev_types.specs.Kinds.{is_by_name};
 ghost use Rattle.ev_types.specs.declared.events.Verdict.TheVariants.{Kept};
 ghost use Rattle.ev_model.specs.Verdicts.{is_among};
 ghost use Rattle.ev_model.specs.Rows.{add_item, add_items};
+ghost use Rattle.ev_mentions.specs.Keys.{named};
 ghost use Rattle.ev_indexes.specs.Indexes.{depends_on};
-ghost use Rattle.ev_indexes.specs.Worlds.{needs_of};
 ghost use Rattle.ev_warming.specs.Managers.{IsKept};
 ghost use Rattle.ev_warming.specs.Arrivals.{IsOnValue, AreOnValues};
-ghost use Rattle.ev_warming.specs.Worlds.{FollowsAt, with_name_absent, with_names_absent, with_response, with_told};
+ghost use Rattle.ev_warming.specs.Worlds.{Follows, with_name_absent, with_names_absent, with_removals_told, with_response, with_told};
 
 use crate::Manager;
-use ev_generations::Steps;
+use ev_indexes::Steps;
 use ev_mentions::Mentions;
-use ev_types::{Arrival, Body, Item, Name, NameError, Response, Text, TryCopy, Verdict};
+use ev_types::{Arrival, Body, Item, Kind, Name, NameError, Response, Text, TryCopy, Verdict};
 use std::alloc::{AllocError, Global};
 use std::sync::ledger::Ledger;
 
 impl Manager {
-    /// A response of what the manager's generations depend on, with the verdicts on its resources: a watched name that is removed
-    /// is reported as absent; then, in order, each resource that is kept arrives, and one that is refused is reported where its
-    /// name is watched; so many numbers were drawn by then. Look-ups are counted: one for each generation that depends on a name
-    /// that something came for, for each way in which it waits. Out of memory, nothing is promised.
+    /// A response of a kind that is asked for by name, with the verdicts on its resources: a watched name that is
+    /// removed is reported as absent, unless it is a secret's; then, in order, each resource that is kept arrives, and
+    /// one that is refused is reported where its name is watched. Look-ups are counted: one for each generation that
+    /// depends on a name that something was received for, for each way in which it waits.
+    /// Out of memory, it is unspecified.
     pub fn arrive_all<L: Ledger>(
         &mut self,
         alloc: Global,
-        made: u32,
+        kind: Kind,
         response: &Response,
         verdicts: &[Verdict],
         steps: &mut Steps<L>,
     ) -> Result<(), AllocError>
         requires kept { IsKept self.old }
-        requires typed { response.now.kind ≡ Some (needs_of self.old.state.kind) }
+        requires typed { response.now.kind ≡ Some kind }
+        requires by_name { is_by_name kind ≡ true }
         requires one_each { length verdicts.now ≡ length response.now.items }
-        requires on_values { AreOnValues self.old.state.table.rows verdicts.now response.now.items }
+        requires on_values { AreOnValues kind self.old.state.table.rows verdicts.now response.now.items }
         ensures kept { OnOk result (IsKept self.new) }
-        ensures kind { OnOk result (self.new.state.kind ≡ self.old.state.kind) }
         ensures table { OnOk result (self.new.state.table ≡ self.old.state.table) }
-        // Whatever world the manager stood for in which so many numbers were drawn, it stands for that world once the response's
+        // Whatever world the manager represented, it represents that world once the response's
         // removals and resources are in.
-        ensures stands { OnOk result (FollowsAt made self.old.state self.new.state
-            (with_response (needs_of self.old.state.kind) verdicts.now response.now)) }
+        ensures stands { OnOk result (Follows self.old.state self.new.state
+            (with_response kind verdicts.now response.now)) }
     {
-        self.tell_absences(alloc, made, response, steps)?;
-        self.take_values(alloc, made, response.items.as_slice(), verdicts, steps)?;
+        self.tell_removals(alloc, kind, response, steps)?;
+        self.take_values(alloc, kind, response.items.as_slice(), verdicts, steps)?;
         Ok(())
+    }
+
+    // Watched names that a response removes are reported. Those of secrets aren't: the secrets stay in use.
+    fn tell_removals<L: Ledger>(
+        &mut self,
+        alloc: Global,
+        kind: Kind,
+        response: &Response,
+        steps: &mut Steps<L>,
+    ) -> Result<(), AllocError>
+        requires kept { IsKept self.old }
+        ensures kept { OnOk result (IsKept self.new) }
+        ensures table { OnOk result (self.new.state.table ≡ self.old.state.table) }
+        ensures stands { OnOk result (Follows self.old.state self.new.state
+            (with_removals_told kind response.now)) }
+    {
+        if kind.is(Kind::Sds) {
+            return Ok(());
+        }
+        self.tell_absences(alloc, kind, response, steps)
     }
 
     // Watched names that a response removes are reported, except those that a resource has.
     fn tell_absences<L: Ledger>(
         &mut self,
         alloc: Global,
-        made: u32,
+        kind: Kind,
         response: &Response,
         steps: &mut Steps<L>,
     ) -> Result<(), AllocError>
         requires kept { IsKept self.old }
         ensures kept { OnOk result (IsKept self.new) }
-        ensures kind { OnOk result (self.new.state.kind ≡ self.old.state.kind) }
         ensures table { OnOk result (self.new.state.table ≡ self.old.state.table) }
-        ensures stands { OnOk result (FollowsAt made self.old.state self.new.state
-            (with_names_absent (needs_of self.old.state.kind) response.now)) }
+        ensures stands { OnOk result (Follows self.old.state self.new.state
+            (with_names_absent kind response.now)) }
     {
         if response.removed.is_empty() {
             return Ok(());
         }
         let mentions = Mentions::of(alloc, response)?;
         for name in response.removed.as_slice() {
-            self.tell_absence(alloc, made, &mentions, name, steps)?;
+            self.tell_absence(alloc, kind, &mentions, name, steps)?;
         }
         Ok(())
     }
@@ -77,7 +98,7 @@ impl Manager {
     fn tell_absence<L: Ledger>(
         &mut self,
         alloc: Global,
-        made: u32,
+        kind: Kind,
         mentions: &Mentions<'_>,
         name: &Text,
         steps: &mut Steps<L>,
@@ -85,58 +106,55 @@ impl Manager {
         requires kept { IsKept self.old }
         requires listed { is_among name.now mentions.now.removed ≡ true }
         ensures kept { OnOk result (IsKept self.new) }
-        ensures kind { OnOk result (self.new.state.kind ≡ self.old.state.kind) }
         ensures table { OnOk result (self.new.state.table ≡ self.old.state.table) }
-        ensures stands { OnOk result (FollowsAt made self.old.state self.new.state
-            (with_name_absent self.old.state mentions.now name.now)) }
+        ensures stands { OnOk result (Follows self.old.state self.new.state
+            (with_name_absent self.old.state kind mentions.now name.now)) }
     {
         if !mentions.is_removed(name.as_str()) {
             return Ok(());
         }
-        self.tell(alloc, made, name, &Arrival::Absent, steps)
+        self.tell(alloc, kind, name, &Arrival::Absent, steps)
     }
 
-    // Something came for a text, where it is a name that is watched.
+    // Something was received for a text, where it is a name that is watched.
     fn tell<L: Ledger>(
         &mut self,
         alloc: Global,
-        made: u32,
+        kind: Kind,
         name: &Text,
         arrival: &Arrival,
         steps: &mut Steps<L>,
     ) -> Result<(), AllocError>
         requires kept { IsKept self.old }
         ensures kept { OnOk result (IsKept self.new) }
-        ensures kind { OnOk result (self.new.state.kind ≡ self.old.state.kind) }
         ensures table { OnOk result (self.new.state.table ≡ self.old.state.table) }
-        ensures stands { OnOk result (FollowsAt made self.old.state self.new.state
-            (with_told self.old.state arrival.now name.now)) }
+        ensures stands { OnOk result (Follows self.old.state self.new.state
+            (with_told self.old.state kind arrival.now name.now)) }
     {
         match Name::new(alloc, name.as_str()) {
-            Ok(name) => self.tell_name(alloc, made, &name, arrival, steps),
+            Ok(name) => self.tell_name(alloc, kind, &name, arrival, steps),
             Err(NameError::Length) => Ok(()),
             Err(NameError::OutOfMemory) => Err(AllocError),
         }
     }
 
-    // Something came for a name, where it is watched.
+    // Something was received for a name, where it is watched.
     fn tell_name<L: Ledger>(
         &mut self,
         alloc: Global,
-        made: u32,
+        kind: Kind,
         name: &Name,
         arrival: &Arrival,
         steps: &mut Steps<L>,
     ) -> Result<(), AllocError>
         requires kept { IsKept self.old }
         ensures kept { OnOk result (IsKept self.new) }
-        ensures kind { OnOk result (self.new.state.kind ≡ self.old.state.kind) }
         ensures table { OnOk result (self.new.state.table ≡ self.old.state.table) }
-        ensures stands { OnOk result (FollowsAt made self.old.state self.new.state
-            (with_told self.old.state arrival.now name.now)) }
+        ensures stands { OnOk result (Follows self.old.state self.new.state
+            (with_told self.old.state kind arrival.now name.now)) }
     {
-        if self.state.is_watched(name.as_str()) {
-            return self.arrive(alloc, made, name, arrival, steps);
+        if self.state.is_watched(kind, name.as_str()) {
+            return self.arrive(alloc, kind, name, arrival, steps);
         }
         Ok(())
     }
@@ -145,22 +163,22 @@ impl Manager {
     fn take_values<L: Ledger>(
         &mut self,
         alloc: Global,
-        made: u32,
+        kind: Kind,
         items: &[Item],
         verdicts: &[Verdict],
         steps: &mut Steps<L>,
     ) -> Result<(), AllocError>
         requires kept { IsKept self.old }
+        requires by_name { is_by_name kind ≡ true }
         requires one_each { length verdicts.now ≡ length items.now }
-        requires on_values { AreOnValues self.old.state.table.rows verdicts.now items.now }
+        requires on_values { AreOnValues kind self.old.state.table.rows verdicts.now items.now }
         ensures kept { OnOk result (IsKept self.new) }
-        ensures kind { OnOk result (self.new.state.kind ≡ self.old.state.kind) }
         ensures table { OnOk result (self.new.state.table ≡ self.old.state.table) }
-        ensures stands { OnOk result (FollowsAt made self.old.state self.new.state
-            (add_items (needs_of self.old.state.kind) verdicts.now items.now)) }
+        ensures stands { OnOk result (Follows self.old.state self.new.state
+            (add_items kind verdicts.now items.now)) }
     {
         for (place, item) in items.iter().enumerate() {
-            self.take_value(alloc, made, verdicts[place], item, steps)?;
+            self.take_value(alloc, kind, &verdicts[place], item, steps)?;
         }
         Ok(())
     }
@@ -169,22 +187,23 @@ impl Manager {
     fn take_value<L: Ledger>(
         &mut self,
         alloc: Global,
-        made: u32,
-        verdict: Verdict,
+        kind: Kind,
+        verdict: &Verdict,
         item: &Item,
         steps: &mut Steps<L>,
     ) -> Result<(), AllocError>
         requires kept { IsKept self.old }
-        requires on_value { IsOnValue verdict (list_any (depends_on item.now.name) self.old.state.table.rows) }
+        requires by_name { is_by_name kind ≡ true }
+        requires on_value { IsOnValue verdict.now
+            (list_any (depends_on (named kind item.now.name)) self.old.state.table.rows) }
         ensures kept { OnOk result (IsKept self.new) }
-        ensures kind { OnOk result (self.new.state.kind ≡ self.old.state.kind) }
         ensures table { OnOk result (self.new.state.table ≡ self.old.state.table) }
-        ensures stands { OnOk result (FollowsAt made self.old.state self.new.state
-            (add_item (needs_of self.old.state.kind) verdict item.now)) }
+        ensures stands { OnOk result (Follows self.old.state self.new.state
+            (add_item kind verdict.now item.now)) }
     {
         match verdict {
-            Verdict::Kept => self.keep_value(alloc, made, item, steps),
-            Verdict::Refused(_) => self.tell(alloc, made, &item.name, &Arrival::Bad, steps),
+            Verdict::Kept => self.keep_value(alloc, kind, item, steps),
+            Verdict::Refused(_) => self.tell(alloc, kind, &item.name, &Arrival::Bad, steps),
             _ => Ok(()),
         }
     }
@@ -193,23 +212,22 @@ impl Manager {
     fn keep_value<L: Ledger>(
         &mut self,
         alloc: Global,
-        made: u32,
+        kind: Kind,
         item: &Item,
         steps: &mut Steps<L>,
     ) -> Result<(), AllocError>
         requires kept { IsKept self.old }
-        requires watched { list_any (depends_on item.now.name) self.old.state.table.rows ≡ true }
+        requires watched { list_any (depends_on (named kind item.now.name)) self.old.state.table.rows ≡ true }
         ensures kept { OnOk result (IsKept self.new) }
-        ensures kind { OnOk result (self.new.state.kind ≡ self.old.state.kind) }
         ensures table { OnOk result (self.new.state.table ≡ self.old.state.table) }
-        ensures stands { OnOk result (FollowsAt made self.old.state self.new.state
-            (add_item (needs_of self.old.state.kind) Kept item.now)) }
+        ensures stands { OnOk result (Follows self.old.state self.new.state
+            (add_item kind Kept item.now)) }
     {
         let Body::Good(content) = &item.body else {
             return Ok(());
         };
         let name = item.resource_name(alloc)?;
         let arrival = Arrival::Value(content.copy(alloc)?);
-        self.arrive(alloc, made, &name, &arrival, steps)
+        self.arrive(alloc, kind, &name, &arrival, steps)
     }
 }

@@ -1,31 +1,30 @@
-//! Forgetting, a step of its own after the promotion of the same event, as in the machine: till then a name that one resource of a
-//! response ceases to depend on and another begins to keeps its value. What it looks at follows from what changed: the
-//! generations that retired, and those whose name something came for. A name that may have to go is one of theirs, so no list
-//! of names is kept.
+//! Forgetting, a step of its own after the promotion of the same event, as in the machine: till then a name that one
+//! resource of a response ceases to depend on and another begins to keeps its value. What it looks at follows from what
+//! changed: the generations that retired, and those whose name something was received for.
+//! A name that may have to go is one of theirs, so no list of names is kept.
 
-ghost use Rattle.std.specs.Prelude.{◌≡◌, ◌+◌, ◌<◌, false, not, [], length, option_to_list, OnOk};
-ghost use Rattle.ev_model.specs.Watching.{dependencies_of, is_by_name};
+ghost use Rattle.std.specs.Prelude.{◌≡◌, ◌+◌, not, [], ◌∷◌, length, OnOk};
+ghost use Rattle.ev_model.specs.Watching.{dependencies_of};
 ghost use Rattle.ev_model.specs.Warming.{rows_in};
-ghost use Rattle.ev_endpoints.specs.Kept.{Trims, Unmarks};
+ghost use Rattle.ev_indexes.specs.KeptEndpoints.{Trims, Unmarks};
+ghost use Rattle.ev_types.specs.declared.contents.Kind.TheVariants.{Eds};
+ghost use Rattle.ev_mentions.specs.Keys.{named};
 ghost use Rattle.ev_indexes.specs.Watched.{watch_in, has_watcher};
-ghost use Rattle.ev_indexes.specs.Needs.{need_at, places_of};
 ghost use Rattle.ev_indexes.specs.Ready.{assignment_in};
 ghost use Rattle.ev_indexes.specs.Indexes.{IsIndexed};
 ghost use Rattle.ev_warming.specs.Forgetting.{IsTidyBut, ForgetsIdle, ForgetsNeeds, ForgetsNeedsOf, TrimsRow, TrimsRowOf, UnmarksRowOf};
 ghost use Rattle.ev_warming.specs.Changes.{KeepsTable};
 ghost use Rattle.ev_warming.specs.Worlds.{Follows, without_unneeded};
 
-use ev_endpoints::Endpoints;
-use ev_generations::Steps;
-use ev_indexes::{State, Watches, need_at, place_count};
-use ev_types::{Content, Discovery, Gen, GenRow, Name};
+use ev_indexes::{Endpoints, Need, Needs, State, Steps, Watches};
+use ev_types::{Content, Discovery, Gen, GenRow, Kind, Name};
 use std::alloc::{AllocError, Global};
 use std::sync::ledger::Ledger;
 
-/// Forgets what nobody needs any more: what came for names that no live generation depends on, the results of generations
-/// that retired, and those of hosts that left their cluster's assignment. It looks at the generations of these numbers
-/// alone, each once: those that retired or whose assignment may have changed since the last time. Out of memory, nothing is
-/// promised of the state.
+/// Forgets what nobody needs any more: what was received for names that no live generation depends on, the results of
+/// generations that retired, and those of hosts that left their cluster's assignment. It looks at the generations of
+/// these numbers alone, each once: those that retired or whose assignment may have changed since the last time. Out of
+/// memory, the state is unspecified.
 pub(crate) fn forget<L: Ledger>(
     state: &mut State,
     alloc: Global,
@@ -34,12 +33,11 @@ pub(crate) fn forget<L: Ledger>(
 ) -> Result<(), AllocError>
     requires indexed { IsIndexed state.old }
     requires tidy { IsTidyBut state.old stale.now }
-    requires rows { is_by_name state.old.kind ≡ false }
     ensures indexed { OnOk result (IsIndexed state.new) }
     ensures tidy { OnOk result (IsTidyBut state.new []) }
     ensures others { OnOk result (KeepsTable state.old state.new) }
     ensures steps { OnOk result (steps.new ≡ steps.old + length stale.now) }
-    // Whatever world the state stood for, it stands for that world once the machine has forgotten.
+    // Whatever world the state represented, it represents that world once the machine has forgotten.
     ensures stands { OnOk result (Follows state.old state.new without_unneeded) }
 {
     for number in stale {
@@ -122,10 +120,10 @@ fn trim_value(
     service: &Name,
 ) -> Result<(), AllocError>
     ensures results { OnOk result (Trims results.old results.new number
-        (rows_in (watch_in watches.now service.now).value)) }
+        (rows_in (watch_in watches.now (named Eds service.now)).value)) }
     ensures marked { OnOk result (Unmarks results.old results.new number) }
 {
-    let Some(watch) = watches.get(service) else {
+    let Some(watch) = watches.get(Kind::Eds, service) else {
         results.forget(number);
         return Ok(());
     };
@@ -138,41 +136,38 @@ fn trim_value(
     }
 }
 
-// Forgets what came for the names that a generation of this content depends on, where no live one does.
+// Forgets what was received for the names that a generation of this content depends on, where no live one does.
 fn forget_needs(watches: &mut Watches, content: &Content)
     ensures { ForgetsNeeds watches.old watches.new (dependencies_of content.now) }
 {
-    for place in 0..place_count(content) {
-        forget_need(watches, content, place);
+    let mut needs = Needs::of(content);
+    while let Some(need) = needs.next() {
+        forget_need(watches, &need);
     }
 }
 
-// The same of the name that it depends on at a place.
-fn forget_need(watches: &mut Watches, content: &Content, place: usize)
-    requires within { place < length (places_of content.now) }
-    ensures { ForgetsNeeds watches.old watches.new (option_to_list (need_at (places_of content.now) place)) }
+// The same of one name that it depends on.
+fn forget_need(watches: &mut Watches, need: &Need<'_>)
+    ensures { ForgetsNeeds watches.old watches.new (need.now ∷ []) }
 {
-    match need_at(content, place) {
-        Some(need) => forget_idle(watches, need.name),
-        None => {}
-    }
+    forget_idle(watches, need.kind, need.name);
 }
 
-// Forgets what came for a name that no live generation depends on.
-fn forget_idle(watches: &mut Watches, name: &Name)
-    ensures { ForgetsIdle watches.old watches.new name.now }
+// Forgets what was received for a name that no live generation depends on.
+fn forget_idle(watches: &mut Watches, kind: Kind, name: &Name)
+    ensures { ForgetsIdle watches.old watches.new (named kind name.now) }
 {
-    if !is_idle(watches, name) {
+    if !is_idle(watches, kind, name) {
         return;
     }
-    watches.forget(name);
+    watches.forget(kind, name);
 }
 
 // Whether no live generation depends on a name.
-fn is_idle(watches: &Watches, name: &Name) -> bool
-    ensures { result ≡ not (has_watcher (watch_in watches.now name.now)) }
+fn is_idle(watches: &Watches, kind: Kind, name: &Name) -> bool
+    ensures { result ≡ not (has_watcher (watch_in watches.now (named kind name.now))) }
 {
-    match watches.get(name) {
+    match watches.get(kind, name) {
         Some(watch) => !watch.has_watcher(),
         None => true,
     }

@@ -5,8 +5,8 @@ use Rattle.std.specs.Str.{bytes_eq}
 use Rattle.serde_json.specs.Data.{Data}
 use Rattle.ev_types.specs.declared.events.Profile.{Profile}
 use Rattle.ev_types.specs.declared.contents.Kind.{Kind}
-use Rattle.ev_types.specs.declared.contents.Kind.TheVariants.{Cds, Eds, Lds, Rds}
-use Rattle.ev_types.specs.declared.contents.Content.TheVariants.{Cluster, Assignment, Listener, Routes}
+use Rattle.ev_types.specs.declared.contents.Kind.TheVariants.{Cds, Eds, Lds, Rds, Sds, Ecds}
+use Rattle.ev_types.specs.declared.contents.Content.TheVariants.{Cluster, Assignment, Listener, Routes, Secret, Extension}
 use Rattle.ev_types.specs.declared.contents.Body.{Body}
 use Rattle.ev_types.specs.declared.contents.Body.TheVariants.{Bad, Beat}
 use Rattle.ev_tree.specs.declared.outcome.Found.{Found}
@@ -15,14 +15,16 @@ use Rattle.ev_tree.specs.Forms.{is_wrong, given_or, inside}
 use Rattle.ev_tree.specs.Spans.{is_not_positive}
 use Rattle.ev_tree.specs.Rules.{is_name}
 use Rattle.ev_tree.specs.Broken.{none_broken, least_of}
-use Rattle.ev_wire.specs.Requests.{type_url}
-use Rattle.ev_wire.specs.Bodies.{is_positive, is_heartbeat, is_of_type, breaks_v1, breaks_v2, name_field, differs, breaks_v3, own_broken, content_with, content_of, body_with, resource_of, body_of}
+use Rattle.ev_types.specs.Kinds.{type_url}
+use Rattle.ev_wire.specs.Kinds.{name_field}
+use Rattle.ev_wire.specs.Bodies.{is_positive, is_heartbeat, is_of_type, breaks_v1, breaks_v2, differs, breaks_v3, own_broken, content_with, content_of, body_with, resource_of, body_of}
 use Rattle.ev_tree.specs.Floats.{whole}
 use Rattle.ev_whole_laws.proofs.Assignments.{assignment_reading-whole}
 use Rattle.ev_whole_laws.proofs.Clusters.{cluster_reading-whole}
 use Rattle.ev_whole_laws.proofs.Forms.{is_object-whole, text_of-whole}
 use Rattle.ev_whole_laws.proofs.Listeners.{listener_reading-whole}
 use Rattle.ev_whole_laws.proofs.Parts.{inside-map, is_absent-map}
+use Rattle.ev_whole_laws.proofs.Secrets.{secret_reading-whole, extension_reading-whole}
 use Rattle.ev_whole_laws.proofs.Tables.{table_reading-whole}
 use Rattle.ev_tree.specs.Forms.{found_map}
 
@@ -52,6 +54,8 @@ content_of-whole profile Cds body = λ i. content_with Cluster (cluster_reading-
 content_of-whole profile Eds body = λ i. content_with Assignment (assignment_reading-whole profile body i)
 content_of-whole profile Lds body = λ i. content_with Listener (listener_reading-whole profile body i)
 content_of-whole profile Rds body = λ i. content_with Routes (table_reading-whole profile body i)
+content_of-whole profile Sds body = λ i. content_with (λ good. Secret) (secret_reading-whole body i)
+content_of-whole profile Ecds body = λ i. content_with (λ good. Extension) (extension_reading-whole body i)
 
 pub resource_of-whole : (profile : Profile) (kind : Kind) (name : List ℕ) (ttl : Found Span) (body : Data) → resource_of profile kind name ttl (whole body) ≡ resource_of profile kind name ttl body
 unfolding resource_of

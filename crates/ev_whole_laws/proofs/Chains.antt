@@ -4,20 +4,25 @@ use Rattle.std.specs.Prelude.{◌||◌, ◌&&◌, ◌==◌, Bool, [], ◌∷◌,
 use Rattle.serde_json.specs.Data.{Data}
 use Rattle.ev_types.specs.FilterChains.{has_collision}
 use Rattle.ev_types.specs.declared.events.Profile.TheVariants.{Envoy}
+use Rattle.ev_types.specs.declared.filter_chains.FilterChainMatch.{FilterChainMatch}
 use Rattle.ev_types.specs.declared.listeners.FilterChain.{FilterChain}
 use Rattle.ev_tree.specs.declared.outcome.Found.{Found}
 use Rattle.ev_tree.specs.declared.outcome.Found.TheVariants.{Absent, Wrong, Given}
 use Rattle.ev_tree.specs.Forms.{found_map, is_wrong, inside, text_of, object_of}
 use Rattle.ev_tree.specs.Broken.{none_broken, either_broken, any_broken}
 use Rattle.ev_tree.specs.Counts.{more_than_one}
-use Rattle.ev_tree.specs.Floats.{whole}
+use Rattle.ev_tree.specs.Floats.{whole, plain_text}
 use Rattle.ev_listener_json.specs.Parts.{first_of}
 use Rattle.ev_listener_json.specs.Filters.{kind_in, config_serve, config_broken, filter_serve, filter_serves, filter_broken, filters_of}
 use Rattle.ev_listener_json.specs.ChainMatches.{filter_chain_match_of, filter_chain_match_broken}
-use Rattle.ev_listener_json.specs.Chains.{no_criteria, serve_or_other, served_by, filters_broken, chain_match_of, envoy_chain_broken, envoy_chain_of, has_api, api_outer_of, api_config_of, api_kind_of, default_serve, default_broken, is_manager, api_broken, api_serve_of, chains_of, has_default, given_chains_broken, given_default_of, envoy_chains_broken, envoy_chains_of, envoy_default_of}
+use Rattle.ev_listener_json.specs.ChainExtensions.{kind_extensions}
+use Rattle.ev_listener_json.specs.Chains.{no_criteria, serve_or_other, served_by, filters_broken, served_broken, chain_with, chain_match_of, envoy_chain_broken, envoy_chain_of, has_api, api_outer_of, api_config_of, api_kind_of, default_chain, default_broken, is_manager, api_extensions, api_broken, api_serve_of, chains_of, has_default, given_chains_broken, given_default_of, envoy_chains_broken, envoy_chains_of, envoy_default_of}
 use Rattle.ev_whole_laws.proofs.ChainMatches.{filter_chain_match_broken-whole, filter_chain_match_of-whole}
 use Rattle.ev_whole_laws.proofs.Filters.{config_broken-whole, config_serve-whole, filter_broken-whole, filter_serve-whole, filter_serves-whole, filters_of-whole}
 use Rattle.ev_whole_laws.proofs.Forms.{field-is_absent, inside-object, listed-objects, object_of-whole, object-is_given, object-is_wrong, objects-is_wrong, text_of-whole}
+use Rattle.ev_whole_laws.proofs.ChainExtensions.{kind_extensions-whole, chain_extensions-whole}
+use Rattle.ev_whole_laws.proofs.Secrets.{transport_secrets-whole}
+use Rattle.ev_whole_laws.proofs.Texts.{plain_text-whole}
 use Rattle.ev_whole_laws.proofs.Parts.{any_broken-whole, length-whole, map-whole}
 
 -- ---- a chain
@@ -38,19 +43,33 @@ chain_match_of-whole : (chain : Data) → chain_match_of (whole chain) ≡ whole
 unfolding chain_match_of
 chain_match_of-whole chain = inside-object (codes "filter_chain_match") chain
 
+served_broken-whole : (chain : Data) → served_broken (whole chain) ≡ served_broken chain
+unfolding served_broken
+served_broken-whole chain = λ i.
+    either_broken (filters_broken-whole chain i) (either_broken (transport_secrets-whole chain i).broken (chain_extensions-whole chain i).broken)
+
+chain_with-whole : (criteria : FilterChainMatch) (chain : Data) → chain_with criteria (whole chain) ≡ chain_with criteria chain
+unfolding chain_with
+chain_with-whole criteria chain = λ i. record {
+  criteria = criteria;
+  serve = served_by-whole chain i;
+  secrets = (transport_secrets-whole chain i).list;
+  extensions = (chain_extensions-whole chain i).list;
+  body_text = plain_text-whole chain i;
+}
+
 envoy_chain_broken-whole : (chain : Data) → envoy_chain_broken (whole chain) ≡ envoy_chain_broken chain
 unfolding envoy_chain_broken
 envoy_chain_broken-whole chain = λ i.
-    either_broken (filters_broken-whole chain i)
+    either_broken (served_broken-whole chain i)
     (either_broken ((ap filter_chain_match_broken (chain_match_of-whole chain) ∙ filter_chain_match_broken-whole (chain_match_of chain)) i)
     (record none_broken { v6 = object-is_wrong (codes "filter_chain_match") chain i }))
 
 envoy_chain_of-whole : (chain : Data) → envoy_chain_of (whole chain) ≡ envoy_chain_of chain
 unfolding envoy_chain_of
-envoy_chain_of-whole chain = λ i. record {
-  criteria = (ap filter_chain_match_of (chain_match_of-whole chain) ∙ filter_chain_match_of-whole (chain_match_of chain)) i;
-  serve = served_by-whole chain i;
-}
+envoy_chain_of-whole chain =
+    (λ i. chain_with ((ap filter_chain_match_of (chain_match_of-whole chain) ∙ filter_chain_match_of-whole (chain_match_of chain)) i) (whole chain))
+    ∙ chain_with-whole (filter_chain_match_of (chain_match_of chain)) chain
 
 -- ---- an API listener
 
@@ -83,15 +102,21 @@ api_config_serve listener =
     (λ i. config_serve Envoy (api_kind_of-whole listener i) (api_config_of-whole listener i))
     ∙ config_serve-whole Envoy (api_kind_of listener) (api_config_of listener)
 
+api_extensions-whole : (listener : Data) → api_extensions (whole listener) ≡ api_extensions listener
+unfolding api_extensions
+api_extensions-whole listener =
+    (λ i. kind_extensions (api_kind_of-whole listener i) (api_config_of-whole listener i))
+    ∙ kind_extensions-whole (api_kind_of listener) (api_config_of listener)
+
 api_broken-whole : (listener : Data) → api_broken (whole listener) ≡ api_broken listener
 unfolding api_broken
-api_broken-whole listener = λ i. either_broken (api_config_broken listener i) (record none_broken {
+api_broken-whole listener = λ i. either_broken (api_config_broken listener i) (either_broken (api_extensions-whole listener i).broken (record none_broken {
   v6 =
       object-is_wrong (codes "api_listener") listener i
       || (ap (λ (t : Data). is_wrong (object_of (codes "api_listener") t)) (api_outer_of-whole listener) ∙ object-is_wrong (codes "api_listener") (api_outer_of listener)) i
       || is_wrong (type_found listener i);
   v17 = not (is_manager (api_kind_of-whole listener i));
-})
+}))
 
 api_serve_of-whole : (listener : Data) → api_serve_of (whole listener) ≡ api_serve_of listener
 unfolding api_serve_of
@@ -103,15 +128,15 @@ pub chains_of-whole : (tree : Data) → chains_of (whole tree) ≡ map whole (ch
 unfolding chains_of
 chains_of-whole tree = listed-objects (codes "filter_chains") tree
 
-serve_by : (found : Found Data) → default_serve (found_map whole found) ≡ default_serve found
-serve_by Absent = refl
-serve_by Wrong = refl
-serve_by (Given chain) = ap Some (served_by-whole chain)
+chain_by : (found : Found Data) → default_chain (found_map whole found) ≡ default_chain found
+chain_by Absent = refl
+chain_by Wrong = refl
+chain_by (Given chain) = ap Some (chain_with-whole no_criteria chain)
 
 broken_by : (found : Found Data) → default_broken (found_map whole found) ≡ default_broken found
 broken_by Absent = refl
 broken_by Wrong = refl
-broken_by (Given chain) = filters_broken-whole chain
+broken_by (Given chain) = served_broken-whole chain
 
 default_broken-whole : (tree : Data)
     → default_broken (object_of (codes "default_filter_chain") (whole tree)) ≡ default_broken (object_of (codes "default_filter_chain") tree)
@@ -119,7 +144,7 @@ default_broken-whole tree = ap default_broken (object_of-whole (codes "default_f
 
 given_default_of-whole : (tree : Data) → given_default_of (whole tree) ≡ given_default_of tree
 unfolding given_default_of
-given_default_of-whole tree = ap default_serve (object_of-whole (codes "default_filter_chain") tree) ∙ serve_by (object_of (codes "default_filter_chain") tree)
+given_default_of-whole tree = ap default_chain (object_of-whole (codes "default_filter_chain") tree) ∙ chain_by (object_of (codes "default_filter_chain") tree)
 
 has_default-whole : (tree : Data) → has_default (whole tree) ≡ has_default tree
 has_default-whole tree = object-is_given (codes "default_filter_chain") tree
@@ -144,7 +169,14 @@ envoy_chains_broken-whole udp tree = λ i. if has_api-whole tree i then api_brok
 pub envoy_chains_of-whole : (tree : Data) → envoy_chains_of (whole tree) ≡ envoy_chains_of tree
 unfolding envoy_chains_of
 envoy_chains_of-whole tree = λ i.
-    if has_api-whole tree i then record { criteria = no_criteria; serve = api_serve_of-whole tree i } ∷ []
+    if has_api-whole tree i
+    then record {
+      criteria = no_criteria;
+      serve = api_serve_of-whole tree i;
+      secrets = [];
+      extensions = (api_extensions-whole tree i).list;
+      body_text = (ap plain_text (api_config_of-whole tree) ∙ plain_text-whole (api_config_of tree)) i;
+    } ∷ []
     else given_chains_of tree i
 
 pub envoy_default_of-whole : (tree : Data) → envoy_default_of (whole tree) ≡ envoy_default_of tree

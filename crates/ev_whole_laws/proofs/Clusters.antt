@@ -1,9 +1,10 @@
 -- Clusters.
-use Rattle.std.proofs.Common.{◌≡◌, ◌∙◌, ap}
-use Rattle.std.specs.Prelude.{◌||◌, ◌&&◌, ◌==◌, [], length, Bool, not, nat_lt, if◌then◌else◌, codes}
+use Rattle.std.proofs.Common.{◌≡◌, ◌∙◌, ap, refl}
+use Rattle.std.specs.Prelude.{◌||◌, ◌&&◌, ◌==◌, [], length, map, Bool, not, nat_lt, if◌then◌else◌, codes}
 use Rattle.serde_json.specs.Data.{Data}
 use Rattle.ev_types.specs.declared.clusters.Discovery.TheVariants.{Static, Eds, Elsewhere}
 use Rattle.ev_types.specs.declared.events.Profile.{Profile}
+use Rattle.ev_types.specs.declared.events.Profile.TheVariants.{Own, Envoy}
 use Rattle.ev_types.specs.Profiles.{is_envoy}
 use Rattle.ev_tree.specs.declared.limits.TheConstants.{MAX_NAME_BYTES}
 use Rattle.ev_tree.specs.declared.tables.EnumTable.TheVariants.{Discovery as DiscoveryTable}
@@ -15,11 +16,15 @@ use Rattle.ev_tree.specs.Sources.{source_broken_in, source_is_limited}
 use Rattle.ev_cluster_json.specs.declared.parts.TheConstants.{STATIC, EDS}
 use Rattle.ev_cluster_json.specs.Assignments.{rows_of, assignment_broken}
 use Rattle.ev_cluster_json.specs.Clusters.{name_of, type_of, is_static, is_eds, has_custom_type, is_in_cluster, is_by_eds, holds_hosts, asks_hosts, eds_of, eds_source_of, service_name_of, load_assignment_of, service_with, service_of, is_checked, cluster_own_broken, eds_broken, load_assignment_broken, cluster_broken, discovery_of, cluster_of, cluster_reading}
+use Rattle.ev_secret_json.specs.References.{each_joined}
+use Rattle.ev_secret_json.specs.TransportSockets.{transport_secrets}
+use Rattle.ev_cluster_json.specs.Sockets.{matches_of, match_secrets, given_where, cluster_secrets}
 use Rattle.ev_tree.specs.Floats.{whole}
 use Rattle.ev_whole_laws.proofs.Texts.{body_text_of-whole}
 use Rattle.ev_whole_laws.proofs.Assignments.{assignment_broken-whole, rows_of-whole}
 use Rattle.ev_whole_laws.proofs.Forms.{duration_of-whole, enumeration_of-whole, inside-object, listed-objects, object-is_absent, object-is_given, object-is_wrong, objects-is_wrong, text_of-whole}
 use Rattle.ev_whole_laws.proofs.Parts.{length-whole}
+use Rattle.ev_whole_laws.proofs.Secrets.{each_joined-whole, transport_secrets-whole}
 use Rattle.ev_whole_laws.proofs.Sources.{source_broken_in-whole, source_is_limited-whole}
 
 pub name_of-whole : (tree : Data) → name_of (whole tree) ≡ name_of tree
@@ -100,12 +105,32 @@ load_assignment_broken-whole profile tree = λ i. either_broken ((ap (assignment
   v6 = object-is_wrong (codes "load_assignment") tree i;
 })
 
+-- the secrets that its transport sockets refer to
+matches_of-whole : (tree : Data) → matches_of (whole tree) ≡ map whole (matches_of tree)
+unfolding matches_of
+matches_of-whole tree = listed-objects (codes "transport_socket_matches") tree
+
+match_secrets-whole : (tree : Data) → match_secrets (whole tree) ≡ match_secrets tree
+unfolding match_secrets
+match_secrets-whole tree = ap (each_joined transport_secrets) (matches_of-whole tree) ∙ each_joined-whole transport_secrets transport_secrets-whole (matches_of tree)
+
+cluster_secrets-whole : (profile : Profile) (tree : Data) → cluster_secrets profile (whole tree) ≡ cluster_secrets profile tree
+unfolding cluster_secrets
+cluster_secrets-whole Own tree = refl
+cluster_secrets-whole Envoy tree = λ i. record {
+  own = (transport_secrets-whole tree i).list;
+  by_match = given_where (not ((ap length (matches_of-whole tree) ∙ length-whole (matches_of tree)) i == 0)) (match_secrets-whole tree i).list;
+  broken =
+      either_broken (transport_secrets-whole tree i).broken
+      (either_broken (match_secrets-whole tree i).broken (record none_broken { v6 = objects-is_wrong (codes "transport_socket_matches") tree i }));
+}
+
 pub cluster_broken-whole : (profile : Profile) (tree : Data) → cluster_broken profile (whole tree) ≡ cluster_broken profile tree
 unfolding cluster_broken
 cluster_broken-whole profile tree = λ i.
     either_broken (own_broken-whole profile tree i)
     (either_broken (((λ j. eds_broken profile (asks_hosts-whole profile tree j) (whole tree)) ∙ eds_broken-whole profile (asks_hosts profile tree) tree) i)
-    (broken_where (holds_hosts-whole profile tree i) (load_assignment_broken-whole profile tree i)))
+    (either_broken (broken_where (holds_hosts-whole profile tree i) (load_assignment_broken-whole profile tree i)) (cluster_secrets-whole profile tree i).broken))
 
 pub discovery_of-whole : (profile : Profile) (tree : Data) → discovery_of profile (whole tree) ≡ discovery_of profile tree
 unfolding discovery_of
@@ -121,6 +146,8 @@ cluster_of-whole profile tree = λ i. record {
   name = name_of-whole tree i;
   discovery = discovery_of-whole profile tree i;
   checked = is_checked-whole tree i;
+  secrets = (cluster_secrets-whole profile tree i).own;
+  secrets_by_match = (cluster_secrets-whole profile tree i).by_match;
   body_text = body_text_of-whole profile tree i;
 }
 

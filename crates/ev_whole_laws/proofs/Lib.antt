@@ -4,6 +4,7 @@ pub mod Texts
 pub mod Addresses
 pub mod Sources
 pub mod Assignments
+pub mod Secrets
 pub mod Clusters
 pub mod Presence
 pub mod Targets
@@ -14,9 +15,11 @@ pub mod Tables
 pub mod Members
 pub mod Managers
 pub mod Filters
-pub mod ListenerFilters
 pub mod ChainMatches
+pub mod ChainExtensions
+pub mod Frames
 pub mod Chains
+pub mod ListenerFilters
 pub mod Listeners
 pub mod Bodies
 pub mod Responses

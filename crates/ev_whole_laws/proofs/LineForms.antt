@@ -5,7 +5,7 @@ use Rattle.serde_json.specs.Data.{Data}
 use Rattle.serde_json.specs.Find.{as_str, as_bool}
 use Rattle.ev_types.specs.Items.{ResponseParts}
 use Rattle.ev_types.specs.declared.contents.Kind.{Kind}
-use Rattle.ev_types.specs.declared.contents.Kind.TheVariants.{Cds, Eds, Lds, Rds}
+use Rattle.ev_types.specs.Kinds.{is_by_name}
 use Rattle.ev_types.specs.declared.limits.TheConstants.{MAX_WORKERS, MAX_NAME_LENGTH}
 use Rattle.ev_types.specs.declared.hosts.Host.{Host}
 use Rattle.ev_types.specs.declared.events.Actor.TheVariants.{Stream, Health as health, Timer, Worker}
@@ -16,6 +16,7 @@ use Rattle.ev_types.specs.declared.events.Line.{Line}
 use Rattle.ev_types.specs.declared.events.Peer.{Peer}
 use Rattle.ev_types.specs.declared.events.Profile.{Profile}
 use Rattle.ev_types.specs.declared.events.Profile.TheVariants.{Own}
+use Rattle.ev_wire.specs.Kinds.{read_in}
 use Rattle.ev_wire.specs.Responses.{response_of}
 use Rattle.ev_script.specs.declared.limits.TheConstants.{MAX_WORKER, MAX_NUMBER, MAX_PATH_LENGTH}
 use Rattle.ev_script.specs.Faults.{worker_of}
@@ -63,8 +64,8 @@ host_in-whole tree = λ i. option_and_then
     (λ (address : List ℕ). option_map (λ (port : ℕ). record { address = address; port = port }) (member_of-whole (whole_within 0 65535) (whole_within-whole 0 65535) (codes "port") tree i))
     (member_of-whole name_of name_of-whole (codes "address") tree i)
 
-pub kind_in-whole : (tree : Data) → kind_in (whole tree) ≡ kind_in tree
-kind_in-whole tree = λ i. option_and_then kind_with (member_of-whole as_str as_str-whole (codes "type") tree i)
+pub kind_in-whole : (profile : Profile) (tree : Data) → kind_in profile (whole tree) ≡ kind_in profile tree
+kind_in-whole profile tree = λ i. option_and_then (read_in profile) (option_and_then kind_with (member_of-whole as_str as_str-whole (codes "type") tree i))
 
 -- a form of an object with these members alone
 pub with_only-whole : {A : Type 0} (names : List (List ℕ)) (tree : Data) (there here : Option A) → there ≡ here → with_only names (whole tree) there ≡ with_only names tree here
@@ -102,32 +103,28 @@ health_line-whole at tree =
     with_only-whole (codes "cluster" ∷ codes "address" ∷ codes "port" ∷ codes "healthy" ∷ []) tree _ _ (λ i. line_at at health (health_in-whole tree i))
 
 timeout_of-whole : (kind : Kind) (tree : Data) → timeout_of kind (whole tree) ≡ timeout_of kind tree
-timeout_of-whole Cds tree = with_only-whole (codes "type" ∷ []) tree _ _ refl
-timeout_of-whole Eds tree =
-    with_only-whole (codes "type" ∷ codes "name" ∷ []) tree _ _
-    (λ i. option_map (λ (name : List ℕ). FetchTimeout (record { kind = Eds; name = Some name })) (member_of-whole name_of name_of-whole (codes "name") tree i))
-timeout_of-whole Lds tree = with_only-whole (codes "type" ∷ []) tree _ _ refl
-timeout_of-whole Rds tree =
-    with_only-whole (codes "type" ∷ codes "name" ∷ []) tree _ _
-    (λ i. option_map (λ (name : List ℕ). FetchTimeout (record { kind = Rds; name = Some name })) (member_of-whole name_of name_of-whole (codes "name") tree i))
+timeout_of-whole kind tree = λ i. cond (is_by_name kind)
+    (with_only-whole (codes "type" ∷ codes "name" ∷ []) tree _ _
+    (λ j. option_map (λ (name : List ℕ). FetchTimeout (record { kind = kind; name = Some name })) (member_of-whole name_of name_of-whole (codes "name") tree j)) i)
+    (with_only-whole (codes "type" ∷ []) tree (Some (FetchTimeout (record { kind = kind; name = None }))) (Some (FetchTimeout (record { kind = kind; name = None }))) refl i)
 
-timeout_line-whole : (at : ℕ) (tree : Data) → timeout_line at (whole tree) ≡ timeout_line at tree
-timeout_line-whole at tree =
+timeout_line-whole : (profile : Profile) (at : ℕ) (tree : Data) → timeout_line profile at (whole tree) ≡ timeout_line profile at tree
+timeout_line-whole profile at tree =
     ap (line_at at Timer)
-    ((λ i. option_and_then (λ (kind : Kind). timeout_of kind (whole tree)) (kind_in-whole tree i))
-    ∙ and_then-by (λ (kind : Kind). timeout_of kind (whole tree)) (λ (kind : Kind). timeout_of kind tree) (λ kind. timeout_of-whole kind tree) (kind_in tree))
+    ((λ i. option_and_then (λ (kind : Kind). timeout_of kind (whole tree)) (kind_in-whole profile tree i))
+    ∙ and_then-by (λ (kind : Kind). timeout_of kind (whole tree)) (λ (kind : Kind). timeout_of kind tree) (λ kind. timeout_of-whole kind tree) (kind_in profile tree))
 
 drain_line-whole : (at : ℕ) (tree : Data) → drain_line at (whole tree) ≡ drain_line at tree
 drain_line-whole at tree =
     with_only-whole (codes "listener" ∷ []) tree _ _
     (λ i. line_at at Timer (option_map (λ (name : List ℕ). DrainTimeout name) (member_of-whole name_of name_of-whole (codes "listener") tree i)))
 
-expired_in-whole : (tree : Data) → expired_in (whole tree) ≡ expired_in tree
-expired_in-whole tree = λ i. option_and_then
-    (λ (kind : Kind). option_map (λ (name : List ℕ). TtlExpired kind name) (member_of-whole name_of name_of-whole (codes "name") tree i)) (kind_in-whole tree i)
+expired_in-whole : (profile : Profile) (tree : Data) → expired_in profile (whole tree) ≡ expired_in profile tree
+expired_in-whole profile tree = λ i. option_and_then
+    (λ (kind : Kind). option_map (λ (name : List ℕ). TtlExpired kind name) (member_of-whole name_of name_of-whole (codes "name") tree i)) (kind_in-whole profile tree i)
 
-expired_line-whole : (at : ℕ) (tree : Data) → expired_line at (whole tree) ≡ expired_line at tree
-expired_line-whole at tree = with_only-whole (codes "type" ∷ codes "name" ∷ []) tree _ _ (λ i. line_at at Timer (expired_in-whole tree i))
+expired_line-whole : (profile : Profile) (at : ℕ) (tree : Data) → expired_line profile at (whole tree) ≡ expired_line profile at tree
+expired_line-whole profile at tree = with_only-whole (codes "type" ∷ codes "name" ∷ []) tree _ _ (λ i. line_at at Timer (expired_in-whole profile tree i))
 
 -- ---- the lines of the workers
 
@@ -221,9 +218,9 @@ main_side_line-whole profile op at tree = λ i.
     (cond (bytes_eq op (codes "disconnect")) (disconnect_line-whole at tree i)
     (cond (bytes_eq op (codes "response")) (response_line-whole profile at tree i)
     (cond (bytes_eq op (codes "health")) (health_line-whole at tree i)
-    (cond (bytes_eq op (codes "fetchTimeout")) (timeout_line-whole at tree i)
+    (cond (bytes_eq op (codes "fetchTimeout")) (timeout_line-whole profile at tree i)
     (cond (bytes_eq op (codes "drainTimeout")) (drain_line-whole at tree i)
-    (cond (bytes_eq op (codes "ttlExpired")) (expired_line-whole at tree i)
+    (cond (bytes_eq op (codes "ttlExpired")) (expired_line-whole profile at tree i)
     (cond (bytes_eq op (codes "publish")) (publish_line-whole at tree i)
     (cond (bytes_eq op (codes "reap")) (reap_line-whole at tree i) None))))))))
 

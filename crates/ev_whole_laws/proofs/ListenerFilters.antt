@@ -1,4 +1,4 @@
--- What a listener does with redirected connections.
+-- Listener filters: what a listener does with redirected connections, and the extensions that they ask for.
 use Rattle.std.proofs.Common.{◌≡◌, ◌∙◌, ap}
 use Rattle.std.specs.Prelude.{◌||◌, [], map, false, codes}
 use Rattle.std.specs.List.{list_any}
@@ -6,8 +6,12 @@ use Rattle.serde_json.specs.Data.{Data}
 use Rattle.ev_tree.specs.Floats.{whole}
 use Rattle.ev_tree.specs.Forms.{is_wrong, given_or, text_of}
 use Rattle.ev_tree.specs.Broken.{none_broken, either_broken, any_broken}
+use Rattle.ev_secret_json.specs.References.{each_joined}
+use Rattle.ev_secret_json.specs.Extensions.{filter_extension}
 use Rattle.ev_listener_json.specs.Filters.{config_of}
-use Rattle.ev_listener_json.specs.ListenerFilters.{listener_filters_of, is_original_dst_by, is_original_dst, listener_filter_broken, hands_over, restores, redirection_broken}
+use Rattle.ev_listener_json.specs.ListenerFilters.{listener_filters_of, is_original_dst_by, is_original_dst, listener_filter_broken, hands_over, restores, redirection_broken, hidden_where, listener_extensions}
+use Rattle.ev_whole_laws.proofs.Chains.{has_api-whole}
+use Rattle.ev_whole_laws.proofs.Secrets.{each_joined-whole, filter_extension-whole}
 use Rattle.ev_whole_laws.proofs.Forms.{boolean_of-whole, inside-object, listed-objects, object-is_absent, object-is_wrong, objects-is_wrong, text_of-whole}
 use Rattle.ev_whole_laws.proofs.Parts.{any_broken-whole, list_any-whole}
 
@@ -49,3 +53,8 @@ redirection_broken-whole listener = λ i. either_broken
     (record none_broken {
       v6 = is_wrong (boolean_of-whole (codes "use_original_dst") listener i) || objects-is_wrong (codes "listener_filters") listener i;
     })
+
+pub listener_extensions-whole : (listener : Data) → listener_extensions (whole listener) ≡ listener_extensions listener
+unfolding listener_extensions
+listener_extensions-whole listener = λ i. hidden_where (has_api-whole listener i)
+    ((ap (each_joined filter_extension) (filters_of-whole listener) ∙ each_joined-whole filter_extension filter_extension-whole (listener_filters_of listener)) i)

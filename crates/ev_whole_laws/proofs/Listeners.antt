@@ -12,14 +12,15 @@ use Rattle.ev_tree.specs.Rules.{judged, is_name}
 use Rattle.ev_tree.specs.Broken.{none_broken, either_broken, any_broken, least_of}
 use Rattle.ev_listener_json.specs.Parts.{first_of}
 use Rattle.ev_listener_json.specs.Filters.{chain_serve, chain_broken}
-use Rattle.ev_listener_json.specs.Chains.{chains_of, no_criteria, envoy_chains_broken}
+use Rattle.ev_listener_json.specs.Chains.{chains_of, plain_chain, envoy_chains_broken}
 use Rattle.ev_listener_json.specs.Listeners.{listener_name, is_udp, serve_of, own_listener_broken, own_listener_of, lacks_address, named_with, named_address, listening_text, listening_port, is_unusable, listens_by_udp, has_bad_address, is_every_address, envoy_self_broken, envoy_listener_of, listener_broken, listener_of, listener_reading}
 use Rattle.ev_tree.specs.Floats.{whole}
 use Rattle.ev_whole_laws.proofs.Addresses.{address_broken-whole, address_text_of-whole, any_address_broken-whole, any_port_of-whole, any_text_of-whole, port_of-whole, socket_of-whole}
 use Rattle.ev_whole_laws.proofs.Texts.{body_text_of-whole}
 use Rattle.ev_whole_laws.proofs.Chains.{chains_of-whole, envoy_chains_broken-whole, envoy_chains_of-whole, envoy_default_of-whole, has_api-whole}
 use Rattle.ev_whole_laws.proofs.Filters.{chain_broken-whole, chain_serve-whole}
-use Rattle.ev_whole_laws.proofs.ListenerFilters.{hands_over-whole, redirection_broken-whole, restores-whole}
+use Rattle.ev_whole_laws.proofs.ListenerFilters.{hands_over-whole, redirection_broken-whole, restores-whole, listener_extensions-whole}
+use Rattle.ev_whole_laws.proofs.Frames.{frame_text_of-whole}
 use Rattle.ev_whole_laws.proofs.Forms.{enumeration_of-whole, object-is_absent, object-is_given, object-is_wrong, objects-is_wrong, text_of-whole}
 use Rattle.ev_whole_laws.proofs.Parts.{any_broken-whole, length-whole, map-whole}
 
@@ -65,8 +66,10 @@ own_listener_of-whole tree = λ i. record {
   takes_every_address = false;
   restores = false;
   hands_over = false;
-  filter_chains = record { criteria = no_criteria; serve = serve_of-whole tree i } ∷ [];
+  filter_chains = plain_chain (serve_of-whole tree i) ∷ [];
   default_filter_chain = None;
+  extensions = [];
+  frame_text = [];
   body_text = body_text_of-whole Own tree i;
 }
 
@@ -120,6 +123,8 @@ envoy_listener_of-whole tree = λ i. record {
   hands_over = hands_over-whole tree i;
   filter_chains = envoy_chains_of-whole tree i;
   default_filter_chain = envoy_default_of-whole tree i;
+  extensions = (listener_extensions-whole tree i).list;
+  frame_text = if has_api-whole tree i then [] else frame_text_of-whole tree i;
   body_text = body_text_of-whole Envoy tree i;
 }
 
@@ -127,7 +132,7 @@ envoy_listener_of-whole tree = λ i. record {
 
 pub listener_broken-whole : (profile : Profile) (tree : Data) → listener_broken profile (whole tree) ≡ listener_broken profile tree
 listener_broken-whole Own tree = own_listener_broken-whole tree
-listener_broken-whole Envoy tree = λ i. either_broken (chains_broken-whole tree i) (either_broken (redirection_broken-whole tree i) (envoy_self_broken-whole tree i))
+listener_broken-whole Envoy tree = λ i. either_broken (chains_broken-whole tree i) (either_broken (redirection_broken-whole tree i) (either_broken (listener_extensions-whole tree i).broken (envoy_self_broken-whole tree i)))
 
 pub listener_of-whole : (profile : Profile) (tree : Data) → listener_of profile (whole tree) ≡ listener_of profile tree
 listener_of-whole Own tree = own_listener_of-whole tree

@@ -185,6 +185,8 @@ any_broken-whole broken same trees = λ i. record {
   v25 = list_any-whole (λ (part : Data). (broken part).v25) (λ (part : Data). ap (λ (b : BrokenRules). b.v25) (same part)) trees i;
   v26 = list_any-whole (λ (part : Data). (broken part).v26) (λ (part : Data). ap (λ (b : BrokenRules). b.v26) (same part)) trees i;
   v27 = list_any-whole (λ (part : Data). (broken part).v27) (λ (part : Data). ap (λ (b : BrokenRules). b.v27) (same part)) trees i;
+  v28 = list_any-whole (λ (part : Data). (broken part).v28) (λ (part : Data). ap (λ (b : BrokenRules). b.v28) (same part)) trees i;
+  v29 = list_any-whole (λ (part : Data). (broken part).v29) (λ (part : Data). ap (λ (b : BrokenRules). b.v29) (same part)) trees i;
 }
 
 pub sum_by-whole : (form : Data → ℕ) → ((tree : Data) → form (whole tree) ≡ form tree) → (trees : List Data) → sum_by form (map whole trees) ≡ sum_by form trees

@@ -6,8 +6,9 @@ use Rattle.serde_json.specs.Data.{Data}
 use Rattle.ev_types.specs.declared.events.Profile.{Profile}
 use Rattle.ev_types.specs.declared.contents.Kind.{Kind}
 use Rattle.ev_tree.specs.Forms.{is_wrong, given_or, listed, text_in, field_of, texts_of}
+use Rattle.ev_wire.specs.Kinds.{kind_with}
 use Rattle.ev_wire.specs.Bodies.{is_positive, body_of}
-use Rattle.ev_wire.specs.Responses.{entry_name, ttl_of, is_entry, item_of, kind_with, response_kind, nonce_of, entries_of, removed_of, has_head, has_lists, has_lists_of, is_response, parts_of, given_if, response_of}
+use Rattle.ev_wire.specs.Responses.{entry_name, ttl_of, is_entry, item_of, response_kind, nonce_of, entries_of, removed_of, has_head, has_lists, has_lists_of, is_response, parts_of, given_if, response_of}
 use Rattle.ev_tree.specs.Floats.{whole}
 use Rattle.ev_whole_laws.proofs.Bodies.{body_of-whole}
 use Rattle.ev_whole_laws.proofs.Forms.{duration_of-whole, field_of-whole, is_object-whole, listed-objects, listed-texts, objects-is_wrong, text_in-whole, text_of-whole, texts-is_wrong}
@@ -39,9 +40,9 @@ item_of-whole profile kind entry = λ i. record {
         (λ i. body_of profile kind (entry_name-whole entry i) (ttl_of-whole entry i) (field_of-whole (codes "resource") entry i))
         ∙ body_of-whole profile kind (entry_name entry) (ttl_of entry) (field_of (codes "resource") entry)
 
-pub response_kind-whole : (tree : Data) → response_kind (whole tree) ≡ response_kind tree
+pub response_kind-whole : (profile : Profile) (tree : Data) → response_kind profile (whole tree) ≡ response_kind profile tree
 unfolding response_kind
-response_kind-whole tree = λ i. kind_with (given_or [] (text_of-whole (codes "type_url") tree i))
+response_kind-whole profile tree = λ i. kind_with profile (given_or [] (text_of-whole (codes "type_url") tree i))
 
 pub nonce_of-whole : (tree : Data) → nonce_of (whole tree) ≡ nonce_of tree
 unfolding nonce_of
@@ -67,11 +68,11 @@ pub has_lists_of-whole : (kind : Option Kind) (tree : Data) → has_lists_of kin
 has_lists_of-whole None tree = refl
 has_lists_of-whole (Some kind) tree = has_lists-whole tree
 
-pub is_response-whole : (tree : Data) → is_response (whole tree) ≡ is_response tree
-is_response-whole tree = λ i. has_head-whole tree i && lists_by i
+pub is_response-whole : (profile : Profile) (tree : Data) → is_response profile (whole tree) ≡ is_response profile tree
+is_response-whole profile tree = λ i. has_head-whole tree i && lists_by i
   where
-    lists_by : has_lists_of (response_kind (whole tree)) (whole tree) ≡ has_lists_of (response_kind tree) tree
-    lists_by = (λ i. has_lists_of (response_kind-whole tree i) (whole tree)) ∙ has_lists_of-whole (response_kind tree) tree
+    lists_by : has_lists_of (response_kind profile (whole tree)) (whole tree) ≡ has_lists_of (response_kind profile tree) tree
+    lists_by = (λ i. has_lists_of (response_kind-whole profile tree i) (whole tree)) ∙ has_lists_of-whole (response_kind profile tree) tree
 
 pub parts_of-whole : (profile : Profile) (kind : Option Kind) (nonce : List ℕ) (tree : Data) → parts_of profile kind nonce (whole tree) ≡ parts_of profile kind nonce tree
 parts_of-whole profile None nonce tree = refl
@@ -84,8 +85,8 @@ parts_of-whole profile (Some kind) nonce tree = λ i. record {
 
 pub response_of-whole : (profile : Profile) (tree : Data) → response_of profile (whole tree) ≡ response_of profile tree
 unfolding response_of
-response_of-whole profile tree = λ i. given_if (is_response-whole tree i) (parts_by i)
+response_of-whole profile tree = λ i. given_if (is_response-whole profile tree i) (parts_by i)
   where
-    parts_by : parts_of profile (response_kind (whole tree)) (nonce_of (whole tree)) (whole tree) ≡ parts_of profile (response_kind tree) (nonce_of tree) tree
+    parts_by : parts_of profile (response_kind profile (whole tree)) (nonce_of (whole tree)) (whole tree) ≡ parts_of profile (response_kind profile tree) (nonce_of tree) tree
     parts_by =
-        (λ i. parts_of profile (response_kind-whole tree i) (nonce_of-whole tree i) (whole tree)) ∙ parts_of-whole profile (response_kind tree) (nonce_of tree) tree
+        (λ i. parts_of profile (response_kind-whole profile tree i) (nonce_of-whole tree i) (whole tree)) ∙ parts_of-whole profile (response_kind profile tree) (nonce_of tree) tree

@@ -11,11 +11,11 @@ use Rattle.ev_types.specs.Items.{IsOwnName, IsBeating, IsBodyOf, content_kind}
 use Rattle.ev_types.specs.declared.events.Profile.{Profile}
 use Rattle.ev_types.specs.declared.events.Profile.TheVariants.{Own, Envoy}
 use Rattle.ev_types.specs.declared.contents.Kind.{Kind}
-use Rattle.ev_types.specs.declared.contents.Kind.TheVariants.{Cds, Eds, Lds, Rds}
+use Rattle.ev_types.specs.declared.contents.Kind.TheVariants.{Cds, Eds, Lds, Rds, Sds, Ecds}
 use Rattle.ev_types.specs.declared.clusters.Cluster.{Cluster as ClusterParts}
 use Rattle.ev_types.specs.declared.listeners.Listener.{Listener as ListenerParts}
 use Rattle.ev_types.specs.declared.contents.Content.{Content}
-use Rattle.ev_types.specs.declared.contents.Content.TheVariants.{Cluster, Assignment, Listener, Routes}
+use Rattle.ev_types.specs.declared.contents.Content.TheVariants.{Cluster, Assignment, Listener, Routes, Secret, Extension}
 use Rattle.ev_types.specs.declared.contents.Body.{Body}
 use Rattle.ev_types.specs.declared.contents.Body.TheVariants.{Good, Bad, Beat}
 use Rattle.ev_tree.specs.declared.outcome.Found.{Found}
@@ -24,13 +24,17 @@ use Rattle.ev_tree.specs.declared.span.Span.{Span}
 use Rattle.ev_tree.specs.Forms.{given_or, inside, is_absent, is_wrong, text_of, tree_of}
 use Rattle.ev_tree.specs.Rules.{judged, is_name}
 use Rattle.ev_tree.specs.declared.broken.BrokenRules.{BrokenRules}
-use Rattle.ev_tree.specs.Broken.{least_of}
+use Rattle.ev_tree.specs.Broken.{either_broken, least_of}
 use Rattle.ev_tree.proofs.Unions.{least_none}
 use Rattle.ev_cluster_json.specs.Clusters.{cluster_reading, cluster_of, cluster_broken, cluster_own_broken, name_of}
 use Rattle.ev_cluster_json.specs.Assignments.{assignment_reading}
 use Rattle.ev_route_json.specs.Tables.{table_reading}
-use Rattle.ev_listener_json.specs.Listeners.{listener_reading, listener_of, listener_broken, own_listener_broken, envoy_self_broken, envoy_listener_broken, listener_name}
-use Rattle.ev_wire.specs.Bodies.{is_positive, is_heartbeat, is_of_type, breaks_v3, own_broken, differs, name_field, resource_of, body_of, body_with, content_of, content_with}
+use Rattle.ev_secret_json.specs.Resources.{secret_reading, extension_reading}
+use Rattle.ev_listener_json.specs.Listeners.{listener_reading, listener_of, listener_broken, own_listener_broken, envoy_self_broken, envoy_listener_broken, listener_name, listens_by_udp}
+use Rattle.ev_listener_json.specs.ListenerFilters.{listener_extensions, redirection_broken}
+use Rattle.ev_listener_json.specs.Chains.{envoy_chains_broken}
+use Rattle.ev_wire.specs.Kinds.{name_field}
+use Rattle.ev_wire.specs.Bodies.{is_positive, is_heartbeat, is_of_type, breaks_v3, own_broken, differs, resource_of, body_of, body_with, content_of, content_with}
 
 -- no body is of no type
 pub no_body : (profile : Profile) (kind : Kind) (name : List ℕ) (ttl : Found Span) (body : Option (Bor Value)) → body ≡ None → Bad 1 ≡ resource_of profile kind name ttl (tree_of body)
@@ -98,6 +102,8 @@ content_of-kind profile Cds body rule = content_with-kind Cds Cluster (λ _. ref
 content_of-kind profile Eds body rule = content_with-kind Eds Assignment (λ _. refl) (assignment_reading profile body) rule
 content_of-kind profile Lds body rule = content_with-kind Lds Listener (λ _. refl) (listener_reading profile body) rule
 content_of-kind profile Rds body rule = content_with-kind Rds Routes (λ _. refl) (table_reading profile body) rule
+content_of-kind profile Sds body rule = content_with-kind Sds (λ good. Secret) (λ _. refl) (secret_reading body) rule
+content_of-kind profile Ecds body rule = content_with-kind Ecds (λ good. Extension) (λ _. refl) (extension_reading body) rule
 
 -- what holds of both branches holds of the choice
 of_choice : (P : Body → Type 0) (b : Bool) (x y : Body) → P x → P y → P (if b then x else y)
@@ -133,12 +139,22 @@ cluster_own profile name body same cluster h =
     ap (λ (c : ClusterParts). c.name) (sym fair.1) ∙ own_text name (text_of (codes "name") body) same (cluster_named profile body fair.0)
 
 -- the same of a listener
+last_sound : (a b c d : BrokenRules) → (either_broken a (either_broken b (either_broken c d))).v6 ≡ false → d.v6 ≡ false
+last_sound a b c d h = or_second c.v6 d.v6 (or_second b.v6 (c.v6 || d.v6) (or_second a.v6 (b.v6 || (c.v6 || d.v6)) h))
+
+self_named : (body : Data) → (envoy_self_broken body).v6 ≡ false → is_wrong (text_of (codes "name") body) ≡ false
+unfolding envoy_self_broken
+self_named body h = or_first _ _ (or_first _ _ (or_first _ _ h))
+
+own_named : (body : Data) → (own_listener_broken body).v6 ≡ false → is_wrong (text_of (codes "name") body) ≡ false
+unfolding own_listener_broken
+own_named body h = or_first _ _ (or_first _ _ (or_first _ _ (or_first _ _ (or_second _ _ h))))
+
 listener_named : (profile : Profile) (body : Data) → least_of (listener_broken profile body) ≡ None → is_wrong (text_of (codes "name") body) ≡ false
-unfolding own_listener_broken envoy_self_broken
-listener_named Own body h =
-    or_first _ _ (or_first _ _ (or_first _ _ (or_first _ _ (or_second _ _ (ap (λ (b : BrokenRules). b.v6) (least_none (own_listener_broken body) h))))))
+listener_named Own body h = own_named body (ap (λ (b : BrokenRules). b.v6) (least_none (own_listener_broken body) h))
 listener_named Envoy body h =
-    or_first _ _ (or_first _ _ (or_first _ _ (or_second _ _ (or_second _ _ (ap (λ (b : BrokenRules). b.v6) (least_none (envoy_listener_broken body) h))))))
+    self_named body (last_sound (envoy_chains_broken (listens_by_udp body) body) (redirection_broken body) (listener_extensions body).broken (envoy_self_broken body)
+    (ap (λ (b : BrokenRules). b.v6) (least_none (envoy_listener_broken body) h)))
 
 -- its name is the one that is read
 named_as_read : (profile : Profile) (body : Data) → (listener_of profile body).name ≡ listener_name body
@@ -169,6 +185,14 @@ content_of-own_name profile Lds name body is same c h =
     subst P read.2 (is, listener_own profile name body same read.0 read.1)
 content_of-own_name profile Rds name body is same c h =
     let read = content_with_ok Routes (table_reading profile body) c h in
+    let P : Content → Type 0 = λ c. IsOwnName name (Good c) in
+    subst P read.2 is
+content_of-own_name profile Sds name body is same c h =
+    let read = content_with_ok (λ good. Secret) (secret_reading body) c h in
+    let P : Content → Type 0 = λ c. IsOwnName name (Good c) in
+    subst P read.2 is
+content_of-own_name profile Ecds name body is same c h =
+    let read = content_with_ok (λ good. Extension) (extension_reading body) c h in
     let P : Content → Type 0 = λ c. IsOwnName name (Good c) in
     subst P read.2 is
 

@@ -5,9 +5,9 @@ use Rattle.std.proofs.lemmas.Bool.Decides.{leb_tells}
 use Rattle.serde_json.specs.Data.{Data}
 use Rattle.ev_types.specs.declared.events.Profile.{Profile}
 use Rattle.ev_types.specs.declared.contents.Kind.{Kind}
-use Rattle.ev_types.specs.declared.contents.Kind.TheVariants.{Cds, Eds, Lds, Rds}
+use Rattle.ev_types.specs.declared.contents.Kind.TheVariants.{Cds, Eds, Lds, Rds, Sds, Ecds}
 use Rattle.ev_types.specs.declared.contents.Content.{Content}
-use Rattle.ev_types.specs.declared.contents.Content.TheVariants.{Cluster, Assignment, Listener, Routes}
+use Rattle.ev_types.specs.declared.contents.Content.TheVariants.{Cluster, Assignment, Listener, Routes, Secret, Extension}
 use Rattle.ev_types.specs.declared.contents.Body.{Body}
 use Rattle.ev_types.specs.declared.contents.Body.TheVariants.{Bad, Beat}
 use Rattle.ev_tree.specs.declared.outcome.Found.{Found}
@@ -21,6 +21,7 @@ use Rattle.ev_cluster_json.specs.Clusters.{cluster_broken, cluster_of}
 use Rattle.ev_cluster_json.specs.Assignments.{assignment_broken, rows_of}
 use Rattle.ev_route_json.specs.Tables.{table_broken, table_of}
 use Rattle.ev_listener_json.specs.Listeners.{listener_broken, listener_of}
+use Rattle.ev_secret_json.specs.Resources.{secret_broken, config_broken}
 use Rattle.ev_wire.specs.Bodies.{is_heartbeat, breaks_v1, own_broken, resource_of, body_of, body_with, content_of, content_with, content_broken, item_broken, rule_in}
 
 -- ---- a rule that one of two parts breaks
@@ -78,7 +79,7 @@ of_others m (rule ∷ own) (other ∷ others) same (inl here) = inl (same.0 ∙ 
 of_others m (rule ∷ own) (other ∷ others) same (inr later) = inr (of_others m own others same.1 later)
 
 same_rules : (a b : BrokenRules) → AreSame (rules_of a) (rules_of b)
-same_rules a b = (refl, (refl, (refl, (refl, (refl, (refl, (refl, (refl, (refl, (refl, (refl, (refl, (refl, (refl, (refl, (refl, (refl, (refl, (refl, (refl, (refl, (refl, (refl, (refl, tt))))))))))))))))))))))))
+same_rules a b = (refl, (refl, (refl, (refl, (refl, (refl, (refl, (refl, (refl, (refl, (refl, (refl, (refl, (refl, (refl, (refl, (refl, (refl, (refl, (refl, (refl, (refl, (refl, (refl, (refl, (refl, tt))))))))))))))))))))))))))
 
 -- ---- the lesser of two
 
@@ -124,6 +125,10 @@ of_own_and_content profile Lds name ttl body =
     lesser (own_broken Lds name ttl body) (listener_broken profile body) Listener (listener_of profile body) _ _ (least_broken (own_broken Lds name ttl body)) (least_broken (listener_broken profile body))
 of_own_and_content profile Rds name ttl body =
     lesser (own_broken Rds name ttl body) (table_broken profile body) Routes (table_of profile body) _ _ (least_broken (own_broken Rds name ttl body)) (least_broken (table_broken profile body))
+of_own_and_content profile Sds name ttl body =
+    lesser (own_broken Sds name ttl body) (secret_broken body) (λ good. Secret) tt _ _ (least_broken (own_broken Sds name ttl body)) (least_broken (secret_broken body))
+of_own_and_content profile Ecds name ttl body =
+    lesser (own_broken Ecds name ttl body) (config_broken body) (λ good. Extension) tt _ _ (least_broken (own_broken Ecds name ttl body)) (least_broken (config_broken body))
 
 -- ---- V1 before all others
 

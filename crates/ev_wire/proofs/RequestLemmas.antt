@@ -8,7 +8,8 @@ use Rattle.serde_json.specs.Data.{Data, number, unsigned, string, array, object,
 use Rattle.serde_json.specs.View.{items_of}
 use Rattle.serde_json.specs.Written.{has_float, items_have_float, members_have_float}
 use Rattle.ev_types.specs.declared.contents.Request.{Request}
-use Rattle.ev_wire.specs.Requests.{request_tree, type_url, with_nonce, with_names, with_node, version_members, with_versions, with_error}
+use Rattle.ev_types.specs.Kinds.{type_url}
+use Rattle.ev_wire.specs.Requests.{request_tree, with_nonce, with_names, with_node, version_members, with_versions, with_error}
 
 neither : (a b : Bool) → a ≡ false → b ≡ false → (a || b) ≡ false
 neither a b h k = ap (λ c. c || b) h ∙ k

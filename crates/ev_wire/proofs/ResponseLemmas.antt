@@ -90,24 +90,24 @@ second_of true b h = h
 second_of false b h = cc
 
 -- a head has a nonce of at least one byte
-pub head_answerable : (tree : Data) (head : Head) → has_head tree ≡ true → record { kind = response_kind tree; nonce = nonce_of tree } ≡ head
+pub head_answerable : (profile : Profile) (tree : Data) (head : Head) → has_head tree ≡ true → record { kind = response_kind profile tree; nonce = nonce_of tree } ≡ head
     → 1 ≤ length head.nonce
 unfolding has_head
-head_answerable tree head h e =
+head_answerable profile tree head h e =
     let P : Head → Type 0 = λ head. 1 ≤ length head.nonce in
     subst P e (some_byte (length (nonce_of tree)) (second_of _ (not (length (nonce_of tree) == 0)) h))
 
 -- a tree without a head is no response
 pub no_head : (profile : Profile) (tree : Data) → has_head tree ≡ false → response_of profile tree ≡ None
 unfolding response_of
-no_head profile tree h = ap (λ b. given_if (b && has_lists_of (response_kind tree) tree) (parts_of profile (response_kind tree) (nonce_of tree) tree)) h
+no_head profile tree h = ap (λ b. given_if (b && has_lists_of (response_kind profile tree) tree) (parts_of profile (response_kind profile tree) (nonce_of tree) tree)) h
 
 -- with the head known, the lists decide
-pub known_head : (profile : Profile) (tree : Data) (head : Head) → has_head tree ≡ true → record { kind = response_kind tree; nonce = nonce_of tree } ≡ head
+pub known_head : (profile : Profile) (tree : Data) (head : Head) → has_head tree ≡ true → record { kind = response_kind profile tree; nonce = nonce_of tree } ≡ head
     → response_of profile tree ≡ given_if (has_lists_of head.kind tree) (parts_of profile head.kind head.nonce tree)
 unfolding response_of
 known_head profile tree head h e =
-    ap (λ b. given_if (b && has_lists_of (response_kind tree) tree) (parts_of profile (response_kind tree) (nonce_of tree) tree)) h
+    ap (λ b. given_if (b && has_lists_of (response_kind profile tree) tree) (parts_of profile (response_kind profile tree) (nonce_of tree) tree)) h
     ∙ ap (λ (head : Head). given_if (has_lists_of head.kind tree) (parts_of profile head.kind head.nonce tree)) e
 
 abbrev untyped : List ℕ → List ItemParts → List (List ℕ) → ResponseParts

@@ -5,9 +5,10 @@ use Rattle.std.specs.Str.{bytes_eq}
 use Rattle.serde_json.specs.Data.{Data}
 use Rattle.ev_types.specs.declared.events.Profile.{Profile}
 use Rattle.ev_types.specs.declared.contents.Kind.{Kind}
-use Rattle.ev_types.specs.declared.contents.Kind.TheVariants.{Cds, Eds, Lds, Rds}
+use Rattle.ev_types.specs.declared.contents.Kind.TheVariants.{Cds, Eds, Lds, Rds, Sds, Ecds}
+use Rattle.ev_types.specs.Kinds.{type_url}
 use Rattle.ev_types.specs.declared.contents.Content.{Content}
-use Rattle.ev_types.specs.declared.contents.Content.TheVariants.{Cluster, Assignment, Listener, Routes}
+use Rattle.ev_types.specs.declared.contents.Content.TheVariants.{Cluster, Assignment, Listener, Routes, Secret, Extension}
 use Rattle.ev_types.specs.declared.contents.Body.{Body}
 use Rattle.ev_types.specs.declared.contents.Body.TheVariants.{Good, Bad, Beat}
 use Rattle.ev_tree.specs.declared.outcome.Found.{Found}
@@ -23,7 +24,8 @@ use Rattle.ev_cluster_json.specs.Clusters.{cluster_reading, cluster_broken}
 use Rattle.ev_cluster_json.specs.Assignments.{assignment_reading, assignment_broken}
 use Rattle.ev_route_json.specs.Tables.{table_reading, table_broken}
 use Rattle.ev_listener_json.specs.Listeners.{listener_reading, listener_broken}
-use Rattle.ev_wire.specs.Requests.{type_url}
+use Rattle.ev_secret_json.specs.Resources.{secret_reading, secret_broken, extension_reading, config_broken}
+use Rattle.ev_wire.specs.Kinds.{name_field}
 
 -- ---- heartbeats
 
@@ -49,13 +51,6 @@ breaks_v1 kind body = not (is_of_type kind body)
 -- V2: the outer name is empty or has more than 512 bytes
 abbrev pub breaks_v2 : List ℕ → Bool
 breaks_v2 name = not (is_name name)
-
--- the field with a resource's own name
-abbrev pub name_field : Kind → List ℕ
-name_field Cds = codes "name"
-name_field Eds = codes "cluster_name"
-name_field Lds = codes "name"
-name_field Rds = codes "name"
 
 -- another text than the name, which an absent one is for all but the empty name. A wrong form breaks V6 alone.
 abbrev pub differs : List ℕ → Found (List ℕ) → Bool
@@ -88,8 +83,11 @@ content_of profile Cds body = content_with Cluster (cluster_reading profile body
 content_of profile Eds body = content_with Assignment (assignment_reading profile body)
 content_of profile Lds body = content_with Listener (listener_reading profile body)
 content_of profile Rds body = content_with Routes (table_reading profile body)
+content_of profile Sds body = content_with (λ good. Secret) (secret_reading body)
+content_of profile Ecds body = content_with (λ good. Extension) (extension_reading body)
 
--- the content, where no rule is broken, and otherwise the least of those that are: by the item itself, and by its content
+-- the content, where no rule is broken, and otherwise the least of those that are:
+-- by the item itself, and by its content
 abbrev pub body_with : Option ℕ → Result Content ℕ → Body
 body_with None (Ok content) = Good content
 body_with None (Err rule) = Bad rule
@@ -116,6 +114,8 @@ content_broken profile Cds body = cluster_broken profile body
 content_broken profile Eds body = assignment_broken profile body
 content_broken profile Lds body = listener_broken profile body
 content_broken profile Rds body = table_broken profile body
+content_broken profile Sds body = secret_broken body
+content_broken profile Ecds body = config_broken body
 
 -- what an item breaks: a heartbeat nothing
 abbrev pub item_broken : Profile → Kind → List ℕ → Found Span → Found Data → BrokenRules

@@ -6,16 +6,8 @@ use Rattle.serde_json.specs.Data.{Data, number, unsigned, string, array, object,
 use Rattle.serde_json.specs.View.{items_of, members_view}
 use Rattle.serde_json.specs.declared.value.Value.{Value}
 use Rattle.serde_json.specs.Written.{compact_text}
-use Rattle.ev_types.specs.declared.contents.Kind.{Kind}
-use Rattle.ev_types.specs.declared.contents.Kind.TheVariants.{Cds, Eds, Lds, Rds}
 use Rattle.ev_types.specs.declared.contents.Request.{Request}
-
--- the type URL of a kind of resource
-abbrev pub type_url : Kind → List ℕ
-type_url Cds = codes "type.googleapis.com/envoy.config.cluster.v3.Cluster"
-type_url Eds = codes "type.googleapis.com/envoy.config.endpoint.v3.ClusterLoadAssignment"
-type_url Lds = codes "type.googleapis.com/envoy.config.listener.v3.Listener"
-type_url Rds = codes "type.googleapis.com/envoy.config.route.v3.RouteConfiguration"
+use Rattle.ev_types.specs.Kinds.{type_url}
 
 -- the members of a map became what `change` makes of them
 abbrev pub Puts : (Members → Members) → List (String Global × Value) → List (String Global × Value) → Type 0

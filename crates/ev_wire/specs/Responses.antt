@@ -2,11 +2,9 @@
 -- project's profile. All fields but those named here are passed over.
 use Rattle.std.specs.Prelude.{◌≡◌, ℕ, ◌&&◌, ◌==◌, List, [], map, length, Bool, true, not, if◌then◌else◌, Option, Some, None, Result, Ok, Err, codes, ⊤}
 use Rattle.std.specs.List.{list_all}
-use Rattle.std.specs.Str.{bytes_eq}
 use Rattle.serde_json.specs.Data.{Data}
 use Rattle.ev_types.specs.declared.events.Profile.{Profile}
 use Rattle.ev_types.specs.declared.contents.Kind.{Kind}
-use Rattle.ev_types.specs.declared.contents.Kind.TheVariants.{Cds, Eds, Lds, Rds}
 use Rattle.ev_types.specs.Items.{ItemParts, ResponseParts}
 use Rattle.ev_tree.specs.declared.outcome.Found.{Found}
 use Rattle.ev_tree.specs.declared.span.Span.{Span}
@@ -14,7 +12,7 @@ use Rattle.ev_tree.specs.Forms.{is_object, is_wrong, given_or, listed, text_in, 
 use Rattle.ev_wire.specs.declared.responses.Head.{Head}
 use Rattle.ev_wire.specs.declared.outcome.WireError.{WireError}
 use Rattle.ev_wire.specs.declared.outcome.WireError.TheVariants.{NotResponse, OutOfMemory}
-use Rattle.ev_wire.specs.Requests.{type_url}
+use Rattle.ev_wire.specs.Kinds.{kind_with}
 use Rattle.ev_wire.specs.Bodies.{is_positive, body_of}
 
 -- ---- a resource of a response
@@ -41,17 +39,9 @@ item_of profile kind entry = record {
 
 -- ---- the message
 
--- the kind of resource that has this type URL: none for a type that isn't read
-abbrev pub kind_with : List ℕ → Option Kind
-kind_with url =
-    if bytes_eq url (type_url Cds) then Some Cds
-    else if bytes_eq url (type_url Eds) then Some Eds
-    else if bytes_eq url (type_url Lds) then Some Lds
-    else if bytes_eq url (type_url Rds) then Some Rds
-    else None
-
-unfoldable pub response_kind : Data → Option Kind
-response_kind tree = kind_with (given_or [] (text_of (codes "type_url") tree))
+-- the kind of resource, where the profile reads it
+unfoldable pub response_kind : Profile → Data → Option Kind
+response_kind profile tree = kind_with profile (given_or [] (text_of (codes "type_url") tree))
 
 unfoldable pub nonce_of : Data → List ℕ
 nonce_of tree = given_or [] (text_of (codes "nonce") tree)
@@ -81,8 +71,8 @@ abbrev pub has_lists_of : Option Kind → Data → Bool
 has_lists_of None tree = true
 has_lists_of (Some kind) tree = has_lists tree
 
-abbrev pub is_response : Data → Bool
-is_response tree = has_head tree && has_lists_of (response_kind tree) tree
+abbrev pub is_response : Profile → Data → Bool
+is_response profile tree = has_head tree && has_lists_of (response_kind profile tree) tree
 
 -- the response of this type and nonce
 abbrev pub parts_of : Profile → Option Kind → List ℕ → Data → ResponseParts
@@ -103,12 +93,12 @@ abbrev pub items_in : Profile → Kind → List Data → Option (List ItemParts)
 items_in profile kind entries = given_if (list_all is_entry entries) (map (item_of profile kind) entries)
 
 -- the type and the nonce of the response that a tree is, or none where it lacks them
-abbrev pub head_of : Data → Option Head
-head_of tree = given_if (has_head tree) (record { kind = response_kind tree; nonce = nonce_of tree })
+abbrev pub head_of : Profile → Data → Option Head
+head_of profile tree = given_if (has_head tree) (record { kind = response_kind profile tree; nonce = nonce_of tree })
 
 -- the response that a tree is, or none where it isn't one
 unfoldable pub response_of : Profile → Data → Option ResponseParts
-response_of profile tree = given_if (is_response tree) (parts_of profile (response_kind tree) (nonce_of tree) tree)
+response_of profile tree = given_if (is_response profile tree) (parts_of profile (response_kind profile tree) (nonce_of tree) tree)
 
 -- ---- what a reader answers
 

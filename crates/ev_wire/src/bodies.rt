@@ -1,4 +1,4 @@
-ghost use Rattle.std.specs.Prelude.{◌≡◌, ℕ, List, IfOk};
+ghost use Rattle.std.specs.Prelude.{◌≡◌, ℕ, List, Result, Err, min, IfOk};
 ghost use Rattle.serde_json.specs.Data.{Data};
 ghost use Rattle.serde_json.specs.View.{view};
 ghost use Rattle.ev_tree.specs.Forms.{found_map, tree_of};
@@ -7,15 +7,17 @@ ghost use Rattle.ev_tree.specs.Broken.{rules_of};
 ghost use Rattle.ev_tree.specs.declared.outcome.Found.{Found};
 ghost use Rattle.ev_tree.specs.declared.span.Span.{Span};
 ghost use Rattle.ev_wire.specs.Bodies.{is_positive, is_heartbeat, is_of_type, breaks_v3, differs, own_broken, content_of, body_with, resource_of, body_of, item_broken, rule_in};
+ghost use Rattle.ev_types.specs.declared.contents.Content.{Content};
 ghost use Rattle.ev_types.specs.declared.contents.Kind.{Kind};
 ghost use Rattle.ev_types.specs.declared.events.Profile.{Profile};
 
-use crate::kinds::{name_field, type_url};
+use crate::kinds::name_field;
 use ev_cluster_json::{read_assignment, read_cluster};
 use ev_listener_json::read_listener;
 use ev_route_json::read_routes;
+use ev_secret_json::{read_extension, read_secret};
 use ev_tree::{BrokenRules, Found, ReadError, Span, is_name, is_not_positive, member};
-use ev_types::{Body, Content, Kind, Profile, Shared};
+use ev_types::{Body, Content, Kind, Profile, Rule, Shared};
 use serde_json::Value;
 use std::alloc::{AllocError, Global};
 
@@ -66,16 +68,29 @@ fn read_resource(
     ensures { IfOk result (λ read. read ≡ resource_of profile kind name.now ttl (tree_of body.entry)) }
 {
     let Some(body) = body else {
-        return Ok(Body::Bad(1));
+        return Ok(Body::Bad(Rule::V1));
     };
     let broken = inspect_own(alloc, kind, name, ttl, body)?;
     if broken.v1 {
-        return Ok(Body::Bad(1));
+        return Ok(Body::Bad(Rule::V1));
     }
     match read_content(alloc, profile, kind, body) {
         Ok(content) => Ok(body_with(broken.least(), Ok(content))),
-        Err(ReadError::Rule(rule)) => Ok(body_with(broken.least(), Err(rule))),
-        Err(ReadError::OutOfMemory) => Err(AllocError),
+        Err(error) => {
+            let refused = refuse(broken.least(), error)?;
+            Ok(refused)
+        }
+    }
+}
+
+// The body of an item whose content couldn't be read.
+fn refuse(broken: Option<Rule>, error: ReadError) -> Result<Body, AllocError>
+    ensures { (reading : Result Content ℕ) → ReadsAs (Err error) reading
+        → IfOk result (λ body. body ≡ body_with broken reading) }
+{
+    match error {
+        ReadError::Rule(rule) => Ok(body_with(broken, Err(rule))),
+        ReadError::OutOfMemory => Err(AllocError),
     }
 }
 
@@ -114,7 +129,7 @@ fn is_of_type(alloc: Global, kind: Kind, body: &Value) -> Result<bool, AllocErro
     ensures { IfOk result (λ is. is ≡ is_of_type kind (view body.now)) }
 {
     let named = member::text(alloc, Some(body), "@type")?;
-    let is_same = member::text_or_empty(named) == type_url(kind);
+    let is_same = member::text_or_empty(named) == kind.type_url();
     Ok(body.is_object() & is_same)
 }
 
@@ -165,17 +180,32 @@ fn read_content(
             let read = read_routes(alloc, profile, body)?;
             Ok(Content::Routes(Shared::new(alloc, read)?))
         }
+        Kind::Sds => {
+            read_secret(alloc, body)?;
+            Ok(Content::Secret)
+        }
+        Kind::Ecds => {
+            read_extension(alloc, body)?;
+            Ok(Content::Extension)
+        }
     }
 }
 
 // A body of this content, unless a rule is broken: by its names, or by its content.
-fn body_with(broken: Option<u8>, content: Result<Content, u8>) -> Body
+fn body_with(broken: Option<Rule>, content: Result<Content, Rule>) -> Body
     ensures { result ≡ body_with broken content }
 {
     match (broken, content) {
         (None, Ok(content)) => Body::Good(content),
         (None, Err(rule)) => Body::Bad(rule),
         (Some(rule), Ok(_)) => Body::Bad(rule),
-        (Some(rule), Err(other)) => Body::Bad(rule.min(other)),
+        (Some(rule), Err(other)) => Body::Bad(lesser(rule, other)),
     }
+}
+
+// The lesser of two rules.
+fn lesser(rule: Rule, other: Rule) -> Rule
+    ensures { result ≡ min rule other }
+{
+    Rule::new(rule.number().min(other.number()))
 }

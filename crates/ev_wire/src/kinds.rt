@@ -1,45 +1,45 @@
 ghost use Rattle.std.specs.Prelude.{◌≡◌};
-ghost use Rattle.ev_wire.specs.Requests.{type_url};
-ghost use Rattle.ev_wire.specs.Responses.{kind_with};
-ghost use Rattle.ev_wire.specs.Bodies.{name_field};
+ghost use Rattle.ev_wire.specs.Kinds.{is_read, read_in, kind_with, name_field};
 
-use ev_types::Kind;
+use ev_types::{Kind, Profile};
 
-/// The type URL of a kind of resource.
-pub(crate) fn type_url(kind: Kind) -> &'static str
-    ensures { result.now ≡ type_url kind }
+// Whether a profile reads this kind of resource: secrets and extensions are read as Envoy reads them alone.
+fn is_read(profile: Profile, kind: Kind) -> bool
+    ensures { result ≡ is_read profile kind }
 {
     match kind {
-        Kind::Cds => "type.googleapis.com/envoy.config.cluster.v3.Cluster",
-        Kind::Eds => "type.googleapis.com/envoy.config.endpoint.v3.ClusterLoadAssignment",
-        Kind::Lds => "type.googleapis.com/envoy.config.listener.v3.Listener",
-        Kind::Rds => "type.googleapis.com/envoy.config.route.v3.RouteConfiguration",
+        Kind::Cds | Kind::Eds | Kind::Lds | Kind::Rds => true,
+        Kind::Sds | Kind::Ecds => profile.is_envoy(),
     }
 }
 
-/// The kind of resource that has this type URL, or none for a type that isn't read.
-pub(crate) fn kind_with(url: &str) -> Option<Kind>
-    ensures { result ≡ kind_with url.now }
+/// A kind of resource, where the profile reads it.
+pub fn read_in(profile: Profile, kind: Kind) -> Option<Kind>
+    ensures { result ≡ read_in profile kind }
 {
-    if url == type_url(Kind::Cds) {
-        Some(Kind::Cds)
-    } else if url == type_url(Kind::Eds) {
-        Some(Kind::Eds)
-    } else if url == type_url(Kind::Lds) {
-        Some(Kind::Lds)
-    } else if url == type_url(Kind::Rds) {
-        Some(Kind::Rds)
+    if is_read(profile, kind) {
+        Some(kind)
     } else {
         None
     }
 }
 
+/// The kind of resource that has this type URL, or none for a type that the profile doesn't read.
+pub fn kind_with(profile: Profile, url: &str) -> Option<Kind>
+    ensures { result ≡ kind_with profile url.now }
+{
+    match Kind::of_url(url) {
+        Some(kind) => read_in(profile, kind),
+        None => None,
+    }
+}
+
 /// The field with a resource's own name.
-pub(crate) fn name_field(kind: Kind) -> &'static str
+pub fn name_field(kind: Kind) -> &'static str
     ensures { result.now ≡ name_field kind }
 {
     match kind {
-        Kind::Cds | Kind::Lds | Kind::Rds => "name",
+        Kind::Cds | Kind::Lds | Kind::Rds | Kind::Sds | Kind::Ecds => "name",
         Kind::Eds => "cluster_name",
     }
 }

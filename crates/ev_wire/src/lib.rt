@@ -6,6 +6,7 @@
 //!   answer is the same.
 //! - V2 and V3 are looked for by the message's reader at the outer name and by the readers of clusters and listeners
 //!   inside the resource; the lesser of both finds is the answer.
+//! - Secrets and extensions are read as Envoy reads them alone: by the own rules their types aren't read.
 //! - A message with a nonce and no `type_url` at all is a response of a type that isn't read.
 //! - The lists of a message of a type that isn't read aren't looked at, not even for their form.
 //! - An empty nonce is left out of a request, as every member with nothing in it is. The requests of this program
@@ -24,6 +25,7 @@ mod requests;
 mod responses;
 
 pub use bodies::body_rule_is_least;
+pub use kinds::{kind_with, name_field, read_in};
 pub use outcome::WireError;
 pub use requests::{request_value, write_request};
 pub use responses::read_response;

@@ -3,7 +3,6 @@ ghost use Rattle.serde_json.specs.Data.{string, array, object, no_members};
 ghost use Rattle.serde_json.specs.View.{view, items_of};
 ghost use Rattle.ev_wire.specs.Requests.{request_tree, request_text, Puts, with_nonce, with_names, with_node, with_versions, version_members, with_error};
 
-use crate::kinds::type_url;
 use ev_types::{Name, Request, Seq, Text};
 use serde_json::{Map, Value, json, put};
 use std::alloc::{AllocError, Global};
@@ -27,7 +26,7 @@ pub fn request_value(alloc: Global, request: &Request) -> Result<Value, AllocErr
         &mut members,
         alloc,
         "typeUrl",
-        json!(in alloc; type_url(request.kind))?,
+        json!(in alloc; request.kind.type_url())?,
     )?;
     put_nonce(alloc, &mut members, &request.nonce)?;
     put_names(

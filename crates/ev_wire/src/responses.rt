@@ -13,8 +13,8 @@ use serde_json::Value;
 use std::alloc::{AllocError, Global};
 
 /// Reads a response of incremental xDS (`DeltaDiscoveryResponse`, by the proto3 JSON mapping): its type, its
-/// nonce, its resources and the names of removed ones. All other fields are passed over. Of a type that is none
-/// of the four the type and the nonce alone are read.
+/// nonce, its resources and the names of removed ones. All other fields are passed over. Of a type that the
+/// profile doesn't read the type and the nonce alone are read.
 ///
 /// A resource that breaks form rules stays in the response, with the least of them as its body. A resource without a
 /// body whose `ttl` is positive is a heartbeat.
@@ -26,7 +26,7 @@ use std::alloc::{AllocError, Global};
 pub fn read_response(alloc: Global, profile: Profile, value: &Value) -> Result<Response, WireError>
     ensures { Reads result (response_of profile (view value.now)) }
 {
-    let Some(head) = read_head(alloc, value)? else {
+    let Some(head) = read_head(alloc, profile, value)? else {
         return Err(WireError::NotResponse);
     };
     match head.kind {
@@ -49,8 +49,8 @@ struct Head {
 
 // The type and the nonce of a response, or none where they aren't those of one.
 #[tactic(auto, unfolding(crate::specs::Responses::has_head, crate::specs::Responses::response_kind, crate::specs::Responses::nonce_of))]
-fn read_head(alloc: Global, value: &Value) -> Result<Option<Head>, AllocError>
-    ensures { IfOk result (λ head. head ≡ head_of (view value.now)) }
+fn read_head(alloc: Global, profile: Profile, value: &Value) -> Result<Option<Head>, AllocError>
+    ensures { IfOk result (λ head. head ≡ head_of profile (view value.now)) }
 {
     let url = member::text(alloc, Some(value), "type_url")?;
     let nonce = member::text(alloc, Some(value), "nonce")?;
@@ -59,7 +59,7 @@ fn read_head(alloc: Global, value: &Value) -> Result<Option<Head>, AllocError>
         return Ok(None);
     }
     Ok(Some(Head {
-        kind: kind_with(member::text_or_empty(url)),
+        kind: kind_with(profile, member::text_or_empty(url)),
         nonce: Text::new(alloc, nonce)?,
     }))
 }

@@ -14,10 +14,12 @@ use Rattle.ev_types.specs.declared.events.Ask.{Ask}
 use Rattle.ev_model.specs.World.{OpenMember}
 use Rattle.ev_model.specs.Choice.{choice_of}
 use Rattle.ev_model.specs.Picture.{has_number}
-use Rattle.ev_model.specs.Connections.{accepted, closed, is_member, is_open, member_on, members_of}
+use Rattle.ev_model.specs.Connections.{accepted, closed, is_member, is_open, members_of}
 use Rattle.ev_model.specs.declared.pictures.Picture.{Picture}
 use Rattle.ev_model.specs.declared.pictures.Choice.{Choice}
-use Rattle.ev_model.specs.declared.pictures.Choice.TheVariants.{NoListener, NoChain, Undecided, Elsewhere, NoRoute, Local, Redirect, NoCluster, NoEndpoint, Served}
+use Rattle.ev_model.specs.declared.pictures.Choice.TheVariants.{NoListener, NoChain, On as chosen}
+use Rattle.ev_ledger.specs.Members.{member_on}
+use Rattle.ev_ledger.specs.declared.open_on.On.{On}
 use Rattle.ev_worker.specs.Batches.{accepted_as, accepted_answer, closed_as, closed_answer}
 use Rattle.ev_worker.specs.Members.{chosen_on, member_of, on_of, stored_members}
 use Rattle.ev_worker.specs.Workers.{SameOpen, without_numbers}
@@ -122,7 +124,7 @@ close_answer connection worker xs = by (is_open xs worker connection) refl
     by false is = simp is refl
 
 -- where no entry has the number, no connection has it
-no_entry : (worker number : ℕ) (es : List (ℕ × (ℕ × Option ℕ))) → lookup (nat_eq number) es ≡ None → filter (is_member worker number) (stored_members worker es) ≡ []
+no_entry : (worker number : ℕ) (es : List (ℕ × On)) → lookup (nat_eq number) es ≡ None → filter (is_member worker number) (stored_members worker es) ≡ []
 no_entry worker number [] none = refl
 no_entry worker number (e ∷ es) none = by (nat_eq number e.0) refl none (no_entry worker number es)
   where
@@ -136,30 +138,30 @@ no_entry worker number (e ∷ es) none = by (nat_eq number e.0) refl none (no_en
         ∙ rest none
 
 -- the connections of a number are the one that the map has for it, if there is one
-pub numbered : (worker number : ℕ) (es : List (ℕ × (ℕ × Option ℕ))) → IsDistinct nat_eq (keys_of es)
-    → filter (is_member worker number) (stored_members worker es) ≡ option_to_list (option_map (λ (on : ℕ × Option ℕ). member_on worker number on.0 on.1) (lookup (nat_eq number) es))
+pub numbered : (worker number : ℕ) (es : List (ℕ × On)) → IsDistinct nat_eq (keys_of es)
+    → filter (is_member worker number) (stored_members worker es) ≡ option_to_list (option_map (λ (on : On). member_on worker number on) (lookup (nat_eq number) es))
 unfolding IsDistinct
 numbered worker number [] apart = refl
 numbered worker number (e ∷ es) apart = by (nat_eq number e.0) refl (numbered worker number es apart.1)
   where
     by : (a : Bool) → nat_eq number e.0 ≡ a
-        → filter (is_member worker number) (stored_members worker es) ≡ option_to_list (option_map (λ (on : ℕ × Option ℕ). member_on worker number on.0 on.1) (lookup (nat_eq number) es))
+        → filter (is_member worker number) (stored_members worker es) ≡ option_to_list (option_map (λ (on : On). member_on worker number on) (lookup (nat_eq number) es))
         → filter (is_member worker number) (member_of worker e ∷ stored_members worker es)
-        ≡ option_to_list (option_map (λ (on : ℕ × Option ℕ). member_on worker number on.0 on.1) (cond a (Some e.1) (lookup (nat_eq number) es)))
+        ≡ option_to_list (option_map (λ (on : On). member_on worker number on) (cond a (Some e.1) (lookup (nat_eq number) es)))
     by true is rest =
         let here : is_member worker number (member_of worker e) ≡ true = grind (arith, nat_tests) in
         let same : number ≡ e.0 = grind (arith, nat_tests) in
         let none : lookup (nat_eq number) es ≡ None = lookup-none (nat_eq number) es (none_past_head nat_eq_equiv number e es apart is) in
         cond-true (is_member worker number (member_of worker e)) (member_of worker e ∷ filter (is_member worker number) (stored_members worker es)) (filter (is_member worker number) (stored_members worker es)) here
         ∙ ap (λ l. member_of worker e ∷ l) (no_entry worker number es none)
-        ∙ ap (λ n. member_on worker n e.1.0 e.1.1 ∷ []) (sym same)
+        ∙ ap (λ n. member_on worker n e.1 ∷ []) (sym same)
     by false is rest =
         let other : is_member worker number (member_of worker e) ≡ false = grind (arith, nat_tests) in
         cond-false (is_member worker number (member_of worker e)) (member_of worker e ∷ filter (is_member worker number) (stored_members worker es)) (filter (is_member worker number) (stored_members worker es)) other
         ∙ rest
 
 -- whether a number is open, by the map
-pub found_open : (worker number : ℕ) (es : List (ℕ × (ℕ × Option ℕ))) → is_some (lookup (nat_eq number) es) ≡ is_open (stored_members worker es) worker number
+pub found_open : (worker number : ℕ) (es : List (ℕ × On)) → is_some (lookup (nat_eq number) es) ≡ is_open (stored_members worker es) worker number
 found_open worker number [] = refl
 found_open worker number (e ∷ es) = by (nat_eq number e.0) (is_member worker number (member_of worker e)) (grind (arith, nat_tests)) (found_open worker number es)
   where
@@ -171,70 +173,63 @@ found_open worker number (e ∷ es) = by (nat_eq number e.0) (is_member worker n
     by false false is rest = rest
 
 -- a map that lost some numbers has the connections that a filter by these numbers leaves
-pub left_same : (worker : ℕ) (q : OpenMember → Bool) (gone : ℕ → Bool) (es left : List (ℕ × (ℕ × Option ℕ)))
+pub left_same : (worker : ℕ) (q : OpenMember → Bool) (gone : ℕ → Bool) (es left : List (ℕ × On))
     → IsDistinct nat_eq (keys_of es) → IsDistinct nat_eq (keys_of left)
     → ((n : ℕ) → lookup (nat_eq n) left ≡ cond (gone n) None (lookup (nat_eq n) es))
-    → ((n listener : ℕ) (cluster : Option ℕ) → q (member_on worker n listener cluster) ≡ not (gone n))
+    → ((n : ℕ) (on : On) → q (member_on worker n on) ≡ not (gone n))
     → SameOpen worker (stored_members worker left) (filter q (stored_members worker es))
 left_same worker q gone es left apart still lost says = λ n.
     numbered worker n left still
-    ∙ ap (λ found. option_to_list (option_map (λ (on : ℕ × Option ℕ). member_on worker n on.0 on.1) found)) (lost n)
+    ∙ ap (λ found. option_to_list (option_map (λ (on : On). member_on worker n on) found)) (lost n)
     ∙ by n (gone n) (lookup (nat_eq n) es) refl
     ∙ sym (filter_swap (is_member worker n) q (stored_members worker es) ∙ ap (filter q) (numbered worker n es apart))
   where
-    by : (n : ℕ) (g : Bool) (found : Option (ℕ × Option ℕ)) → gone n ≡ g
-        → option_to_list (option_map (λ (on : ℕ × Option ℕ). member_on worker n on.0 on.1) (cond g None found))
-        ≡ filter q (option_to_list (option_map (λ (on : ℕ × Option ℕ). member_on worker n on.0 on.1) found))
+    by : (n : ℕ) (g : Bool) (found : Option On) → gone n ≡ g
+        → option_to_list (option_map (λ (on : On). member_on worker n on) (cond g None found))
+        ≡ filter q (option_to_list (option_map (λ (on : On). member_on worker n on) found))
     by n true None is = refl
     by n false None is = refl
-    by n true (Some on) is = sym (cond-false (q (member_on worker n on.0 on.1)) (member_on worker n on.0 on.1 ∷ []) [] (says n on.0 on.1 ∙ ap not is))
-    by n false (Some on) is = sym (cond-true (q (member_on worker n on.0 on.1)) (member_on worker n on.0 on.1 ∷ []) [] (says n on.0 on.1 ∙ ap not is))
+    by n true (Some on) is = sym (cond-false (q (member_on worker n on)) (member_on worker n on ∷ []) [] (says n on ∙ ap not is))
+    by n false (Some on) is = sym (cond-true (q (member_on worker n on)) (member_on worker n on ∷ []) [] (says n on ∙ ap not is))
 
 -- a map that lost a number has what the machine's close leaves
-pub close_leaves : (worker connection : ℕ) (es left : List (ℕ × (ℕ × Option ℕ)))
+pub close_leaves : (worker connection : ℕ) (es left : List (ℕ × On))
     → IsDistinct nat_eq (keys_of es) → IsDistinct nat_eq (keys_of left)
     → ((n : ℕ) → lookup (nat_eq n) left ≡ cond (nat_eq connection n) None (lookup (nat_eq n) es))
     → SameOpen worker (stored_members worker left) (closed connection worker (stored_members worker es)).opened
 close_leaves worker connection es left apart still lost = λ n.
     left_same worker (λ m. not (is_member worker connection m)) (nat_eq connection) es left apart still lost
-    (λ number listener cluster. grind (arith, nat_tests)) n
+    (λ number on. grind (arith, nat_tests)) n
     ∙ sym (ap (filter (is_member worker n)) (closed_leaves connection worker (stored_members worker es)))
 
 -- and one that lost some numbers has those without these numbers
-pub numbers_leave : (worker : ℕ) (numbers : List ℕ) (es left : List (ℕ × (ℕ × Option ℕ)))
+pub numbers_leave : (worker : ℕ) (numbers : List ℕ) (es left : List (ℕ × On))
     → IsDistinct nat_eq (keys_of es) → IsDistinct nat_eq (keys_of left)
     → ((n : ℕ) → lookup (nat_eq n) left ≡ cond (has_number n numbers) None (lookup (nat_eq n) es))
     → SameOpen worker (stored_members worker left) (without_numbers numbers (stored_members worker es))
 numbers_leave worker numbers es left apart still lost =
     left_same worker (λ (m : OpenMember). not (has_number m.connection numbers)) (λ n. has_number n numbers) es left apart still lost
-    (λ number listener cluster. refl)
+    (λ number on. refl)
 
 -- what a choice opens, as entries and as connections
 chosen_opens : (worker connection : ℕ) (choice : Choice)
-    → stored_members worker (map (λ (on : ℕ × Option ℕ). (connection, on)) (option_to_list (chosen_on choice))) ≡ members_of worker connection choice
+    → stored_members worker (map (λ (on : On). (connection, on)) (option_to_list (chosen_on choice))) ≡ members_of worker connection choice
 chosen_opens worker connection NoListener = refl
 chosen_opens worker connection NoChain = refl
-chosen_opens worker connection (Undecided listener) = refl
-chosen_opens worker connection (Elsewhere listener cluster) = refl
-chosen_opens worker connection (NoRoute listener) = refl
-chosen_opens worker connection (Local listener status) = refl
-chosen_opens worker connection (Redirect listener) = refl
-chosen_opens worker connection (NoCluster listener) = refl
-chosen_opens worker connection (NoEndpoint listener) = refl
-chosen_opens worker connection (Served listener cluster place) = refl
+chosen_opens worker connection (chosen listener chain origin course) = refl
 
 -- an accept opens what the machine opens
-pub accept_opens : (picture : Picture) (ask : Ask) (worker : ℕ) (es : List (ℕ × (ℕ × Option ℕ)))
-    → stored_members worker (es ++ map (λ (on : ℕ × Option ℕ). (ask.conn, on)) (option_to_list (on_of (accepted_as picture ask (is_open (stored_members worker es) worker ask.conn)))))
+pub accept_opens : (picture : Picture) (ask : Ask) (worker : ℕ) (es : List (ℕ × On))
+    → stored_members worker (es ++ map (λ (on : On). (ask.conn, on)) (option_to_list (on_of (accepted_as picture ask (is_open (stored_members worker es) worker ask.conn)))))
     ≡ (accepted picture ask worker (stored_members worker es)).opened
 accept_opens picture ask worker es = by (is_open (stored_members worker es) worker ask.conn) refl
   where
     by : (a : Bool) → is_open (stored_members worker es) worker ask.conn ≡ a
-        → stored_members worker (es ++ map (λ (on : ℕ × Option ℕ). (ask.conn, on)) (option_to_list (on_of (accepted_as picture ask (is_open (stored_members worker es) worker ask.conn)))))
+        → stored_members worker (es ++ map (λ (on : On). (ask.conn, on)) (option_to_list (on_of (accepted_as picture ask (is_open (stored_members worker es) worker ask.conn)))))
         ≡ (accepted picture ask worker (stored_members worker es)).opened
     by true is = simp is (ap (stored_members worker) (append-nil es))
     by false is = simp is
-        (map-append (member_of worker) es (map (λ (on : ℕ × Option ℕ). (ask.conn, on)) (option_to_list (chosen_on (choice_of picture ask))))
+        (map-append (member_of worker) es (map (λ (on : On). (ask.conn, on)) (option_to_list (chosen_on (choice_of picture ask))))
         ∙ ap (λ l. stored_members worker es ++ l) (chosen_opens worker ask.conn (choice_of picture ask)))
 
 -- and only where the number isn't open
@@ -243,12 +238,12 @@ opens_apart picture ask true some = absurd (cc)
 opens_apart picture ask false some = refl
 
 -- what isn't open isn't in the map
-pub absent : (found : Option (ℕ × Option ℕ)) → is_some found ≡ false → found ≡ None
+pub absent : (found : Option On) → is_some found ≡ false → found ≡ None
 absent None none = refl
 absent (Some on) none = absurd (true≢false none)
 
 -- where none of the worker's number is open, it stores none
-pub none_stored : (worker : ℕ) (es : List (ℕ × (ℕ × Option ℕ))) → SameOpen worker (stored_members worker es) [] → es ≡ []
+pub none_stored : (worker : ℕ) (es : List (ℕ × On)) → SameOpen worker (stored_members worker es) [] → es ≡ []
 none_stored worker [] none = refl
 none_stored worker (e ∷ es) none =
     absurd (let never : member_of worker e ∷ filter (is_member worker e.0) (stored_members worker es) ≡ [] =
@@ -262,7 +257,7 @@ pub none_same : (worker : ℕ) (opened : List OpenMember) → opened ≡ [] → 
 none_same worker opened none connection = ap (filter (is_member worker connection)) none
 
 -- and the other way, of the connections that it stores
-pub none_shown : (number worker : ℕ) (opened : List OpenMember) (es : List (ℕ × (ℕ × Option ℕ))) → worker ≡ number → stored_members worker es ≡ opened
+pub none_shown : (number worker : ℕ) (opened : List OpenMember) (es : List (ℕ × On)) → worker ≡ number → stored_members worker es ≡ opened
     → SameOpen number opened [] → es ≡ []
 none_shown number worker opened es is shown none =
     none_stored worker es

@@ -8,8 +8,8 @@ use std::marker::Model;
 /// How many accepts and closes a worker may make between two settles.
 pub(crate) const BATCH_LIMIT: usize = 256;
 
-/// What a worker did since it settled: accepts and closes, in order, with how they were answered. It has room for as many as
-/// there may be between two settles, 256.
+/// What a worker did since it settled: accepts and closes, in order, with how they were answered.
+/// It has room for as many as there may be between two settles, 256.
 #[derive(Drop)]
 pub struct Batch {
     worker: u32,

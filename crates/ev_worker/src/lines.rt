@@ -39,10 +39,12 @@ pub struct BatchLine {
     pub outcome: Outcome,
 }
 
-/// What a worker takes over when it settles: which of its connections were closed, and the last picture with its version.
+/// What a worker takes over when it settles: which of its connections were closed,
+/// which moved to a listener that keeps their chain, and the last picture with its version.
 #[derive(Drop)]
 pub struct Settled {
     pub closed: Seq<u64>,
+    pub moved: Seq<u64>,
     pub version: u64,
     pub snapshot: Arc<Snapshot>,
 }

@@ -5,11 +5,11 @@ ghost use Rattle.ev_model.specs.World.{OpenMember};
 ghost use Rattle.ev_model.specs.Connections.{closed, is_open};
 ghost use Rattle.ev_model.specs.Operations.{batch_limit};
 ghost use Rattle.ev_worker.specs.Batches.{accepted_as, accepted_answer, accept_line, close_line, closed_as, closed_answer};
-ghost use Rattle.ev_worker.specs.Workers.{HasNoneOpen, IsMadeFrom, SameOpen, SettlesBy, acceptance, without_numbers};
+ghost use Rattle.ev_worker.specs.Workers.{HasNoneOpen, IsMadeFrom, SameOpen, SettlesBy, acceptance, left_after};
 
 use crate::batches::{BATCH_LIMIT, Batch};
 use crate::lines::{Accepted, BatchLine, Closed, Outcome, Settled};
-use crate::members::{Members, close, close_all, on_of, open_on};
+use crate::members::{Members, close, close_all, move_all, on_of, open_on};
 use ev_keys::Keys;
 use ev_snapshot::Snapshot;
 use ev_types::{Ask, Event, Shared};
@@ -18,8 +18,8 @@ use std::alloc::{AllocError, Global};
 use std::marker::Model;
 use std::sync::Arc;
 
-/// A worker: the snapshot that it serves from, the connections that it has open, and what it did since it settled. It answers
-/// by these alone, and asks no one.
+/// A worker: the snapshot that it serves from, the connections that it has open,
+/// and what it did since it settled. It answers by these alone, and asks no one.
 #[derive(Drop)]
 pub struct Worker {
     snapshot: Arc<Snapshot>,
@@ -41,8 +41,8 @@ impl Model for Worker {
 }
 
 impl Worker {
-    /// A worker that has nothing open and serves from this snapshot. The numbers of its connections hash by these keys. It takes
-    /// the memory for its first 256 lines.
+    /// A worker that has nothing open and serves from this snapshot.
+    /// The numbers of its connections hash by these keys. It takes the memory for its first 256 lines.
     pub fn new(
         alloc: Global,
         keys: Keys,
@@ -101,9 +101,9 @@ impl Worker {
         &self.batch
     }
 
-    /// Accepts a connection at a line of the script, where the batch has room: it goes where the worker's picture says, and is
-    /// open from then on where there is a listener; where the worker has one of this number open, nothing is done. The line
-    /// joins the batch. It takes no memory.
+    /// Accepts a connection at a line of the script, where the batch has room:
+    /// it goes where the worker's picture says, and is open from then on where there is a listener;
+    /// where the worker has one of this number open, nothing is done. The line joins the batch. It takes no memory.
     pub fn accept(&mut self, at: u32, ask: Shared<Ask>) -> Accepted
         requires room { length self.old.lines < batch_limit }
         ensures answer { result ≡ accepted_as self.old.picture ask (is_open self.old.opened self.old.number ask.conn) }
@@ -136,8 +136,8 @@ impl Worker {
         }
     }
 
-    /// Closes a connection at a line of the script, where the batch has room; where the worker has none of this number open,
-    /// nothing is done. The line joins the batch. It takes no memory.
+    /// Closes a connection at a line of the script, where the batch has room;
+    /// where the worker has none of this number open, nothing is done. The line joins the batch. It takes no memory.
     pub fn close(&mut self, at: u32, conn: u64) -> Closed
         requires room { length self.old.lines < batch_limit }
         ensures answer { result ≡ closed_as (is_open self.old.opened self.old.number conn) }
@@ -165,18 +165,26 @@ impl Worker {
         self.members.reserve(BATCH_LIMIT)
     }
 
-    /// Settles: the connections that were closed are gone, the snapshot is the new one, and the batch is empty, with room for
-    /// 256 lines. `prepare` took the memory before, and no line came since.
+    /// Settles: the connections that were closed are gone, those that moved are on the listeners
+    /// of the new snapshot that keep their chains, the snapshot is the new one, and the batch is empty,
+    /// with room for 256 lines. `prepare` took the memory before, and no line came since.
+    /// It looks at no other connections.
     pub fn adopt(&mut self, settled: Settled)
         requires prepared { batch_limit ≤ self.old.spare }
         ensures number { self.new.number ≡ self.old.number }
         ensures picture { self.new.picture ≡ arc_value settled.snapshot }
         ensures lines { self.new.lines ≡ [] }
-        ensures opened { SameOpen self.old.number self.new.opened (without_numbers settled.closed self.old.opened) }
+        ensures opened { SameOpen self.old.number self.new.opened
+            (left_after settled.closed settled.moved (arc_value settled.snapshot).shown self.old.opened) }
         ensures begins { IsMadeFrom self.new.opened self.new }
-        ensures world { SettlesBy settled.closed (arc_value settled.snapshot) self.old self.new }
+        ensures world { SettlesBy settled.closed settled.moved (arc_value settled.snapshot) self.old self.new }
     {
         close_all(&mut self.members, settled.closed.as_slice());
+        move_all(
+            &mut self.members,
+            &*settled.snapshot,
+            settled.moved.as_slice(),
+        );
         self.batch.clear();
         self.snapshot = settled.snapshot;
     }

@@ -1,4 +1,5 @@
-//! Reads each line of its input by `serde_json` alone, for bench/replay to measure beside the program. It prints how many lines are JSON.
+//! Reads each line of its input by `serde_json` alone, for bench/replay to measure beside the program.
+//! It prints how many lines are JSON.
 #![tactic(auto)]
 
 use anyhow::Result;

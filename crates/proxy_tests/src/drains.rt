@@ -3,7 +3,7 @@ ghost use Rattle.std.specs.Prelude.{◌≡◌, ◌<◌, ◌-◌, [], OnOk};
 
 use ev_drain::{Deferred, Drain, Shows};
 use ev_keys::Keys;
-use ev_ledger::Ledger;
+use ev_ledger::{Ledger, On};
 use ev_types::{Content, Format, Gen, GenRow, Kind, Name, RouteTable, RowStatus, Seq, Shared};
 use std::alloc::Global;
 use std::hash::DefaultHasher;
@@ -48,7 +48,8 @@ fn retire(alloc: Global, drain: &mut Drain, name: &Name) -> Result<(), Fail>
     Ok(drain.retire(alloc, Kind::Lds, Gen::new(1), name, false)?)
 }
 
-// By the rules of format 1 a connection holds the listener, and a picture that shows it; by those of format 2 its drain timeout too.
+// By the rules of format 1 a connection holds the listener, and a picture that shows it;
+// by those of format 2 its drain timeout too.
 fn hold(
     rt: &impl Abort,
     alloc: Global,
@@ -82,7 +83,12 @@ fn go(
     requires nothing { drain.old ≡ [] }
     requires closed { open.old ≡ [] }
 {
-    open.open(0, 1, Gen::new(1), None)?;
+    let on = On {
+        listener: Gen::new(1),
+        cluster: None,
+        origin: None,
+    };
+    open.open(0, 1, on)?;
     let name = Name::new(alloc, "in")?;
     retire(alloc, drain, &name)?;
     hold(rt, alloc, drain, open, closed)?;
@@ -113,6 +119,7 @@ fn row(alloc: Global, number: Gen) -> Result<GenRow, Fail> {
         name,
         content: Content::Routes(table),
         status: RowStatus::Dropped,
+        kept: Seq::new(alloc),
     })
 }
 

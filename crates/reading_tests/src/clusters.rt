@@ -1,10 +1,11 @@
 use ev_cluster_json::{read_assignment, read_cluster};
-use ev_types::{Assignment, Cluster, Discovery, Profile};
+use ev_types::{Assignment, Cluster, Discovery, Profile, Reference, Seq};
 use serde_json::Value;
 use std::alloc::{AllocError, Global};
 use std::test::Fail;
 
-// Clusters, each after what it reads as: each rule alone, beside a lower and a higher one, and the fields that aren't looked at.
+// Clusters, each after what it reads as: each rule alone, beside a lower and a higher one,
+// and the fields that aren't looked at.
 pub(crate) const CLUSTERS: &str = r#"[
   ["V8", {"name":"a","type":"EDS"}],
   ["V6", {"name":"a","type":"EDS","edsClusterConfig":{},"eds_cluster_config":{}}],
@@ -33,7 +34,8 @@ pub(crate) const CLUSTERS: &str = r#"[
   ["a by a, limited true, fresh false, checked false", {"name":"a","type":"EDS","edsClusterConfig":{"edsConfig":{"ads":{}}},"loadAssignment":7}],
   ["a static, checked false", {"name":"a","type":null,"loadAssignment":null,"edsClusterConfig":null,"healthChecks":null}],
   ["V6", {"name":"a","loadAssignment":7}],
-  ["V6", {"name":"a","edsClusterConfig":{"edsConfig":"ads"}}]
+  ["V6", {"name":"a","edsClusterConfig":{"edsConfig":"ads"}}],
+  ["a static, checked false", {"name":"a","transportSocket":7,"transportSocketMatches":{}}]
 ]"#;
 
 // The same as Envoy reads them.
@@ -48,10 +50,24 @@ pub(crate) const ENVOY_CLUSTERS: &str = r#"[
   ["V8", {"name":"a","type":"EDS"}],
   ["V9", {"name":"a","type":"EDS","clusterType":{},"edsClusterConfig":{"edsConfig":{"ads":{}}}}],
   ["V9", {"name":"a","type":"LOGICAL_DNS","edsClusterConfig":{"edsConfig":{"ads":{}}}}],
-  ["V10", {"name":"a","type":"EDS","edsClusterConfig":{"edsConfig":{"ads":{},"path":"/x"}}}]
+  ["V10", {"name":"a","type":"EDS","edsClusterConfig":{"edsConfig":{"ads":{},"path":"/x"}}}],
+  ["a static, checked false secret c secret v unlimited", {"name":"a","transportSocket":{"typedConfig":{"@type":"type.googleapis.com/envoy.extensions.transport_sockets.tls.v3.UpstreamTlsContext","commonTlsContext":{"tlsCertificateSdsSecretConfigs":[{"name":"c","sdsConfig":{"ads":{}}},{"name":"boot"}],"combinedValidationContext":{"validationContextSdsSecretConfig":{"name":"v","sdsConfig":{"ads":{},"initialFetchTimeout":"0s"}}}}}}}],
+  ["a static, checked false secret v", {"name":"a","transportSocket":{"typedConfig":{"@type":"x","transportSocket":{"typedConfig":{"@type":"type.googleapis.com/envoy.extensions.transport_sockets.quic.v3.QuicUpstreamTransport","upstreamTlsContext":{"commonTlsContext":{"validationContextSdsSecretConfig":{"name":"v","sdsConfig":{"self":{}}}}}}}}}}],
+  ["a static, checked false", {"name":"a","transportSocket":{"typedConfig":{"@type":"x","transportSocket":{"typedConfig":{"@type":"y","transportSocket":7}}}}}],
+  ["a static, checked false by match", {"name":"a","transportSocketMatches":[{"name":"m"}]}],
+  ["a static, checked false by match secret v", {"name":"a","transportSocketMatches":[{},{"transportSocket":{"typedConfig":{"@type":"type.googleapis.com/envoy.extensions.transport_sockets.tls.v3.UpstreamTlsContext","commonTlsContext":{"validationContextSdsSecretConfig":{"name":"v","sdsConfig":{"path":"/x"}}}}}}]}],
+  ["a static, checked false", {"name":"a","transportSocketMatches":[]}],
+  ["V2", {"name":"a","transportSocket":{"typedConfig":{"@type":"type.googleapis.com/envoy.extensions.transport_sockets.tls.v3.UpstreamTlsContext","commonTlsContext":{"validationContextSdsSecretConfig":{"sdsConfig":{"ads":{}}}}}}}],
+  ["V2", {"name":"a","transportSocket":{"typedConfig":{"@type":"type.googleapis.com/envoy.extensions.transport_sockets.tls.v3.UpstreamTlsContext","commonTlsContext":{"validationContextSdsSecretConfig":{"name":"^x","sdsConfig":7}}}}}],
+  ["V10", {"name":"a","transportSocket":{"typedConfig":{"@type":"type.googleapis.com/envoy.extensions.transport_sockets.tls.v3.UpstreamTlsContext","commonTlsContext":{"validationContextSdsSecretConfig":{"name":"v","sdsConfig":{}}}}}}],
+  ["V6", {"name":"a","transportSocket":{"typedConfig":{"@type":"type.googleapis.com/envoy.extensions.transport_sockets.tls.v3.UpstreamTlsContext","commonTlsContext":{"validationContextSdsSecretConfig":{"name":"v","sdsConfig":7}}}}}],
+  ["V6", {"name":"a","transportSocket":{"typedConfig":{"@type":"type.googleapis.com/envoy.extensions.transport_sockets.tls.v3.UpstreamTlsContext","commonTlsContext":{"validationContextSdsSecretConfig":{"name":7}}}}}],
+  ["a static, checked false", {"name":"a","transportSocket":{"typedConfig":{"@type":"type.googleapis.com/envoy.extensions.transport_sockets.tls.v3.UpstreamTlsContext","commonTlsContext":{"validationContextSdsSecretConfig":{"name":""}}}}}],
+  ["V6", {"name":"a","transportSocket":{"typedConfig":{"@type":7}}}]
 ]"#;
 
-// The same of assignments: `address:port*weight@priority` of each host, with `+` where it is usable and `-` where it isn't.
+// The same of assignments: `address:port*weight@priority` of each host,
+// with `+` where it is usable and `-` where it isn't.
 pub(crate) const ASSIGNMENTS: &str = r#"[
   ["a:1*1@0- ", {"endpoints":[{"lbEndpoints":[{%,"healthStatus":"UNHEALTHY"}]}]}],
   ["a:1*1@128- a:1*1@128- ", {"clusterName":"","endpoints":[{"lb_endpoints":[{%,"healthStatus":"UNHEALTHY"},{%,"healthStatus":"UNHEALTHY"}],"priority":"128"}]}],
@@ -102,8 +118,33 @@ pub(crate) const AN_ASSIGNMENT: &str = r#"[
             {"endpoint":{"address":{"socketAddress":{"address":"::1","portValue":0}}}}]}]}]
 ]"#;
 
-// A cluster in words: its name, how it comes by its hosts, and whether they are checked.
+// A cluster in words: its name, how it comes by its hosts, whether they are checked, and the secrets that it waits for.
 fn describe_cluster(alloc: Global, cluster: &Cluster) -> Result<String, AllocError> {
+    let mut text = describe_hosts(alloc, cluster)?;
+    describe_references(&mut text, " secret ", &cluster.secrets)?;
+    if let Some(secrets) = &cluster.secrets_by_match {
+        text.push_str(" by match")?;
+        describe_references(&mut text, " secret ", secrets)?;
+    }
+    Ok(text)
+}
+
+// References in words, each after a word.
+pub(crate) fn describe_references(
+    text: &mut String,
+    word: &str,
+    references: &Seq<Reference>,
+) -> Result<(), AllocError> {
+    for reference in references.as_slice() {
+        text.push_str(word)?;
+        text.push_str(reference.name.as_str())?;
+        text.push_str(if reference.limited { "" } else { " unlimited" })?;
+    }
+    Ok(())
+}
+
+// A cluster in words but for its secrets.
+fn describe_hosts(alloc: Global, cluster: &Cluster) -> Result<String, AllocError> {
     let (name, checked) = (cluster.name.as_str(), cluster.checked);
     match &cluster.discovery {
         Discovery::Static(_) => format!(in alloc; "{name} static, checked {checked}"),

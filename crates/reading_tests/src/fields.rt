@@ -3,13 +3,13 @@ use ev_tree::{
     config_source, duration, enumeration, field, is_not_positive, list, member, number32, object,
     text,
 };
-use ev_types::Profile;
+use ev_types::{Profile, Rule};
 use serde_json::Value;
 use std::alloc::Global;
 use std::process::Abort;
 use std::test::Fail;
 
-const WRONG: ReadError = ReadError::Rule(6);
+const WRONG: ReadError = ReadError::Rule(Rule::V6);
 
 // Fields, each after the number that it writes.
 pub(crate) const NUMBERS: &str = r#"[
@@ -245,7 +245,7 @@ fn assert_inner_fields(rt: &impl Abort, alloc: Global, value: &Value) -> Result<
 // Asserts which of several broken rules is the least.
 fn assert_least_rules(rt: &impl Abort) {
     let late = BrokenRules {
-        v27: true,
+        v29: true,
         ..BrokenRules::none()
     };
     let early = BrokenRules {
@@ -254,7 +254,7 @@ fn assert_least_rules(rt: &impl Abort) {
         ..BrokenRules::none()
     };
     assert_eq!(rt; BrokenRules::none().least(), None);
-    assert_eq!(rt; late.least(), Some(27));
-    assert_eq!(rt; late.or(early).least(), Some(9));
+    assert_eq!(rt; late.least(), Some(Rule::V29));
+    assert_eq!(rt; late.or(early).least(), Some(Rule::V9));
     assert_eq!(rt; late.or(early.only_if(false)), late);
 }

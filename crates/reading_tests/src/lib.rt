@@ -1,5 +1,6 @@
-//! Tests of the crates that read and write JSON, as tables: each row of a table is a body of JSON after what it reads as. Beside
-//! them fields of each form, and the texts that are written. It has no code but tests.
+//! Tests of the crates that read and write JSON, as tables:
+//! each row of a table is a body of JSON after what it reads as.
+//! Beside them fields of each form, and the texts that are written. It has no code but tests.
 #![tactic(auto)]
 
 #[cfg(test)]

@@ -1,3 +1,4 @@
+use crate::clusters::describe_references;
 use ev_listener_json::read_listener;
 use ev_types::{
     CidrRange, FilterChain, FilterChainMatch, Ip, Listener, Profile, Seq, Serve, SourceType,
@@ -7,24 +8,25 @@ use serde_json::Value;
 use std::alloc::{AllocError, Global};
 use std::test::Fail;
 
-// The listener as text: its marks, each chain, and what is served where none takes a connection.
+// The listener as text: each chain, and what is served where none takes a connection.
 fn describe(alloc: Global, listener: &Listener) -> Result<String, AllocError> {
     let name = listener.name.as_str();
     let address = listener.address.host.address.as_str();
     let port = listener.address.host.port;
     let mut text = format!(in alloc; "{name} at {address}:{port}")?;
     describe_marks(&mut text, listener)?;
+    describe_references(&mut text, " extension ", &listener.extensions)?;
     for chain in listener.filter_chains.as_slice() {
         describe_chain(alloc, &mut text, chain)?;
     }
-    if let Some(serve) = &listener.default_filter_chain {
-        text.push_str(" else ")?;
-        text.push_str(describe_serve(alloc, serve)?.as_str())?;
+    if let Some(chain) = &listener.default_filter_chain {
+        text.push_str(" else")?;
+        describe_chain(alloc, &mut text, chain)?;
     }
     Ok(text)
 }
 
-// How it listens, and what it does with redirected connections, as text.
+// The marks of a listener, as text.
 fn describe_marks(text: &mut String, listener: &Listener) -> Result<(), AllocError> {
     text.push_str(if listener.address.udp { " by UDP" } else { "" })?;
     text.push_str(if listener.takes_every_address {
@@ -40,11 +42,13 @@ fn describe_marks(text: &mut String, listener: &Listener) -> Result<(), AllocErr
     })
 }
 
-// A chain as text: what it asks for, and what it serves.
+// A chain as text: what it asks for, what it serves, and what it waits for beside its routes.
 fn describe_chain(alloc: Global, text: &mut String, chain: &FilterChain) -> Result<(), AllocError> {
     describe_criteria(alloc, text, chain.criteria.get())?;
     text.push_str(" serves ")?;
-    text.push_str(describe_serve(alloc, &chain.serve)?.as_str())
+    text.push_str(describe_serve(alloc, &chain.serve)?.as_str())?;
+    describe_references(text, " secret ", &chain.secrets)?;
+    describe_references(text, " extension ", &chain.extensions)
 }
 
 // What a chain asks for, as text.
@@ -56,51 +60,56 @@ fn describe_criteria(
     if let Some(port) = criteria.destination_port {
         text.push_str(format!(in alloc; " port {port}")?.as_str())?;
     }
-    for range in criteria.prefix_ranges.as_slice() {
-        describe_range(alloc, text, range)?;
-    }
+    describe_ranges(alloc, text, "", &criteria.prefix_ranges)?;
     describe_texts(text, " name ", &criteria.server_names)?;
     if let Some(transport) = &criteria.transport_protocol {
         text.push_str(" over ")?;
         text.push_str(transport.as_str())?;
     }
     describe_texts(text, " protocol ", &criteria.application_protocols)?;
-    describe_source(alloc, text, criteria)
+    describe_sources(alloc, text, criteria)
 }
 
 // What a chain asks of where a connection comes from, as text.
-fn describe_source(
+fn describe_sources(
     alloc: Global,
     text: &mut String,
     criteria: &FilterChainMatch,
 ) -> Result<(), AllocError> {
-    for range in criteria.direct_source_prefix_ranges.as_slice() {
-        text.push_str(" direct")?;
-        describe_range(alloc, text, range)?;
-    }
+    describe_ranges(
+        alloc,
+        text,
+        " directly from",
+        &criteria.direct_source_prefix_ranges,
+    )?;
     text.push_str(match criteria.source_type {
         Some(SourceType::SameIpOrLoopback) => " from here",
         Some(SourceType::External) => " from elsewhere",
         None => "",
     })?;
-    for range in criteria.source_prefix_ranges.as_slice() {
-        text.push_str(" source")?;
-        describe_range(alloc, text, range)?;
-    }
+    describe_ranges(alloc, text, " from", &criteria.source_prefix_ranges)?;
     for port in criteria.source_ports.as_slice() {
-        text.push_str(format!(in alloc; " source port {port}")?.as_str())?;
+        text.push_str(format!(in alloc; " from port {}", *port)?.as_str())?;
     }
     Ok(())
 }
 
-// A range as text: its family, its bits as a number, and its length.
-fn describe_range(alloc: Global, text: &mut String, range: &CidrRange) -> Result<(), AllocError> {
-    let length = range.prefix_len;
-    let told = match range.prefix {
-        Ip::V4(bits) => format!(in alloc; " IPv4 {bits}/{length}")?,
-        Ip::V6(bits) => format!(in alloc; " IPv6 {bits}/{length}")?,
-    };
-    text.push_str(told.as_str())
+// Ranges as text, each after a word: its family, its bits as a number, and its length.
+fn describe_ranges(
+    alloc: Global,
+    text: &mut String,
+    word: &str,
+    ranges: &Seq<CidrRange>,
+) -> Result<(), AllocError> {
+    for range in ranges.as_slice() {
+        let length = range.prefix_len;
+        let told = match range.prefix {
+            Ip::V4(bits) => format!(in alloc; "{word} IPv4 {bits}/{length}")?,
+            Ip::V6(bits) => format!(in alloc; "{word} IPv6 {bits}/{length}")?,
+        };
+        text.push_str(told.as_str())?;
+    }
+    Ok(())
 }
 
 // Each of these texts after a word.
@@ -249,44 +258,34 @@ pub(crate) const ENVOY_LISTENERS: &str = r#"[
   ["in at 0.0.0.0:80 and every address serves cluster c", {"address":{"socket_address":{"address":"0.0.0.0","port_value":80}}}],
   ["in at internal:in:0 serves cluster c", {"address":null,"internal_listener":{}}],
   ["in at api:in:0 serves 0 hosts", {"address":null,"internal_listener":{},"api_listener":{"api_listener":{"@type":"type.googleapis.com/envoy.extensions.filters.network.http_connection_manager.v3.HttpConnectionManager","route_config":{}}},"filter_chains":7,"default_filter_chain":{}}],
-  ["in at 10.1.0.1:8080 else other", {"filter_chains":[],"default_filter_chain":{"filter_chain_match":7}}],
+  ["in at 10.1.0.1:8080 else serves other", {"filter_chains":[],"default_filter_chain":{"filter_chain_match":7}}],
   ["in at 10.1.0.1:8080 serves other", {"filter_chains":[{"filters":[{"typed_config":{"@type":"x"}}]}]}],
   ["in at 10.1.0.1:8080 port 80 IPv4 10/8 IPv6 0/0 name *.a over tls protocol h2 protocol H serves other", {"filter_chains":[{"filter_chain_match":{"destination_port":80,"prefix_ranges":[{"address_prefix":"10.1.2.3","prefix_len":8},{"address_prefix":"::1"}],"server_names":["*.A"],"transport_protocol":"tls","application_protocols":["h2","H"]}}]}],
-  ["in at 10.1.0.1:8080 serves other source port 1 serves other", {"filter_chains":[{"filter_chain_match":{"transport_protocol":"","source_type":"ANY"}},{"filter_chain_match":{"source_ports":["1"]}}]}],
-  ["in at 10.1.0.1:8080 direct IPv4 10/8 from here source IPv6 0/0 source port 1 source port 65535 serves other from elsewhere serves other", {"filter_chains":[{"filter_chain_match":{"direct_source_prefix_ranges":[{"address_prefix":"10.1.2.3","prefix_len":8}],"sourceType":"SAME_IP_OR_LOOPBACK","source_prefix_ranges":[{"address_prefix":"::1"}],"source_ports":[1,65535]}},{"filter_chain_match":{"source_type":2}}]}],
-  ["in at a:1 by UDP serves cluster c", {"address":{"socketAddress":{"address":"a","portValue":1,"protocol":"UDP"}}}],
-  ["in at a:1 by UDP", {"address":{"socket_address":{"address":"a","port_value":1,"protocol":1}},"filter_chains":[]}],
-  ["in at 10.1.0.1:8080 restores hands over serves cluster c", {"use_original_dst":true}],
-  ["in at 10.1.0.1:8080 restores serves cluster c", {"use_original_dst":false,"listenerFilters":[{},{"name":"envoy.filters.listener.original_dst"}]}],
-  ["in at 10.1.0.1:8080 restores serves cluster c", {"listener_filters":[{"name":7,"typedConfig":{"@type":"type.googleapis.com/envoy.extensions.filters.listener.original_dst.v3.OriginalDst"}}]}],
-  ["in at 10.1.0.1:8080 serves cluster c", {"listener_filters":[{"name":"envoy.filters.listener.original_dst","typed_config":{"@type":"x"}},{"name":"original_dst"}]}],
+  ["in at 10.1.0.1:8080 serves other from port 1 serves other", {"filter_chains":[{"filter_chain_match":{"transport_protocol":"","source_type":"ANY"}},{"filter_chain_match":{"source_ports":["1"]}}]}],
   ["V6", {"api_listener":7,"filter_chains":[]}],
   ["V6", {"internal_listener":7}],
   ["V6", {"default_filter_chain":{"filters":7}}],
   ["V6", {"filter_chains":[{"filter_chain_match":{"destination_port":0}}]}],
   ["V6", {"filter_chains":[{"filter_chain_match":{"source_type":"OTHER"}}]}],
-  ["V6", {"filter_chains":[{"filter_chain_match":{"source_type":3}}]}],
-  ["V6", {"filter_chains":[{"filter_chain_match":{"source_ports":[0]}}]}],
-  ["V6", {"filter_chains":[{"filter_chain_match":{"source_ports":[65536]}}]}],
-  ["V6", {"filter_chains":[{"filter_chain_match":{"source_prefix_ranges":[1]}}]}],
-  ["V6", {"use_original_dst":"true"}],
-  ["V6", {"listener_filters":{}}],
-  ["V6", {"listener_filters":[{"typed_config":{"@type":7}}]}],
-  ["V6", {"address":{"socketAddress":{"address":"","portValue":1,"protocol":"SCTP"}}}],
   ["V14", {"address":null}],
   ["V14", {"address":{},"internal_listener":{}}],
-  ["V14", {"address":{"socketAddress":{"address":"","portValue":1,"protocol":"UDP"}},"filter_chains":[]}],
+  ["in at a:1 by UDP serves cluster c", {"address":{"socketAddress":{"address":"a","portValue":1,"protocol":"UDP"}}}],
   ["V16", {"filter_chains":[]}],
   ["V16", {"filter_chains":[{"filter_chain_match":{"prefix_ranges":[{"address_prefix":"10.0.0.0","prefix_len":33}]}}]}],
-  ["V16", {"filter_chains":[{"filter_chain_match":{"source_prefix_ranges":[{}]}}]}],
-  ["V16", {"filter_chains":[{"filter_chain_match":{"direct_source_prefix_ranges":[{"address_prefix":"a"}]}}]}],
   ["V17", {"api_listener":{}}],
   ["V17", {"api_listener":{"api_listener":{"@type":"type.googleapis.com/envoy.extensions.filters.network.tcp_proxy.v3.TcpProxy","cluster":"c"}}}],
   ["V17", {"filter_chains":[{"filters":[{"typed_config":{"@type":"type.googleapis.com/envoy.extensions.filters.network.tcp_proxy.v3.TcpProxy","cluster":"a"}},{"typed_config":{"@type":"type.googleapis.com/envoy.extensions.filters.network.tcp_proxy.v3.TcpProxy","cluster":"a"}}]}]}],
   ["V26", {"filter_chains":[{"filter_chain_match":{"server_names":["a","b"]}},{"filter_chain_match":{"server_names":["B"]}}]}],
-  ["V26", {"filter_chains":[{"filter_chain_match":{"source_ports":[1,2],"source_type":2}},{"filter_chain_match":{"source_ports":[2,3],"source_type":"EXTERNAL"}}]}],
-  ["in at 10.1.0.1:8080 from here source port 2 serves other from elsewhere source port 2 serves other", {"filter_chains":[{"filter_chain_match":{"source_ports":[2],"source_type":1}},{"filter_chain_match":{"source_ports":[2],"source_type":2}}]}],
-  ["V27", {"filter_chains":[{"filter_chain_match":{"server_names":["*"]}}]}]
+  ["V27", {"filter_chains":[{"filter_chain_match":{"server_names":["*"]}}]}],
+  ["in at 10.1.0.1:8080 serves 0 hosts secret c secret k unlimited extension e extension h", {"filter_chains":[{"transport_socket":{"typed_config":{"@type":"type.googleapis.com/envoy.extensions.transport_sockets.tls.v3.DownstreamTlsContext","commonTlsContext":{"tlsCertificateSdsSecretConfigs":[{"name":"c","sdsConfig":{"ads":{}}}]},"sessionTicketKeysSdsSecretConfig":{"name":"k","sdsConfig":{"ads":{},"initialFetchTimeout":"0s"}}}},"filters":[{"name":"e","configDiscovery":{"configSource":{"ads":{}}}},{"typed_config":{"@type":"type.googleapis.com/envoy.extensions.filters.network.http_connection_manager.v3.HttpConnectionManager","route_config":{},"httpFilters":[{"name":"h","configDiscovery":{"configSource":{"self":{}},"defaultConfig":{}}},{"name":"d","configDiscovery":{"configSource":{"self":{}},"defaultConfig":{},"applyDefaultConfigWithoutWarming":true}},{"name":7}]}}]}]}],
+  ["in at 10.1.0.1:8080 extension l serves cluster c", {"listener_filters":[{"name":"l","configDiscovery":{"configSource":{"ads":{}}}}]}],
+  ["in at 10.1.0.1:8080 serves 0 hosts extension h", {"api_listener":{"api_listener":{"@type":"type.googleapis.com/envoy.extensions.filters.network.http_connection_manager.v3.HttpConnectionManager","route_config":{},"http_filters":[{"name":"h","config_discovery":{"config_source":{"ads":{}}}}]}},"listener_filters":[{"name":"l","configDiscovery":{"configSource":{"ads":{}}}}]}],
+  ["in at 10.1.0.1:8080 restores hands over serves cluster c", {"use_original_dst":true}],
+  ["V10", {"listener_filters":[{"name":"l","configDiscovery":{}}]}],
+  ["V2", {"listener_filters":[{"configDiscovery":{"configSource":{"ads":{}}}}]}],
+  ["V2", {"listener_filters":[{"configDiscovery":7}]}],
+  ["V6", {"listener_filters":[{"name":"l","configDiscovery":7}]}],
+  ["V6", {"default_filter_chain":{"transport_socket":7}}]
 ]"#;
 
 // The same of the members of its connection manager, by the own rules.

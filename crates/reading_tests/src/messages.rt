@@ -17,6 +17,8 @@ pub(crate) const MESSAGES: &str = r#"[
   ["other 7: ", {"typeUrl":"~cluster.v3.cluster","nonce":"7","resources":[{"name":3}]}],
   ["other 7: ", {"typeUrl":"envoy.config.cluster.v3.Cluster","nonce":"7","removedResources":["a"],"removed_resources":["a"]}],
 
+  ["other 7: ", {"typeUrl":"type.googleapis.com/envoy.extensions.transport_sockets.tls.v3.Secret","nonce":"7","resources":[{"name":3}]}],
+
   ["not a response", null],
   ["not a response", []],
   ["not a response", "nonce"],
@@ -69,7 +71,9 @@ pub(crate) const ENVOY_MESSAGES: &str = r#"[
   ["cds 7: a@=cluster b@=V8 c@=heartbeat,ttl ", {"typeUrl":"~cluster.v3.Cluster","nonce":"7","resources":[{"name":"a","resource":{"@type":"~cluster.v3.Cluster","name":"a","type":2}},{"name":"b","resource":{"@type":"~cluster.v3.Cluster","name":"b","type":"EDS"}},{"name":"c","ttl":"1s"}]}],
   ["eds 7: a@=assignment ", {"typeUrl":"~endpoint.v3.ClusterLoadAssignment","nonce":"7","resources":[{"name":"a","resource":{"@type":"~endpoint.v3.ClusterLoadAssignment","clusterName":"a","endpoints":[{"lbEndpoints":[{"endpoint":{"address":{"pipe":{"path":"/x"}}}}]}]}}]}],
   ["lds 7: l@=listener l@=V26 ", {"typeUrl":"~listener.v3.Listener","nonce":"7","resources":[{"name":"l","resource":{"@type":"~listener.v3.Listener","name":"l","internalListener":{},"filterChains":[{}]}},{"name":"l","resource":{"@type":"~listener.v3.Listener","name":"l","internalListener":{},"filterChains":[{},{}]}}]}],
-  ["rds 7: r@=routes ", {"typeUrl":"~route.v3.RouteConfiguration","nonce":"7","resources":[{"name":"r","resource":{"@type":"~route.v3.RouteConfiguration","name":"r","virtualHosts":[{"name":"h","domains":["*"],"routes":[{"match":{"connectMatcher":{}},"filterAction":{}}]}]}}]}]
+  ["rds 7: r@=routes ", {"typeUrl":"~route.v3.RouteConfiguration","nonce":"7","resources":[{"name":"r","resource":{"@type":"~route.v3.RouteConfiguration","name":"r","virtualHosts":[{"name":"h","domains":["*"],"routes":[{"match":{"connectMatcher":{}},"filterAction":{}}]}]}}]}],
+  ["sds 7: s@=secret s@=V28 s@=V28 s@=V6 s@=V6 s@=V3 s@=heartbeat,ttl -t ", {"typeUrl":"type.googleapis.com/envoy.extensions.transport_sockets.tls.v3.Secret","nonce":"7","resources":[{"name":"s","resource":{"@type":"type.googleapis.com/envoy.extensions.transport_sockets.tls.v3.Secret","name":"s","genericSecret":{}}},{"name":"s","resource":{"@type":"type.googleapis.com/envoy.extensions.transport_sockets.tls.v3.Secret","name":"s"}},{"name":"s","resource":{"@type":"type.googleapis.com/envoy.extensions.transport_sockets.tls.v3.Secret","name":"s","tlsCertificate":{},"session_ticket_keys":{}}},{"name":"s","resource":{"@type":"type.googleapis.com/envoy.extensions.transport_sockets.tls.v3.Secret","name":"s","validationContext":[]}},{"name":"s","resource":{"@type":"type.googleapis.com/envoy.extensions.transport_sockets.tls.v3.Secret","name":7,"genericSecret":{}}},{"name":"s","resource":{"@type":"type.googleapis.com/envoy.extensions.transport_sockets.tls.v3.Secret","name":"t"}},{"name":"s","ttl":"1s"}],"removedResources":["t"]}],
+  ["ecds 7: e@=extension e@=V29 e@=V29 e@=V29 e@=V6 e@=V6 ", {"typeUrl":"~core.v3.TypedExtensionConfig","nonce":"7","resources":[{"name":"e","resource":{"@type":"~core.v3.TypedExtensionConfig","name":"e","typedConfig":{"@type":"x","a":1}}},{"name":"e","resource":{"@type":"~core.v3.TypedExtensionConfig","name":"e"}},{"name":"e","resource":{"@type":"~core.v3.TypedExtensionConfig","name":"e","typedConfig":{}}},{"name":"e","resource":{"@type":"~core.v3.TypedExtensionConfig","name":"e","typedConfig":{"@type":""}}},{"name":"e","resource":{"@type":"~core.v3.TypedExtensionConfig","name":"e","typedConfig":7}},{"name":"e","resource":{"@type":"~core.v3.TypedExtensionConfig","name":"e","typedConfig":{"@type":7}}}]}]
 ]"#;
 
 // The word of a kind in the table.
@@ -79,6 +83,8 @@ fn kind_word(kind: Option<Kind>) -> &'static str {
         Some(Kind::Eds) => "eds ",
         Some(Kind::Lds) => "lds ",
         Some(Kind::Rds) => "rds ",
+        Some(Kind::Sds) => "sds ",
+        Some(Kind::Ecds) => "ecds ",
         None => "other ",
     }
 }
@@ -90,7 +96,9 @@ fn body_word(alloc: Global, body: &Body) -> Result<String, AllocError> {
         Body::Good(Content::Assignment(_)) => String::from_str(alloc, "assignment"),
         Body::Good(Content::Listener(_)) => String::from_str(alloc, "listener"),
         Body::Good(Content::Routes(_)) => String::from_str(alloc, "routes"),
-        Body::Bad(rule) => format!(in alloc; "V{rule}"),
+        Body::Good(Content::Secret) => String::from_str(alloc, "secret"),
+        Body::Good(Content::Extension) => String::from_str(alloc, "extension"),
+        Body::Bad(rule) => format!(in alloc; "V{}", rule.number()),
         Body::Beat => String::from_str(alloc, "heartbeat"),
     }
 }

@@ -42,9 +42,9 @@ fn has_lines(alloc: Global, registry: &Registry, lines: &[&str]) -> Result<bool,
     Ok(text.as_slice() == want.as_bytes())
 }
 
-// Whether a registry in which nothing was done takes this response of two clusters. Where it has no memory for it the first time,
-// the journal has to be as before, and it has to take it the second time, with the first picture as the last one still, and with
-// no row that was reaped.
+// Whether a registry in which nothing was done takes this response of two clusters.
+// Where it has no memory for it the first time, the journal has to be as before, and it has to take it the second time,
+// with the first picture as the last one still, and with no row that was reaped.
 fn takes_two_clusters(alloc: Global, registry: &mut Registry, event: &Event) -> Result<bool, Fail>
     requires opened { (world_now registry.old.journaled).made ≡ 0 }
 {
@@ -73,8 +73,8 @@ fn is_of_two(event: &Event) -> bool
     }
 }
 
-// `rt try --test --fail-alloc N` refuses an allocation of the response. What is large is dropped by hand: each way on which it goes by
-// itself costs the proof of all that it has.
+// `rt try --test --fail-alloc N` refuses an allocation of the response. What is large is dropped by hand:
+// each way on which it goes by itself costs the proof of all that it has.
 #[test]
 fn a_registry_enters_what_it_does(rt: HostRuntime) -> Result<(), Fail> {
     has_a_replay();

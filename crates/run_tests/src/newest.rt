@@ -1,4 +1,5 @@
-//! The newest version of a registry at a gate, as it is told to a pass that entered a publication and to one that made no turn.
+//! The newest version of a registry at a gate, as it is told to a pass that entered a publication and
+//! to one that made no turn.
 ghost use Rattle.std.specs.Prelude.{◌≡◌, IsTrue};
 ghost use Rattle.ev_types.specs.Scripts.{items_in};
 ghost use Rattle.ev_actors.specs.Journals.{world_now};

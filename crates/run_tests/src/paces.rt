@@ -1,7 +1,7 @@
 //! A pace that holds actors up until others have stepped, and looks at the last batch of a worker.
 use ev_model::Choice;
 use ev_run::Pace;
-use ev_types::{Actor, Gen};
+use ev_types::{Actor, Gen, Way};
 use ev_worker::{Accepted, Batch, Outcome};
 use std::sync::Wait;
 use std::sync::atomic::{AtomicBool, AtomicU64, Ordering};
@@ -82,7 +82,8 @@ impl Holds {
         self.gave_up.load(Ordering::SeqCst)
     }
 
-    /// Whether a worker came at line 10 with one line, a connection that listener 2 gives to the first host of cluster 1.
+    /// Whether a worker came at line 10 with one line, a connection that listener 2 gives
+    /// to the first host of cluster 1.
     pub fn served(&self) -> bool {
         self.served.load(Ordering::SeqCst)
     }
@@ -102,10 +103,14 @@ impl Pace for Holds {
 
 // Whether the batch of line 10 has one line, whose connection listener 2 gives to the first host of cluster 1.
 fn is_served(at: u32, batch: Option<&Batch>) -> bool {
-    let served = Outcome::Accepted(Accepted::Chosen(Choice::Served {
+    let served = Outcome::Accepted(Accepted::Chosen(Choice::On {
         listener: Gen::new(2),
-        cluster: Gen::new(1),
-        host: 0,
+        chain: None,
+        origin: None,
+        way: Way::Served {
+            cluster: Gen::new(1),
+            host: 0,
+        },
     }));
     let Some(batch) = batch else {
         return false;

@@ -40,8 +40,8 @@ fn given_arguments(rt: &(impl Env + AllocGlobal)) -> Result<Vec<Text>, AllocErro
     }
 }
 
-// The arguments of the command line after the program's name. One that isn't text is an error of another kind than being
-// out of memory.
+// The arguments of the command line after the program's name.
+// One that isn't text is an error of another kind than being out of memory.
 fn arguments_of(rt: &(impl Env + AllocGlobal)) -> io::Result<Vec<Text>> {
     let mut arguments = Vec::new(rt.alloc());
     for argument in std::env::args(rt)?.skip(1) {
@@ -57,9 +57,30 @@ fn report(rt: &impl Eprint, status: Status) -> io::Result<()> {
         Status::Usage => eprintln!(rt;
             "usage: warmgate replay | run | audit | soak SEED COUNT | tls | dns | chains | sotw | dump K"
         ),
-        Status::BadScript { line, kind } => eprintln!(rt; "line {line}: fault {kind}"),
+        Status::BadScript { line, kind } => {
+            let words = words_of(kind);
+            eprintln!(rt; "line {line}: fault {kind}\n{words}")
+        }
         Status::ReadFault => eprintln!(rt; "read fault"),
         Status::WriteFault => eprintln!(rt; "write fault"),
         Status::OutOfMemory => eprintln!(rt; "out of memory"),
+    }
+}
+
+// What a fault of this kind is, in words.
+fn words_of(kind: u8) -> &'static str {
+    match kind {
+        1 => "the line is longer than 4,194,304 bytes",
+        2 => "there are more than 200,000 lines",
+        3 => "the input is longer than 67,108,864 bytes",
+        4 => "the line isn't JSON",
+        5 => "the first line isn't a header",
+        6 => "the line isn't an operation, or one of its members hasn't its form",
+        7 => "the worker isn't below the header's number of workers",
+        8 => "the input is empty",
+        9 => "the journal after the script isn't one of it",
+        10 => "with this line the script that is made is over a limit",
+        11 => "the line uses a private name of the command",
+        _ => "the dump's number is above the journal's entries, or at an accept or a close",
     }
 }

@@ -2,8 +2,9 @@ use crate::script_ends::script_end;
 use std::alloc::Global;
 use std::io;
 
-/// Whether the first bytes of a script of the node `edge-1` with two workers, this many, are reported for what they are. At a line's
-/// end, with its line feed or without, they are a script of the lines up to there; elsewhere their last line is no JSON.
+/// Whether the first bytes of a script of the node `edge-1` with two workers, this many,
+/// are reported for what they are. At a line's end, with its line feed or without,
+/// they are a script of the lines up to there; elsewhere their last line is no JSON.
 pub(crate) fn is_told(alloc: Global, input: &[u8], bytes: usize) -> io::Result<bool> {
     let bytes = bytes.min(input.len());
     let told = script_end(alloc, &input[..bytes])?;

@@ -2,8 +2,8 @@ use std::alloc::Global;
 use std::rt::Files;
 use std::{fs, io};
 
-/// The input or the output of a row: the bytes of the file `NAME.KIND`, or, where there is none, those that the lines of
-/// `NAME.KIND.parts` say. The kind is `in` or `out`.
+/// The input or the output of a row: the bytes of the file `NAME.KIND`, or,
+/// where there is none, those that the lines of `NAME.KIND.parts` say. The kind is `in` or `out`.
 ///
 /// # Errors
 /// Those of reading the files.
@@ -25,9 +25,11 @@ pub(crate) fn read_bytes<R: Files + AllocGlobal>(
     Ok(bytes)
 }
 
-// Adds what a line of parts says: how many lines, a number, a word and their text. By the word `closed` a line feed ends each
-// line, by `open` none does, and blanks after the text make each line this many bytes long; by `numbered` a line feed ends each
-// line, and each `#` of the text stands for the line's number, which counts from the given one.
+// Adds what a line of parts says: how many lines, a number, a word and their text.
+// By the word `closed` a line feed ends each line, by `open` none does,
+// and blanks after the text make each line this many bytes long;
+// by `numbered` a line feed ends each line, and each `#` of the text represents the line's number,
+// which counts from the given one.
 fn add_part(alloc: Global, bytes: &mut Vec<u8>, part: &str) -> io::Result<()> {
     let mut words = part.splitn(4, ' ');
     let count: u32 = words.next().unwrap_or("").parse().unwrap_or(0);

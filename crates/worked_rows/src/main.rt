@@ -1,8 +1,9 @@
-//! The worked rows: scripts with what the program has to write of them, as files. Each name in `rows` is a row: its exit
-//! status, with the line and the kind of the fault where the input is no script, and its arguments. Its input is in
-//! `NAME.in`, and the output that is wanted in `NAME.out`; long ones are made of the pieces in `NAME.in.parts` and
-//! `NAME.out.parts`. The program runs each over memory, compares, and prints a line for each row and the sum. Then it reads inputs of
-//! scripts, and texts of rows and of journals, which are files too.
+//! The worked rows: scripts with what the program has to write of them, as files.
+//! Each name in `rows` is a row: its exit status, with the line and the kind of the fault where the input is no script,
+//! and its arguments. Its input is in `NAME.in`, and the output that is wanted in `NAME.out`;
+//! long ones are made of the pieces in `NAME.in.parts` and `NAME.out.parts`.
+//! The program runs each over memory, compares, and prints a line for each row and the sum.
+//! Then it reads inputs of scripts, and texts of rows and of journals, which are files too.
 #![tactic(auto)]
 
 mod cuts;
@@ -71,8 +72,8 @@ fn try_rows<R: Files + Print + AllocGlobal + Threads + Wait + Sync>(rt: &R) -> i
     println!(rt; "{passed} rows passed, {failed} failed")
 }
 
-// Whether the program ends a row with its status and writes its output, in whatever pieces its input is read, and whether
-// a read that fails is reported, whichever it is, and so a write.
+// Whether the program ends a row with its status and writes its output,
+// in whatever pieces its input is read, and whether a read that fails is reported, whichever it is, and so a write.
 fn passes<R: Files + AllocGlobal + Threads + Wait + Sync>(rt: &R, row: &Row) -> io::Result<bool> {
     let alloc = rt.alloc();
     let name = row.name.as_str();
@@ -102,8 +103,8 @@ fn passes<R: Files + AllocGlobal + Threads + Wait + Sync>(rt: &R, row: &Row) -> 
     Ok(true)
 }
 
-// The devices of a run: how many bytes a read gives, and a write takes, at most, and the number of the read, and of the write, that
-// fails, or 0.
+// The devices of a run: how many bytes a read gives, and a write takes, at most,
+// and the number of the read, and of the write, that fails, or 0.
 #[derive(Clone, Copy)]
 struct Devices {
     piece: usize,
@@ -150,8 +151,8 @@ fn answers<R: Threads + Wait + Sync>(
     Ok(same && row.is_end(status))
 }
 
-// Whether the program, which reads one byte at once, reports that the read of this number fails, or, where the row is no
-// script, its fault, and writes nothing.
+// Whether the program, which reads one byte at once, reports that the read
+// of this number fails, or, where the row is no script, its fault, and writes nothing.
 fn tells_failure<R: Threads + Wait + Sync>(
     rt: &R,
     alloc: Global,
@@ -170,7 +171,8 @@ fn tells_failure<R: Threads + Wait + Sync>(
     Ok(told && nothing)
 }
 
-// Whether the program, which reads one byte at once, ends a row as it has to where each read after the end of the input fails.
+// Whether the program, which reads one byte at once, ends a row as it has to
+// where each read after the end of the input fails.
 fn reads_no_further<R: Threads + Wait + Sync>(
     rt: &R,
     alloc: Global,
@@ -188,7 +190,8 @@ fn reads_no_further<R: Threads + Wait + Sync>(
     Ok(same && row.is_end(status))
 }
 
-// Whether the program reports of each write of a row's output that it fails, with what was written before it in the sink.
+// Whether the program reports of each write of a row's output that it fails,
+// with what was written before it in the sink.
 fn tells_lost_writes<R: Threads + Wait + Sync>(
     rt: &R,
     alloc: Global,

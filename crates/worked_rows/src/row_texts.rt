@@ -1,7 +1,8 @@
-//! Texts of rows and of journals, as files. Each line of `row_texts` begins with `row` where what follows is the text of a row, and
-//! with `none` where it is no row's. Each line of `journals` has four columns: how the reading has to end (how many rows, and 0; or
-//! the line of the first fault after the first line, and its kind, 10 for a failed read), the number of the read that fails, the
-//! journal's first line, and what follows it, with `~` for a line feed.
+//! Texts of rows and of journals, as files. Each line of `row_texts` begins with `row` where
+//! what follows is the text of a row, and with `none` where it is no row's. Each line of `journals` has four columns:
+//! how the reading has to end (how many rows, and 0; or the line of the first fault after the first line, and its kind,
+//! 10 for a failed read), the number of the read that fails, the journal's first line, and what follows it,
+//! with `~` for a line feed.
 
 use crate::journals::is_read;
 use ev_journal::write_row;

@@ -1,6 +1,7 @@
-//! Inputs of scripts, as files. Each line of `inputs` says whether the input is `plain` or an `audit`'s, how the reading has to
-//! end (`whole:WORKERS:AUTO:NODE:LINES`, `journal:WORKERS:AUTO:NODE:LINES:BYTES` or `bad:LINE:KIND`), and the input, with `~` for
-//! a line feed. A plain one is read as a script and as trees. Then the input in `realistic.in` is cut after each of its bytes.
+//! Inputs of scripts, as files. Each line of `inputs` says whether the input is `plain`
+//! or an `audit`'s, how the reading has to end (`whole:WORKERS:AUTO:NODE:LINES`,
+//! `journal:WORKERS:AUTO:NODE:LINES:BYTES` or `bad:LINE:KIND`), and the input, with `~` for a line feed.
+//! A plain one is read as a script and as trees. Then the input in `realistic.in` is cut after each of its bytes.
 
 use crate::cuts::is_told;
 use crate::script_ends::{audited_end, script_end, trees_end};
@@ -59,7 +60,7 @@ fn passes(alloc: Global, line: &str) -> io::Result<bool> {
     Ok(script.as_str() == wanted && trees.as_str() == wanted)
 }
 
-/// The bytes of a text in which `~` stands for a line feed.
+/// The bytes of a text in which `~` represents a line feed.
 ///
 /// # Errors
 /// Out of memory.

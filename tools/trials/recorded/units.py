@@ -17,7 +17,7 @@ from shared import script
 from shared.statuses import WrongInput
 from shared.urls import TYPE, URLS
 
-from trials import content, of_sidecar
+from trials import content
 
 from . import bodies
 from .processes import lines_of
@@ -176,25 +176,23 @@ def wrapped(check, folder):
 
 
 def of_secrets(check, folder):
-    """Where the program reads secrets and extensions they are asked for, and recorded with their insides or without; else they aren't asked for."""
+    """Secrets and extensions are asked for, and recorded with their insides or without."""
     whole = {STATE_OF_THE_WORLD: DISCOVERY + 'DiscoveryResponse', DELTA: DISCOVERY + 'DeltaDiscoveryResponse'}
-    for protocol, is_on, hides in ((DELTA, True, False), (DELTA, True, True), (STATE_OF_THE_WORLD, True, True), (DELTA, False, False)):
-        with of_sidecar(is_on):
-            name = f'secrets-{protocol.split()[0]}-{is_on}-{hides}'
-            replies = Replies(protocol)
-            recording = Recording(folder, name, protocol, replies, hides=hides)
-            recording.connect('n')
-            asked = replies.requests()
-            for kind, body in (('cds', bodies.with_secret('a', 's')), ('lds', bodies.with_extension('l', 'x')), ('sds', bodies.secret('s', b'INSIDE'))):
-                more = {'version_info': '1', 'resources': [bodies.any_of(*body)]} if protocol == STATE_OF_THE_WORLD else {
-                    'resources': [{'name': body[1].name, 'version': '1', 'resource': bodies.any_of(*body)}]}
-                recording.response(CLASSES[whole[protocol]](type_url=URLS[kind], nonce=kind, **more).SerializeToString())
-                asked += replies.requests()
-            recording.close()
+    for protocol, hides in ((DELTA, False), (DELTA, True), (STATE_OF_THE_WORLD, True)):
+        name = f'secrets-{protocol.split()[0]}-{hides}'
+        replies = Replies(protocol)
+        recording = Recording(folder, name, protocol, replies, hides=hides)
+        recording.connect('n')
+        asked = replies.requests()
+        for kind, body in (('cds', bodies.with_secret('a', 's')), ('lds', bodies.with_extension('l', 'x')), ('sds', bodies.secret('s', b'INSIDE'))):
+            more = {'version_info': '1', 'resources': [bodies.any_of(*body)]} if protocol == STATE_OF_THE_WORLD else {
+                'resources': [{'name': body[1].name, 'version': '1', 'resource': bodies.any_of(*body)}]}
+            recording.response(CLASSES[whole[protocol]](type_url=URLS[kind], nonce=kind, **more).SerializeToString())
+            asked += replies.requests()
+        recording.close()
         names = {request['typeUrl']: names for request in asked
                  for names in [request.get('resourceNamesSubscribe') or request.get('resourceNames')] if names}
-        wanted = {URLS['sds']: ['s'], URLS['ecds']: ['x']} if is_on else {}
-        check(names == wanted, f'{name}: what is asked for is {asked}')
+        check(names == {URLS['sds']: ['s'], URLS['ecds']: ['x']}, f'{name}: what is asked for is {asked}')
         files = [file for file in os.listdir(folder) if file.startswith(f'{name}.')]
         written = b''.join(content(f'{folder}/{file}') for file in files)
         inside = base64.b64encode(b'INSIDE')

@@ -1,4 +1,5 @@
--- An input without fault that the source is known to have isn't refused; a failed read is reported where the source didn't give its end.
+-- An input without fault that the source is known to have isn't refused;
+-- a failed read is reported where the source didn't give its end.
 use Rattle.std.proofs.Common.{Err, refl, ap, subst}
 use Rattle.ev_io.specs.declared.faults.ScriptFault.{ScriptFault}
 use Rattle.ev_app.specs.Texts.{IsMade}

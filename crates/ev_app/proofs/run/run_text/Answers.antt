@@ -2,7 +2,7 @@
 use Rattle.std.proofs.Common.{◌≡◌, ◌∙◌, subst}
 use Rattle.ev_types.specs.declared.journals.Format.TheVariants.{Two}
 use Rattle.ev_journal.specs.Rendering.{rendering_of}
-use Rattle.ev_journal_laws.specs.OneJournal.{AreBounded}
+use Rattle.ev_journal_read.specs.OneJournal.{AreBounded}
 use Rattle.ev_app.proofs.RunLemmas.{run_told}
 use Rattle.ev_app.proofs.run.run_text.Goals as goal
 

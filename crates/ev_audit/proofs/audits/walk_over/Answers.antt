@@ -1,8 +1,8 @@
 use Rattle.std.proofs.Common.{◌≡◌, ℕ, Some, length, ap, sym, ◌∙◌, subst, arith}
 use Rattle.ev_types.specs.declared.journals.Format.{Format}
 use Rattle.ev_model.specs.Finding.{end_finding, finding_at, finding_of}
-use Rattle.ev_walk_laws.specs.Walks.{NothingFound}
-use Rattle.ev_walk_laws.proofs.FirstLemmas.{first_found, none_found}
+use Rattle.ev_model_laws.specs.Walks.{NothingFound}
+use Rattle.ev_model_laws.proofs.FirstLemmas.{first_found, none_found}
 use Rattle.ev_audit.specs.Audits.{IsBefore}
 use Rattle.ev_audit.proofs.audits.walk_over.Goals as goal
 

@@ -1,6 +1,6 @@
 use Rattle.std.proofs.Common.{◌∙◌, ap, map, filter}
 use Rattle.ev_model.specs.World.{OpenMember}
-use Rattle.ev_model.specs.Connections.{is_closing}
+use Rattle.ev_chains.specs.Closing.{is_closing}
 use Rattle.ev_chains.specs.Closing.{closed_all}
 use Rattle.ev_chains.proofs.ConnLemmas.{keys_ascending}
 use Rattle.ev_chains.proofs.CloseLemmas.{conns_apart, conns_on_chains, closed_left}

@@ -3,8 +3,8 @@ use Rattle.std.proofs.lemmas.Result.{IfOk-weaker}
 use Rattle.ev_types.specs.Scripts.{IsScript}
 use Rattle.ev_model.specs.Finding.{journal_told}
 use Rattle.ev_model.specs.World.{opening}
-use Rattle.ev_fronts.specs.Fronts.{IsFront}
-use Rattle.ev_fronts.proofs.FrontLemmas.{fronts_are_runs}
+use Rattle.ev_dump.specs.Fronts.{IsFront}
+use Rattle.ev_dump.proofs.FrontLemmas.{fronts_are_runs}
 use Rattle.ev_dump.proofs.StepLemmas.{run_of, steps_again, stepped_of}
 use Rattle.ev_dump.proofs.states.state_after.Goals as goal
 

@@ -7,7 +7,7 @@ use Rattle.ev_gate.proofs.Steps.{closes}
 use Rattle.ev_gate.proofs.calls.take_out.Goals as goal
 use Rattle.ev_gate.proofs.calls.take_out.Goals.{After-take-slot}
 
--- it is a value that stands for the whole history
+-- it is a value that represents the whole history
 last : (g : _) (c : After-take-slot g) → (value : g.row.V.Denot) × (c.take-slot.result ≡ Some value) × IsLast g.V.Stands.opening g.V.Stands.commits c.args.table.shared.key c.args.leader.me.0 value
 last g c =
     let l = closes g.V.Stands.opening g.V.Stands.commits g.V.Stands.version_of c.args.table.shared.key c.args.leader.id c.args.leader.me.0 _ _ c.requires.idle.0 c.requires.idle.1 c.requires.all c.close_with-closed.ensures.values.2 in

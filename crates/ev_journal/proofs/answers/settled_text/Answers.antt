@@ -6,5 +6,8 @@ use Rattle.ev_journal.proofs.answers.settled_text.Goals as goal
 
 pub returns-clause-text : goal.returns-clause-text
 returns-clause-text c =
-    let written : IfOk c.format.result (λ text. string_bytes text ≡ codes "{\"closed\":" ++ (string_bytes c.in_ok-closed.closed ++ (codes ",\"version\":" ++ (decimal c.args.version ++ codes "}")))) = c.format.ensures.ok in
-    IfOk-weaker c.format.result _ _ (λ text e. e ∙ settled (string_bytes c.in_ok-closed.closed) c.args.closed.now c.args.version c.in_ok-closed.ensures.text) written
+    let closed = string_bytes c.in_ok-closed.closed in
+    let moved = string_bytes c.in_ok-moved.moved in
+    let written : IfOk c.format.result (λ text. string_bytes text ≡ codes "{\"closed\":" ++ (closed ++ (codes "," ++ (moved ++ (codes "\"version\":" ++ (decimal c.args.version ++ codes "}")))))) = c.format.ensures.ok in
+    IfOk-weaker c.format.result _ _ (λ text e. e
+    ∙ settled closed moved c.args.closed.now c.args.moved.now c.args.version c.in_ok-closed.ensures.text c.in_ok-moved.ensures.text) written

@@ -6,7 +6,7 @@ use Rattle.ev_types.specs.declared.listeners.FilterChain.{FilterChain}
 use Rattle.ev_tree.specs.Forms.{listed}
 use Rattle.ev_tree.specs.Broken.{either_broken, any_broken}
 use Rattle.ev_tree.proofs.Outcomes.{or_same, and_same, not_same}
-use Rattle.ev_listener_json.specs.Chains.{envoy_chain_of, envoy_chain_broken, chains_of, default_serve, default_broken, given_default_of, given_chains_broken}
+use Rattle.ev_listener_json.specs.Chains.{envoy_chain_of, envoy_chain_broken, chains_of, default_chain, default_broken, given_default_of, given_chains_broken}
 use Rattle.ev_listener_json.proofs.envoy_chains.inspect_given.Goals as goal
 
 pub returns-clause-chains : goal.returns-clause-chains
@@ -15,7 +15,7 @@ returns-clause-chains c = c.in_ok-below.ensures.value ∙ ap (map envoy_chain_of
 
 pub returns-clause-default : goal.returns-clause-default
 unfolding given_default_of
-returns-clause-default c = c.in_ok-last.ensures.value ∙ ap default_serve c.in_ok-default.ensures.value
+returns-clause-default c = c.in_ok-last.ensures.value ∙ ap default_chain c.in_ok-default.ensures.value
 
 pub returns-clause-broken : goal.returns-clause-broken
 unfolding chains_of given_chains_broken

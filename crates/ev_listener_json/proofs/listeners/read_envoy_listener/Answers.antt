@@ -12,7 +12,8 @@ returns-in-Some c =
     let tree = view c.args.value.now in
     let broken = c.or-broken.ensures ∙ (λ i. either_broken
     ((c.in_ok-below.ensures.broken ∙ ap (λ udp. envoy_chains_broken udp tree) c.in_ok-own.ensures.udp) i)
-    ((c.or.ensures ∙ (λ j. either_broken (c.in_ok-redirection.ensures.broken j) (c.in_ok-own.ensures.broken j))) i)) in
+    ((c.or-2.ensures ∙ (λ j. either_broken (c.in_ok-redirection.ensures.broken j)
+    ((c.or.ensures ∙ (λ k. either_broken (c.in_ok-extensions.ensures k).broken (c.in_ok-own.ensures.broken k))) j))) i)) in
     ap (λ rule. judged rule (envoy_listener_of tree)) (sym (ap least_of broken) ∙ sym c.least.ensures ∙ c.in-Some.is)
 
 pub make_name-requires : goal.make_name-requires
@@ -20,7 +21,8 @@ make_name-requires c =
     let tree = view c.args.value.now in
     let broken = c.or-broken.ensures ∙ (λ i. either_broken
     ((c.in_ok-below.ensures.broken ∙ ap (λ udp. envoy_chains_broken udp tree) c.in_ok-own.ensures.udp) i)
-    ((c.or.ensures ∙ (λ j. either_broken (c.in_ok-redirection.ensures.broken j) (c.in_ok-own.ensures.broken j))) i)) in
+    ((c.or-2.ensures ∙ (λ j. either_broken (c.in_ok-redirection.ensures.broken j)
+    ((c.or.ensures ∙ (λ k. either_broken (c.in_ok-extensions.ensures k).broken (c.in_ok-own.ensures.broken k))) j))) i)) in
     let none : least_of (envoy_listener_broken tree) ≡ None = sym (ap least_of broken) ∙ sym c.least.ensures ∙ c.in_default.is in
     ap is_name c.in_ok-own.ensures.name ∙ envoy_name tree none
 
@@ -29,7 +31,8 @@ make_host-requires c =
     let tree = view c.args.value.now in
     let broken = c.or-broken.ensures ∙ (λ i. either_broken
     ((c.in_ok-below.ensures.broken ∙ ap (λ udp. envoy_chains_broken udp tree) c.in_ok-own.ensures.udp) i)
-    ((c.or.ensures ∙ (λ j. either_broken (c.in_ok-redirection.ensures.broken j) (c.in_ok-own.ensures.broken j))) i)) in
+    ((c.or-2.ensures ∙ (λ j. either_broken (c.in_ok-redirection.ensures.broken j)
+    ((c.or.ensures ∙ (λ k. either_broken (c.in_ok-extensions.ensures k).broken (c.in_ok-own.ensures.broken k))) j))) i)) in
     let none : least_of (envoy_listener_broken tree) ≡ None = sym (ap least_of broken) ∙ sym c.least.ensures ∙ c.in_default.is in
     ap is_name (c.as_str-address.ensures.value ∙ c.in_ok-own.ensures.address) ∙ envoy_address tree none
 
@@ -40,7 +43,8 @@ returns c =
     let below = c.in_ok-below.ensures in
     let broken = c.or-broken.ensures ∙ (λ i. either_broken
     ((c.in_ok-below.ensures.broken ∙ ap (λ udp. envoy_chains_broken udp tree) c.in_ok-own.ensures.udp) i)
-    ((c.or.ensures ∙ (λ j. either_broken (c.in_ok-redirection.ensures.broken j) (c.in_ok-own.ensures.broken j))) i)) in
+    ((c.or-2.ensures ∙ (λ j. either_broken (c.in_ok-redirection.ensures.broken j)
+    ((c.or.ensures ∙ (λ k. either_broken (c.in_ok-extensions.ensures k).broken (c.in_ok-own.ensures.broken k))) j))) i)) in
     let none : least_of (envoy_listener_broken tree) ≡ None = sym (ap least_of broken) ∙ sym c.least.ensures ∙ c.in_default.is in
     let text = c.as_str-address.ensures.value ∙ own.address in
     let host = c.in_ok-make_host.ensures ∙ (λ i. record { address = text i; port = own.port i }) in
@@ -53,5 +57,7 @@ returns c =
       hands_over = c.in_ok-redirection.ensures.hands_over i;
       filter_chains = (c.from_vec.ensures.elements ∙ below.chains) i;
       default_filter_chain = below.default i;
+      extensions = (c.in_ok-extensions.ensures i).list;
+      frame_text = c.in_ok-in_place_text.ensures i;
       body_text = c.in_ok-body_text.ensures i;
     }))

@@ -1,7 +1,7 @@
 use Rattle.std.proofs.Common.{◌≡◌, ◌++◌, ℕ, option_map, option_to_list, map, ap, ◌∙◌, arith}
-use Rattle.ev_generations.specs.Tables.{row_in}
-use Rattle.ev_run_laws.specs.ByNumber.{rows_numbered}
-use Rattle.ev_run_laws.proofs.RowLemmas.{rows_by_number}
+use Rattle.ev_indexes.specs.Tables.{row_in}
+use Rattle.ev_model_laws.specs.ByNumber.{rows_numbered}
+use Rattle.ev_model_laws.proofs.RowLemmas.{rows_by_number}
 use Rattle.ev_registry.specs.Views.{view_row}
 use Rattle.ev_registry.proofs.ViewLemmas.{shown_more}
 use Rattle.ev_registry.proofs.views.rows_of.Goals as goal

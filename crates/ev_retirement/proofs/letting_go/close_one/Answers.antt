@@ -14,6 +14,6 @@ returns-clause-goes c =
     (asked_go (is_member c.args.worker c.args.conn) c.args.drain.now c.args.asking.now c.ask_on.new.asking c.args.ledger.now c.ask_on.ensures.more c.in-Ok.ensures.asked)
 
 pub returns-clause-found : goal.returns-clause-found
-returns-clause-found c found =
-    subst (AreFound c.leave.new.self c.args.drain.now) (sym (c.close.ensures.closed ∙ closed_leaves c.args.worker c.args.conn c.args.ledger.now))
-    (found_left (λ m. not (is_member c.args.worker c.args.conn m)) c.args.closing.now c.leave.new.self c.args.drain.now (λ m. c.leave.ensures m.worker m.connection) c.args.ledger.now found)
+returns-clause-found c shown found =
+    subst (AreFound c.leave.new.self c.args.drain.now shown) (sym (c.close.ensures.closed ∙ closed_leaves c.args.worker c.args.conn c.args.ledger.now))
+    (found_left (λ m. not (is_member c.args.worker c.args.conn m)) c.args.closing.now c.leave.new.self c.args.drain.now shown (λ m. c.leave.ensures m.worker m.connection) c.args.ledger.now found)

@@ -9,6 +9,6 @@ use Rattle.ev_retirement.proofs.lines.take_lines.Given as goal
 abbrev pub invariant-loop-line : goal.invariant-loop-line
 invariant-loop-line l = record {
   leads : (opened : List OpenMember) → HasOpened l.initial.ledger opened → Leads l.worker l.ledger (drop l.line-index l.lines) l.lines opened;
-  found : AreFound l.initial.closing l.drain l.initial.ledger → AreFound l.closing l.drain l.ledger;
+  found : AreFound l.initial.closing l.drain l.last.shown l.initial.ledger → AreFound l.closing l.drain l.last.shown l.ledger;
   goes : LetsGo l.drain l.initial.asking l.asking l.initial.ledger l.ledger;
 }

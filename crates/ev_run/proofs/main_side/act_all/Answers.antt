@@ -4,8 +4,8 @@ use Rattle.ev_actors.specs.Journals.{JournalParts}
 use Rattle.ev_commits.specs.Seen.{seen_by}
 use Rattle.ev_operations.specs.declared.due.Due.{Due}
 use Rattle.ev_operations.specs.declared.due.Due.TheVariants.{Line as by_line}
-use Rattle.ev_fits.specs.Acting.{HasDone, IsActingOn}
-use Rattle.ev_fits.proofs.BeginLemmas.{acting_ended, acts_on, next_act}
+use Rattle.ev_run.specs.Acting.{HasDone, IsActingOn}
+use Rattle.ev_run.proofs.BeginLemmas.{acting_ended, acts_on, next_act}
 use Rattle.ev_run.proofs.PlaceLemmas.{begins_with, ok_then}
 use Rattle.ev_run.proofs.main_side.act_all.Goals as goal
 

@@ -1,7 +1,7 @@
 use Rattle.std.proofs.Common.{drop}
 use Rattle.ev_commits.specs.Commits.{seat_of}
 use Rattle.ev_commits.specs.Seen.{seen_by}
-use Rattle.ev_fits.specs.Acting.{IsActingOn}
+use Rattle.ev_run.specs.Acting.{IsActingOn}
 use Rattle.ev_run.specs.Playing.{IsPassAt}
 use Rattle.ev_run.proofs.main_side.act_all.Given as goal
 

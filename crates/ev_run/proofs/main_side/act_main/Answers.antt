@@ -3,7 +3,7 @@ use Rattle.ev_model.specs.Operations.{operations_of}
 use Rattle.ev_commits.specs.Seen.{seen_by}
 use Rattle.ev_operations.specs.Dues.{AreDue}
 use Rattle.ev_operations.specs.declared.due.Due.{Due}
-use Rattle.ev_fits.proofs.BeginLemmas.{begins_acting}
+use Rattle.ev_run.proofs.BeginLemmas.{begins_acting}
 use Rattle.ev_run.proofs.main_side.act_main.Goals as goal
 
 pub act_all-requires-clause-acting : goal.act_all-requires-clause-acting

@@ -4,7 +4,7 @@ use Rattle.ev_model.specs.Operations.{operations_of}
 use Rattle.ev_commits.specs.Seen.{seen_by}
 use Rattle.ev_operations.specs.Dues.{AreDue}
 use Rattle.ev_operations.specs.declared.due.Due.{Due}
-use Rattle.ev_fits.proofs.BeginLemmas.{begins_working}
+use Rattle.ev_run.proofs.BeginLemmas.{begins_working}
 use Rattle.ev_run.proofs.workers.act_worker.Goals as goal
 
 pub work_all-requires-clause-working : goal.work_all-requires-clause-working

@@ -6,8 +6,8 @@ use Rattle.ev_commits.specs.Commits.{seat_of}
 use Rattle.ev_commits.specs.Seen.{seen_by}
 use Rattle.ev_operations.specs.declared.due.Due.{Due}
 use Rattle.ev_operations.specs.declared.due.Due.TheVariants.{Line as by_line}
-use Rattle.ev_fits.specs.Acting.{HasEnded, HasGoneThrough, IsWorkingOn}
-use Rattle.ev_fits.proofs.BeginLemmas.{next_work, working_ended, works_on}
+use Rattle.ev_run.specs.Acting.{HasEnded, HasGoneThrough, IsWorkingOn}
+use Rattle.ev_run.proofs.BeginLemmas.{next_work, working_ended, works_on}
 use Rattle.ev_run.specs.Playing.{IsPassAt}
 use Rattle.ev_run.proofs.PlaceLemmas.{begins_with, ok_then}
 use Rattle.ev_run.proofs.workers.work_all.Goals as goal

@@ -2,7 +2,7 @@ use Rattle.std.proofs.Common.{◌≡◌, drop}
 use Rattle.ev_types.specs.declared.events.Actor.TheVariants.{Worker}
 use Rattle.ev_commits.specs.Commits.{seat_of}
 use Rattle.ev_commits.specs.Seen.{seen_by}
-use Rattle.ev_fits.specs.Acting.{IsWorkingOn}
+use Rattle.ev_run.specs.Acting.{IsWorkingOn}
 use Rattle.ev_run.specs.Playing.{IsPassAt}
 use Rattle.ev_run.proofs.workers.work_all.Given as goal
 

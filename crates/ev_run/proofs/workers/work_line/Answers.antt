@@ -6,7 +6,7 @@ use Rattle.ev_model.specs.Operations.{line_operation}
 use Rattle.ev_worker.specs.Workers.{WorkerParts}
 use Rattle.ev_actors.specs.Journals.{JournalParts}
 use Rattle.ev_commits.specs.Seen.{seen_by}
-use Rattle.ev_fits.specs.Acting.{GoesThrough}
+use Rattle.ev_run.specs.Acting.{GoesThrough}
 use Rattle.ev_run.proofs.WorkerLemmas.{joined_goes, line_settles, settle_line}
 use Rattle.ev_run.proofs.workers.work_line.Goals as goal
 

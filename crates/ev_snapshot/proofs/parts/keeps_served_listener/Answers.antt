@@ -1,7 +1,7 @@
 use Rattle.std.proofs.Common.{◌≡◌, ◌∙◌, ◌&&◌, true, sym, ap}
 use Rattle.ev_model.specs.Picture.{served_listener_same}
 use Rattle.ev_model.specs.declared.pictures.ServedListener.{ServedListener}
-use Rattle.ev_snapshot.specs.Kept.{keeps_name, keeps_number, keeps_served}
+use Rattle.ev_layers.specs.Kept.{keeps_name, keeps_number, keeps_served}
 use Rattle.ev_snapshot.proofs.parts.keeps_served_listener.Goals as goal
 
 pub returns-then-keeps_number : goal.returns-then-keeps_number

@@ -1,7 +1,7 @@
 use Rattle.std.proofs.Common.{◌∙◌, ◌+◌, drop, sym, ap}
 use Rattle.std.proofs.lemmas.List.{drop_all}
 use Rattle.ev_snapshot.specs.Changes.{put_clusters}
-use Rattle.ev_snapshot.proofs.Touched.{drop_at}
+use Rattle.ev_listeners.proofs.Walks.{drop_at}
 use Rattle.ev_snapshot.proofs.parts.put_clusters.Goals as goal
 
 pub loop-change-preserved : goal.loop-change-preserved

@@ -1,6 +1,7 @@
 use Rattle.std.proofs.Common.{◌≡◌, ◌∙◌, IfOk, ap, sym, subst}
 use Rattle.ev_model.specs.declared.pictures.ServedListener.{ServedListener}
-use Rattle.ev_snapshot.specs.Changes.{put_in, put_listener}
+use Rattle.ev_layers.specs.Rows.{put_in}
+use Rattle.ev_snapshot.specs.Changes.{put_listener}
 use Rattle.ev_snapshot.proofs.parts.put_listener.Goals as goal
 
 pub returns-in_ok-shared_listener-in-Some : goal.returns-in_ok-shared_listener-in-Some

@@ -3,7 +3,8 @@ use Rattle.std.proofs.lemmas.List.{drop_all}
 use Rattle.ev_model.specs.declared.pictures.ServedListener.{ServedListener}
 use Rattle.ev_snapshot.specs.Changes.{without}
 use Rattle.ev_snapshot.specs.declared.changes.ListenerChange.{ListenerChange}
-use Rattle.ev_snapshot.proofs.Touched.{drop_at, without_more, without_none}
+use Rattle.ev_listeners.proofs.Walks.{drop_at}
+use Rattle.ev_snapshot.proofs.Touched.{without_more, without_none}
 use Rattle.ev_snapshot.proofs.parts.without_listeners.Goals as goal
 
 pub loop-change-preserved : goal.loop-change-preserved

@@ -1,6 +1,8 @@
-use Rattle.std.proofs.Common.{◌≡◌, ◌++◌, map}
-use Rattle.ev_subscription.specs.Held.{named_version}
+use Rattle.std.proofs.Common.{◌≡◌, ◌++◌}
+use Rattle.ev_model.specs.Versions.{versions_of}
+use Rattle.ev_subscription.specs.Held.{versions_in}
 use Rattle.ev_subscription.proofs.versions.list.Given as goal
 
-abbrev pub invariant-loop-name : goal.invariant-loop-name
-invariant-loop-name l = l.list.items ++ map named_version l.name-iterator ≡ map named_version l.versions.entries
+abbrev pub invariant-loop-key : goal.invariant-loop-key
+invariant-loop-key l =
+    l.list.items ++ versions_of l.kind (versions_in l.key-iterator) ≡ versions_of l.kind (versions_in l.versions.entries)

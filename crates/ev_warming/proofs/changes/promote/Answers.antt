@@ -2,11 +2,11 @@ use Rattle.std.proofs.Common.{◌≡◌, ◌∙◌, ◌||◌, true, option_to_li
 use Rattle.std.proofs.Math.Bool.{or-false}
 use Rattle.ev_types.specs.declared.rows.RowStatus.TheVariants.{Active}
 use Rattle.ev_model.specs.Rows.{with_statuses}
-use Rattle.ev_generations.specs.Tables.{row_in, with_status}
+use Rattle.ev_indexes.specs.Tables.{row_in, with_status}
 use Rattle.ev_indexes.specs.Due.{is_one_of}
 use Rattle.ev_indexes.specs.Standings.{standing_in}
 use Rattle.ev_indexes.specs.Ready.{is_ready_in, is_due_found}
-use Rattle.ev_indexes.specs.Indexes.{name_in}
+use Rattle.ev_indexes.specs.Indexes.{key_in, key_of_row}
 use Rattle.ev_warming.specs.Promotion.{rows_promoted, status_drained}
 use Rattle.ev_warming.specs.Changes.{began_to_drain}
 use Rattle.ev_warming.proofs.DrainLemmas.{due-found, drained-one, drained-more, drained-done}
@@ -29,7 +29,6 @@ loop-number-preserved g c =
       rows = (λ j. rows_promoted (sym same j) t.table.rows) ∙ e.rows ∙ (λ j. rows_promoted (same j) s.table.rows) ∙ i.rows;
       made = e.made ∙ i.made;
       marks = marks-then s0.watches s.watches t.watches i.marks e.marks;
-      kind = (λ j. (e.others j).kind) ∙ i.kind;
       results = (λ j. (e.others j).results) ∙ i.results;
       served = λ n.
           (λ j. is_one_of (c.in_ok-push.ensures.ok j) n || is_one_of t.due n)
@@ -42,8 +41,8 @@ loop-number-preserved g c =
           ∙ drained-more c.loop-number.drained c.promote_one-before.result n (began_to_drain n t.table.rows all) (began_to_drain n s.table.rows all) (began_to_drain n s0.table.rows all)
           (drained-one (is_ready_in s0.watches s0.results) s.table.rows t.table.rows all c.in-Some.number own.0 c.promote_one-before.result
           i.indexed.table.apart own.1 own.2 ((λ j. sym same j own.0) ∙ own.3)
-          ((λ j. option_to_list (e.before j)) ∙ (λ j. option_to_list (standing_in s.names (name_in (own.1 j))).active) ∙ i.indexed.active own.0.name)
-          (e.changed ∙ (λ j. with_status c.in-Some.number Active (with_statuses (status_drained (name_in (own.1 j))) s.table.rows)))
+          ((λ j. option_to_list (e.before j)) ∙ (λ j. option_to_list (standing_in s.names (key_in (own.1 j))).active) ∙ i.indexed.active (key_of_row own.0))
+          (e.changed ∙ (λ j. with_status c.in-Some.number Active (with_statuses (status_drained (key_in (own.1 j))) s.table.rows)))
           i.rows ((λ j. rows_promoted (sym same j) t.table.rows) ∙ e.rows ∙ (λ j. rows_promoted (same j) s.table.rows) ∙ i.rows) n)
           (i.drained n);
       steps = omega (arith, i.steps, e.steps, ap length c.in_ok-push.ensures.ok, length-append c.loop-number.served (c.in-Some.number ∷ []));
@@ -92,5 +91,5 @@ returns-clause-stands g c =
     (λ j. is_ready_in s.watches (i.results j)) ∙ ready-same s0.watches s.watches s0.results i.marks in
     let none : s.due ≡ [] = subst (λ o. IfNone o (s.due ≡ [])) c.in_default.is c.first.ensures.none in
     λ world stands.
-    promoted-stands s0 s world c.requires.indexed stands i.kind i.results i.marks
+    promoted-stands s0 s world c.requires.indexed stands i.made i.results i.marks
     (sym (promoted-done s i.indexed none) ∙ (λ j. rows_promoted (same j) s.table.rows) ∙ i.rows)

@@ -13,7 +13,6 @@ invariant-loop-number g l = record {
       ≡ rows_promoted (is_ready_in l.initial.state.watches l.initial.state.results) l.initial.state.table.rows;
   made : l.state.table.made ≡ l.initial.state.table.made;
   marks : SameMarks l.initial.state.watches l.state.watches;
-  kind : l.state.kind ≡ l.initial.state.kind;
   results : l.state.results ≡ l.initial.state.results;
   served : (n : ℕ) → (is_one_of l.served n || is_one_of l.state.due n) ≡ is_one_of l.initial.state.due n;
   drained : (n : ℕ) → (is_one_of l.drained n || began_to_drain n l.state.table.rows (rows_promoted (is_ready_in l.initial.state.watches l.initial.state.results) l.initial.state.table.rows))

@@ -1,11 +1,10 @@
 use Rattle.std.proofs.Common.{◌≡◌, ◌∙◌, Bool, true, false, cond, sym, refl, None}
-use Rattle.std.specs.Str.{bytes_eq}
 use Rattle.ev_types.specs.Statuses.{is_live}
 use Rattle.ev_types.specs.declared.rows.RowStatus.TheVariants.{Draining, Dropped}
 use Rattle.ev_model.specs.Rows.{removed_status}
-use Rattle.ev_generations.specs.Tables.{with_status}
+use Rattle.ev_indexes.specs.Tables.{with_status}
 use Rattle.ev_indexes.specs.Standings.{standing_in}
-use Rattle.ev_indexes.specs.Indexes.{status_in}
+use Rattle.ev_indexes.specs.Indexes.{is_of, status_in}
 use Rattle.ev_warming.proofs.IndexLemmas.{named-live, removed_status-live, indexed-retired}
 use Rattle.ev_warming.proofs.changes.retire.Goals as goal
 
@@ -35,5 +34,5 @@ returns-clause-indexed g c =
     let left = c.left.ensures ∙ (λ i. cond (c.is_warming-warms.ensures i) (record (c.standing-standing.ensures i) { warming = None }) (record (c.standing-standing.ensures i) { active = None })) in
     indexed-retired s c.args.number row (cond warms Dropped Draining) c.requires.indexed (sym c.in-Some.ensures.row) c.gone.new.self c.gone.ensures.rows c.gone.ensures.made
     live (ended warms) c.set.new.self c.unwatch.new.watches c.release.new.self c.leave.new.self
-    (λ q. c.set.ensures q ∙ (λ i. cond (bytes_eq row.name q) (left i) (standing_in s.names q)))
+    (λ q. c.set.ensures q ∙ (λ i. cond (is_of q row) (left i) (standing_in s.names q)))
     c.unwatch.ensures c.release.ensures c.leave.ensures.left

@@ -1,27 +1,19 @@
-use Rattle.std.proofs.Common.{◌∙◌, ◌<◌, ◌≤◌, cond, length, take, option_to_list, sym, subst}
-use Rattle.std.specs.Str.{bytes_eq}
-use Rattle.std.proofs.lemmas.List.{take_all}
-use Rattle.ev_model.specs.Watching.{Dependency}
-use Rattle.ev_indexes.specs.Needs.{need_at, needs_at, places_of}
-use Rattle.ev_indexes.specs.Watched.{watch_in, unwatched_for, watched_less}
-use Rattle.ev_indexes.proofs.PlaceLemmas.{needs_at-more, any-places}
-use Rattle.ev_indexes.proofs.WaitLemmas.{unwatched_for-more}
+use Rattle.std.proofs.Common.{◌∙◌, sym, subst}
+use Rattle.ev_warming.specs.Arrivals.{UnwatchesNeeds}
+use Rattle.ev_warming.proofs.StepLemmas.{unwatched-first, unwatched-none, unwatched-once}
 use Rattle.ev_warming.proofs.changes.unwatch.Goals as goal
 
-pub loop-place-preserved : goal.loop-place-preserved
-loop-place-preserved c = λ q.
-    let places = places_of c.args.content.now in
-    let place = c.loop-place.place in
-    let within : place < length places = subst (λ n. place < n) c.place_count-place-end.ensures c.loop-place-test.true in
-    c.unwatch_at.ensures q
-    ∙ (λ i. unwatched_for c.args.number q (option_to_list (need_at places place)) (c.loop-place.invariant q i))
-    ∙ unwatched_for-more c.args.number q (needs_at (take place places)) (option_to_list (need_at places place)) (watch_in c.args.watches.now q)
-    ∙ (λ i. unwatched_for c.args.number q (sym (needs_at-more places place within) i) (watch_in c.args.watches.now q))
+pub loop-need-init : goal.loop-need-init
+loop-need-init c = λ final rest. subst (UnwatchesNeeds c.args.watches.now final c.args.number) c.of-needs.ensures rest
+
+pub loop-need-preserved : goal.loop-need-preserved
+loop-need-preserved c = λ final rest.
+    c.loop-need.invariant final
+    (unwatched-first c.loop-need.needs c.in-Some.need (sym c.next.ensures.first ∙ c.in-Some.is) c.loop-need.watches c.unwatch_need.new.watches final c.args.number
+    c.unwatch_need.ensures
+    (subst (UnwatchesNeeds c.unwatch_need.new.watches final c.args.number) c.next.ensures.rest rest))
 
 pub returns : goal.returns
-returns c = λ q.
-    let places = places_of c.args.content.now in
-    let done = take_all c.loop-place.place places (subst (λ n. n ≤ c.loop-place.place) c.place_count-place-end.ensures c.loop-place-test.false) in
-    c.loop-place.invariant q
-    ∙ (λ i. unwatched_for c.args.number q (needs_at (done i)) (watch_in c.args.watches.now q))
-    ∙ (λ i. cond (any-places (λ (d : Dependency). bytes_eq d.name q) c.args.content.now i) (watched_less c.args.number (watch_in c.args.watches.now q)) (watch_in c.args.watches.now q))
+returns c =
+    unwatched-once c.args.content.now c.args.watches.now c.loop-need.watches c.args.number
+    (c.loop-need.invariant c.loop-need.watches (unwatched-none c.loop-need.needs (sym c.next.ensures.first ∙ c.in_default.is) c.loop-need.watches c.args.number))

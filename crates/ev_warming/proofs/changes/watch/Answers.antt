@@ -1,44 +1,37 @@
-use Rattle.std.proofs.Common.{◌∙◌, ◌<◌, ◌≤◌, true, false, cond, length, take, option_to_list, sym, ap, subst}
-use Rattle.std.proofs.lemmas.List.{take_all}
+use Rattle.std.proofs.Common.{◌∙◌, sym, subst}
 use Rattle.ev_types.specs.Texts.{IsName}
 use Rattle.ev_model.specs.Watching.{Dependency}
-use Rattle.ev_indexes.specs.Needs.{HaveNames, is_need, need_at, needs_at, places_of}
-use Rattle.ev_indexes.specs.Watched.{watch_in, watched_for, with_last}
-use Rattle.ev_indexes.proofs.PlaceLemmas.{needs_at-more, any-places, each-places}
-use Rattle.ev_indexes.proofs.WaitLemmas.{watched_for-more}
-use Rattle.ev_warming.proofs.PlaceLemmas.{all-both}
+use Rattle.ev_indexes.specs.Needs.{HaveNames}
+use Rattle.ev_warming.specs.Arrivals.{WatchesNeeds}
+use Rattle.ev_indexes.proofs.NeedLemmas.{each_needs, first-none}
+use Rattle.ev_warming.proofs.StepLemmas.{named-first, watched-first, watched-none, watched-once}
 use Rattle.ev_warming.proofs.changes.watch.Goals as goal
 
-pub loop-place-preserved : goal.loop-place-preserved
-loop-place-preserved c =
-    let places = places_of c.args.content.now in
-    let place = c.loop-place.place in
-    let within : place < length places = subst (λ n. place < n) c.place_count-place-end.ensures c.loop-place-test.true in
-    let e = c.in_ok-watch_at.ensures in
+pub loop-need-init : goal.loop-need-init
+loop-need-init c = record {
+  watched = λ final rest. subst (WatchesNeeds c.args.watches.now final c.args.number) c.of-needs.ensures rest;
+  named = λ rest. subst HaveNames c.of-needs.ensures rest;
+}
+
+pub loop-need-preserved : goal.loop-need-preserved
+loop-need-preserved c =
+    let e = c.in_ok-watch_need.ensures in
+    let i = c.loop-need.invariant in
+    let is = sym c.next.ensures.first ∙ c.in-Some.is in
     record {
-      watched = λ q.
-          e.watched q
-          ∙ (λ i. watched_for c.args.number q (option_to_list (need_at places place)) (c.loop-place.invariant.watched q i))
-          ∙ watched_for-more c.args.number q (needs_at (take place places)) (option_to_list (need_at places place)) (watch_in c.args.watches.now q)
-          ∙ (λ i. watched_for c.args.number q (sym (needs_at-more places place within) i) (watch_in c.args.watches.now q));
-      named = subst HaveNames (sym (needs_at-more places place within))
-          (all-both (λ (d : Dependency). IsName d.name) (needs_at (take place places)) (option_to_list (need_at places place)) c.loop-place.invariant.named e.named);
+      watched = λ final rest.
+          i.watched final
+          (watched-first c.loop-need.needs c.in-Some.need is c.loop-need.watches c.watch_need.new.watches final c.args.number e.watched
+          (subst (WatchesNeeds c.watch_need.new.watches final c.args.number) c.next.ensures.rest rest));
+      named = λ rest. i.named (named-first c.loop-need.needs c.in-Some.need is e.named (subst HaveNames c.next.ensures.rest rest));
     }
 
 pub returns-clause-watched : goal.returns-clause-watched
-returns-clause-watched c = λ q.
-    let places = places_of c.args.content.now in
-    let old = watch_in c.args.watches.now q in
-    let done = take_all c.loop-place.place places (subst (λ n. n ≤ c.loop-place.place) c.place_count-place-end.ensures c.loop-place-test.false) in
-    c.loop-place.invariant.watched q
-    ∙ (λ i. watched_for c.args.number q (needs_at (done i)) old)
-    ∙ (λ i. record old {
-      unlimited = cond (any-places (is_need q false) c.args.content.now i) (with_last c.args.number old.unlimited) old.unlimited;
-      limited = cond (any-places (is_need q true) c.args.content.now i) (with_last c.args.number old.limited) old.limited;
-    })
+returns-clause-watched c =
+    watched-once c.args.content.now c.args.watches.now c.loop-need.watches c.args.number
+    (c.loop-need.invariant.watched c.loop-need.watches (watched-none c.loop-need.needs (sym c.next.ensures.first ∙ c.in_default.is) c.loop-need.watches c.args.number))
 
 pub returns-clause-named : goal.returns-clause-named
 returns-clause-named c =
-    let places = places_of c.args.content.now in
-    let done = take_all c.loop-place.place places (subst (λ n. n ≤ c.loop-place.place) c.place_count-place-end.ensures c.loop-place-test.false) in
-    each-places (λ (d : Dependency). IsName d.name) c.args.content.now (subst HaveNames (ap needs_at done) c.loop-place.invariant.named)
+    each_needs (λ (d : Dependency). IsName d.name) c.args.content.now
+    (c.loop-need.invariant.named (subst HaveNames (sym (first-none c.loop-need.needs (sym c.next.ensures.first ∙ c.in_default.is))) tt))

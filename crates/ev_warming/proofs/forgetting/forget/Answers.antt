@@ -1,8 +1,8 @@
 use Rattle.std.proofs.Common.{◌≡◌, ◌∙◌, ◌&&◌, nat_eq, None, is_some, [], cond, sym, subst, arith}
 use Rattle.std.proofs.lemmas.List.{take_all}
 use Rattle.ev_model.specs.Tidy.{without_unwatched, without_old_results}
-use Rattle.ev_endpoints.specs.Kept.{marked_in, result_in}
-use Rattle.ev_generations.specs.Tables.{row_in}
+use Rattle.ev_indexes.specs.KeptEndpoints.{marked_in, result_in}
+use Rattle.ev_indexes.specs.Tables.{row_in}
 use Rattle.ev_indexes.specs.declared.state.State.{State}
 use Rattle.ev_indexes.specs.Due.{is_one_of}
 use Rattle.ev_indexes.specs.Watched.{unwatched, watch_in}
@@ -59,4 +59,4 @@ returns-clause-stands g c =
     s.results
     (λ n h. i.results n h ∙ (λ j. cond (is_one_of (all j) n && loses_result s0.watches h (row_in n s0.table.rows)) None (result_in s0.results n h)))
     (λ n. i.marks n ∙ (λ j. cond (is_one_of (all j) n && is_some (row_in n s0.table.rows)) None (marked_in s0.results n)))
-    world stands c.requires.rows)
+    world stands)

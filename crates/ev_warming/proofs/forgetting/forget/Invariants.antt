@@ -1,7 +1,8 @@
-use Rattle.std.proofs.Common.{◌≡◌, ◌+◌, ◌&&◌, ℕ, List, None, is_some, cond, take}
+use Rattle.std.proofs.Common.{◌≡◌, ◌+◌, ◌&&◌, ℕ, None, is_some, cond, take}
 use Rattle.ev_types.specs.declared.hosts.Host.{Host}
-use Rattle.ev_endpoints.specs.Kept.{marked_in, result_in}
-use Rattle.ev_generations.specs.Tables.{row_in}
+use Rattle.ev_indexes.specs.KeptEndpoints.{marked_in, result_in}
+use Rattle.ev_indexes.specs.Tables.{row_in}
+use Rattle.ev_mentions.specs.declared.kind_keys.Key.{Key}
 use Rattle.ev_indexes.specs.Due.{is_one_of}
 use Rattle.ev_indexes.specs.Watched.{unwatched, watch_in}
 use Rattle.ev_indexes.specs.Indexes.{IsIndexed}
@@ -12,7 +13,7 @@ abbrev pub invariant-loop-number : goal.invariant-loop-number
 invariant-loop-number g l = record {
   indexed : IsIndexed l.state;
   others : l.state ≡ record l.initial.state { watches = l.state.watches; results = l.state.results };
-  watches : (q : List ℕ) → watch_in l.state.watches q
+  watches : (q : Key) → watch_in l.state.watches q
       ≡ cond (is_need_of l.initial.state.table.rows (take l.number-index l.stale) q && is_idle l.initial.state.table.rows q) unwatched (watch_in l.initial.state.watches q);
   results : (n : ℕ) (h : Host) → result_in l.state.results n h
       ≡ cond (is_one_of (take l.number-index l.stale) n && loses_result l.initial.state.watches h (row_in n l.initial.state.table.rows)) None (result_in l.initial.state.results n h);

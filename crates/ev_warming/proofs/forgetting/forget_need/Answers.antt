@@ -1,19 +1,12 @@
-use Rattle.std.proofs.Common.{◌∙◌, ◌&&◌, not, cond, option_to_list, sym}
+use Rattle.std.proofs.Common.{◌∙◌, ◌&&◌, not, cond, sym}
 use Rattle.std.proofs.Math.Bool.{or-false}
-use Rattle.std.specs.Str.{bytes_eq}
-use Rattle.ev_indexes.specs.Needs.{is_needed}
+use Rattle.ev_indexes.specs.Needs.{is_on}
 use Rattle.ev_indexes.specs.Watched.{unwatched, watch_in, has_watcher}
 use Rattle.ev_warming.proofs.forgetting.forget_need.Goals as goal
 
-pub returns-in-Some : goal.returns-in-Some
-returns-in-Some c = λ q.
+pub returns : goal.returns
+returns c = λ q.
     let old = watch_in c.args.watches.now q in
     c.forget_idle.ensures q
-    ∙ (λ i. cond (bytes_eq (c.need.view_is i).name q && not (has_watcher old)) unwatched old)
-    ∙ (λ i. cond (sym (or-false (bytes_eq c.in-Some.need.name q)) i && not (has_watcher old)) unwatched old)
-    ∙ (λ i. cond (is_needed q (option_to_list (c.in-Some.ensures.value i)) && not (has_watcher old)) unwatched old)
-
-pub returns-in-None : goal.returns-in-None
-returns-in-None c = λ q.
-    let old = watch_in c.args.watches.now q in
-    (λ i. cond (is_needed q (option_to_list (c.in-None.ensures.value i)) && not (has_watcher old)) unwatched old)
+    ∙ (λ i. cond (is_on q (c.need.view_is i) && not (has_watcher old)) unwatched old)
+    ∙ (λ i. cond (sym (or-false (is_on q c.args.need.now)) i && not (has_watcher old)) unwatched old)

@@ -1,28 +1,19 @@
-use Rattle.std.proofs.Common.{◌∙◌, ◌<◌, ◌≤◌, ◌&&◌, not, cond, length, take, option_to_list, sym, subst}
-use Rattle.std.specs.Str.{bytes_eq}
-use Rattle.std.proofs.lemmas.List.{take_all}
-use Rattle.ev_model.specs.Watching.{Dependency}
-use Rattle.ev_indexes.specs.Needs.{is_needed, need_at, needs_at, places_of}
-use Rattle.ev_indexes.specs.Watched.{unwatched, watch_in, has_watcher}
-use Rattle.ev_indexes.proofs.PlaceLemmas.{needs_at-more, any-places}
-use Rattle.ev_warming.proofs.ForgettingLemmas.{forgets-more}
+use Rattle.std.proofs.Common.{◌∙◌, sym, subst}
+use Rattle.ev_warming.specs.Forgetting.{ForgetsNeeds}
+use Rattle.ev_warming.proofs.StepLemmas.{forgotten-first, forgotten-none, forgotten-once}
 use Rattle.ev_warming.proofs.forgetting.forget_needs.Goals as goal
 
-pub loop-place-preserved : goal.loop-place-preserved
-loop-place-preserved c = λ q.
-    let places = places_of c.args.content.now in
-    let place = c.loop-place.place in
-    let old = watch_in c.args.watches.now q in
-    let within : place < length places = subst (λ n. place < n) c.place_count-place-end.ensures c.loop-place-test.true in
-    forgets-more q (needs_at (take place places)) (option_to_list (need_at places place)) old (watch_in c.loop-place.watches q) (watch_in c.forget_need.new.watches q)
-    (c.loop-place.invariant q) (c.forget_need.ensures q)
-    ∙ (λ i. cond (is_needed q (sym (needs_at-more places place within) i) && not (has_watcher old)) unwatched old)
+pub loop-need-init : goal.loop-need-init
+loop-need-init c = λ final rest. subst (ForgetsNeeds c.args.watches.now final) c.of-needs.ensures rest
+
+pub loop-need-preserved : goal.loop-need-preserved
+loop-need-preserved c = λ final rest.
+    c.loop-need.invariant final
+    (forgotten-first c.loop-need.needs c.in-Some.need (sym c.next.ensures.first ∙ c.in-Some.is) c.loop-need.watches c.forget_need.new.watches final
+    c.forget_need.ensures
+    (subst (ForgetsNeeds c.forget_need.new.watches final) c.next.ensures.rest rest))
 
 pub returns : goal.returns
-returns c = λ q.
-    let places = places_of c.args.content.now in
-    let old = watch_in c.args.watches.now q in
-    let done = take_all c.loop-place.place places (subst (λ n. n ≤ c.loop-place.place) c.place_count-place-end.ensures c.loop-place-test.false) in
-    c.loop-place.invariant q
-    ∙ (λ i. cond (is_needed q (needs_at (done i)) && not (has_watcher old)) unwatched old)
-    ∙ (λ i. cond (any-places (λ (d : Dependency). bytes_eq d.name q) c.args.content.now i && not (has_watcher old)) unwatched old)
+returns c =
+    forgotten-once c.args.content.now c.args.watches.now c.loop-need.watches
+    (c.loop-need.invariant c.loop-need.watches (forgotten-none c.loop-need.needs (sym c.next.ensures.first ∙ c.in_default.is) c.loop-need.watches))

@@ -1,7 +1,11 @@
-use Rattle.std.proofs.Common.{take}
-use Rattle.ev_indexes.specs.Needs.{needs_at, places_of}
+use Rattle.std.proofs.Common.{length}
+use Rattle.ev_indexes.specs.Needs.{needs_of}
+use Rattle.ev_indexes.specs.Watched.{WatchesKept}
 use Rattle.ev_warming.specs.Forgetting.{ForgetsNeeds}
 use Rattle.ev_warming.proofs.forgetting.forget_needs.Given as goal
 
-abbrev pub invariant-loop-place : goal.invariant-loop-place
-invariant-loop-place l = ForgetsNeeds l.initial.watches l.watches (needs_at (take l.place (places_of l.content)))
+abbrev pub invariant-loop-need : goal.invariant-loop-need
+invariant-loop-need l = (final : WatchesKept) → ForgetsNeeds l.watches final l.needs → ForgetsNeeds l.initial.watches final (needs_of l.content)
+
+abbrev pub decreases-loop-need : goal.decreases-loop-need
+decreases-loop-need l = length l.needs

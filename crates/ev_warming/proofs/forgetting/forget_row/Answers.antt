@@ -1,10 +1,10 @@
 use Rattle.std.proofs.Common.{◌≡◌, ◌∙◌, ℕ, Bool, true, false, ◌&&◌, not, nat_eq, None, Some, is_some, cond, refl, sym}
 use Rattle.std.proofs.lemmas.Bool.{eqb-true}
 use Rattle.ev_types.specs.declared.rows.GenRow.{GenRow}
-use Rattle.ev_generations.specs.Tables.{row_in}
+use Rattle.ev_indexes.specs.Tables.{row_in}
 use Rattle.ev_indexes.specs.declared.state.State.{State}
-use Rattle.ev_endpoints.specs.Kept.{marked_in, result_in}
-use Rattle.ev_generations.proofs.TableLemmas.{number-row_in}
+use Rattle.ev_indexes.specs.KeptEndpoints.{marked_in, result_in}
+use Rattle.ev_indexes.proofs.TableLemmas.{number-row_in}
 use Rattle.ev_indexes.specs.Watched.{unwatched, watch_in}
 use Rattle.ev_indexes.specs.Needs.{is_needed}
 use Rattle.ev_warming.specs.Forgetting.{needs_in, is_idle, keeps_result}

@@ -1,6 +1,6 @@
 use Rattle.std.proofs.Common.{◌∙◌, List, OnOk, sym, subst}
 use Rattle.ev_types.specs.Hosts.{HostRowParts}
-use Rattle.ev_endpoints.specs.Kept.{Trims}
+use Rattle.ev_indexes.specs.KeptEndpoints.{Trims}
 use Rattle.ev_indexes.specs.Ready.{assignment_in, discovered_in}
 use Rattle.ev_warming.proofs.forgetting.trim_hosts.Goals as goal
 

@@ -21,14 +21,14 @@ returns-in-Some-kind c =
 pub read_lists-requires : goal.read_lists-requires
 read_lists-requires c =
     let found = given_if-some _ _ c.in-Some.head (sym c.in_ok-head.ensures ∙ c.in-Some.is) in
-    head_answerable (view c.args.value.now) c.in-Some.head found.0 found.1
+    head_answerable c.args.profile (view c.args.value.now) c.in-Some.head found.0 found.1
 
 pub invariant_of-result : goal.invariant_of-result
 invariant_of-result c =
     let found = given_if-some _ _ c.in-Some.head (sym c.in_ok-head.ensures ∙ c.in-Some.is) in
     record {
       typed = (c.new.ensures.empty, c.new-in-None.ensures.empty);
-      answerable = head_answerable (view c.args.value.now) c.in-Some.head found.0 found.1;
+      answerable = head_answerable c.args.profile (view c.args.value.now) c.in-Some.head found.0 found.1;
     }
 
 pub returns-in-None : goal.returns-in-None

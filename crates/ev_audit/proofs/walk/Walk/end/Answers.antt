@@ -1,5 +1,5 @@
 use Rattle.std.proofs.Common.{true, false, length, sym, ◌∙◌}
-use Rattle.ev_walk_laws.specs.Walks.{journal_before}
+use Rattle.ev_model_laws.specs.Walks.{journal_before}
 use Rattle.ev_audit.proofs.WalkLemmas.{end_is}
 use Rattle.ev_audit.proofs.walk.Walk.end.Goals as goal
 

@@ -5,9 +5,9 @@ use Rattle.ev_types.specs.Scripts.{IsScript}
 use Rattle.ev_model.specs.Finding.{finding_at}
 use Rattle.ev_model.specs.Step.{step}
 use Rattle.ev_model.specs.World.{World}
-use Rattle.ev_run_laws.specs.Drawing.{NumbersSuffice}
+use Rattle.ev_model_laws.specs.Drawing.{NumbersSuffice}
 use Rattle.ev_proxy.specs.Proxies.{IsAt, IsKnown}
-use Rattle.ev_walk_laws.specs.Walks.{journal_before, world_behind}
+use Rattle.ev_model_laws.specs.Walks.{journal_before, world_behind}
 use Rattle.ev_operations.specs.Courses.{IsFound}
 use Rattle.ev_audit.specs.declared.walk.Walk.{Walk}
 use Rattle.ev_audit.proofs.WalkLemmas.{found_behind, found_broken, found_differing, found_known, found_none, found_room}

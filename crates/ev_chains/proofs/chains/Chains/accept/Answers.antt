@@ -1,5 +1,6 @@
 use Rattle.std.proofs.Common.{◌∙◌, sym, subst}
-use Rattle.ev_chains.specs.Kept.{AreKept}
+use Rattle.ev_ledger.specs.Members.{member_on, with_member}
+use Rattle.ev_chains.specs.Kept.{AreKept, ArePlaced}
 use Rattle.ev_chains.proofs.NumberLemmas.{chosen_row}
 use Rattle.ev_chains.proofs.KeptLemmas.{placed_accept}
 use Rattle.ev_chains.proofs.chains.Chains.accept.Goals as goal
@@ -13,5 +14,8 @@ invariant_of-self-in-Some c =
     subst (AreKept self.made self.serving self.began.items self.draining.idle.items self.draining.busy.keys) (sym c.in_ok-open-in-Some.ensures.opened)
     (record {
       numbered = kept.numbered;
-      placed = placed_accept self.began.items self.draining.idle.items self.draining.busy.keys self.ledger kept.placed c.args.conn number (kept.numbered.other number row.0 row.1);
+      placed =
+          subst (λ on. ArePlaced self.began.items self.draining.idle.items self.draining.busy.keys (with_member (member_on 0 c.args.conn on) self.ledger))
+          (sym c.on_chain.ensures)
+          (placed_accept self.began.items self.draining.idle.items self.draining.busy.keys self.ledger kept.placed c.args.conn number (kept.numbered.other number row.0 row.1));
     })

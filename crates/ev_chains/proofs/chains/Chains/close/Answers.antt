@@ -16,13 +16,13 @@ invariant_of-self c =
     let began = self.began.items in
     let idle = self.draining.idle.items in
     let busy = self.draining.busy.keys in
-    let number = c.in-Some.place.0 in
+    let number = c.in-Some.on.listener in
     let left_is = c.close-was_open.ensures.closed ∙ closed_leaves 0 c.args.conn self.ledger in
     subst (λ (idle_then : List ℕ). AreKept self.made self.serving began idle_then c.end.new.self.busy.keys c.close-was_open.new.self) (sym c.end.ensures.idle)
     (subst (λ (opened : List OpenMember). AreKept self.made self.serving began (cond (is_in busy number) (idle ++ number ∷ []) idle) c.end.new.self.busy.keys opened) (sym left_is)
     (record {
       numbered = kept.numbered;
-      placed = placed_end began idle busy self.ledger kept.placed c.args.conn c.on-on.ensures.apart number c.in-Some.place.1 (sym c.on-on.ensures.on ∙ c.in-Some.is)
+      placed = placed_end began idle busy self.ledger kept.placed c.args.conn c.on-on.ensures.apart c.in-Some.on (sym c.on-on.ensures.on ∙ c.in-Some.is)
           (ap (λ (ms : List OpenMember). has_open ms number) (sym left_is) ∙ sym c.has_open.ensures ∙ c.if-not-has_open.true) c.end.new.self.busy.keys c.end.ensures.busy;
     }))
 
@@ -34,7 +34,7 @@ invariant_of-self-else-not-has_open c =
     let began = self.began.items in
     let idle = self.draining.idle.items in
     let busy = self.draining.busy.keys in
-    let number = c.in-Some.place.0 in
+    let number = c.in-Some.on.listener in
     let left_is = c.close-was_open.ensures.closed ∙ closed_leaves 0 c.args.conn self.ledger in
     let on = sym c.on-on.ensures.on ∙ c.in-Some.is in
     subst (λ (opened : List OpenMember). AreKept self.made self.serving began idle busy opened) (sym left_is)

@@ -1,5 +1,5 @@
 use Rattle.std.proofs.Common.{◌∙◌, ◌++◌, List, [], ℕ, ap, sym, subst}
-use Rattle.ev_model.specs.Connections.{closed_by, left_open}
+use Rattle.ev_chains.specs.Closing.{closed_by, left_open}
 use Rattle.ev_model.specs.World.{OpenMember}
 use Rattle.ev_chains.specs.Closing.{closed_all}
 use Rattle.ev_chains.specs.Kept.{AreKept, draining_in}

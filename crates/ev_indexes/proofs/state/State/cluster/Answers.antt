@@ -3,9 +3,9 @@ use Rattle.std.proofs.lemmas.Result.{IfOk-weaker}
 use Rattle.ev_types.specs.Statuses.{is_active, is_live}
 use Rattle.ev_types.specs.declared.rows.RowStatus.{RowStatus}
 use Rattle.ev_types.specs.declared.rows.RowStatus.TheVariants.{Warming, Active, Draining, Dropped}
-use Rattle.ev_endpoints.specs.Kept.{marked_in}
-use Rattle.ev_generations.specs.Tables.{row_in}
-use Rattle.ev_generations.proofs.TableLemmas.{number-row_in}
+use Rattle.ev_indexes.specs.KeptEndpoints.{marked_in}
+use Rattle.ev_indexes.specs.Tables.{row_in}
+use Rattle.ev_indexes.proofs.TableLemmas.{number-row_in}
 use Rattle.ev_indexes.specs.Indexes.{IsAssignmentOf}
 use Rattle.ev_indexes.specs.Shown.{cluster_shown_in}
 use Rattle.ev_indexes.proofs.FoundLemmas.{cluster-found}
@@ -14,13 +14,13 @@ use Rattle.ev_indexes.proofs.state.State.cluster.Goals as goal
 pub returns-in-Some-clause-world : goal.returns-in-Some-clause-world
 returns-in-Some-clause-world c =
     let s = c.args.self.now in
-    IfOk-weaker c.active_cluster.result _ _ (λ served e cds world stands.
-    e ∙ ap (cluster_shown_in s.watches s.results) c.in-Some.ensures ∙ cluster-found s world stands c.requires.indexed c.args.number cds) c.active_cluster.ensures
+    IfOk-weaker c.active_cluster.result _ _ (λ served e world stands.
+    e ∙ ap (cluster_shown_in s.watches s.results) c.in-Some.ensures ∙ cluster-found s world stands c.args.number) c.active_cluster.ensures
 
 pub returns-in-None-clause-world : goal.returns-in-None-clause-world
-returns-in-None-clause-world c = λ cds world stands.
+returns-in-None-clause-world c = λ world stands.
     let s = c.args.self.now in
-    ap (cluster_shown_in s.watches s.results) c.in-None.ensures ∙ cluster-found s world stands c.requires.indexed c.args.number cds
+    ap (cluster_shown_in s.watches s.results) c.in-None.ensures ∙ cluster-found s world stands c.args.number
 
 live : (status : RowStatus) → is_active status ≡ true → is_live status ≡ true
 live Warming active = refl

@@ -9,5 +9,5 @@ returns-clause-rows c = IfOk-weaker c.lives_at.result _ _ (λ lives e. e ∙ hol
 pub returns-clause-world : goal.returns-clause-world
 returns-clause-world c =
     let s = c.args.self.now in
-    IfOk-weaker c.lives_at.result _ _ (λ lives e lds world stands.
-    e ∙ holders-rows s c.requires.indexed c.args.address.now ∙ holders-world s c.requires.indexed c.args.address.now world lds stands) c.lives_at.ensures
+    IfOk-weaker c.lives_at.result _ _ (λ lives e world stands.
+    e ∙ holders-rows s c.requires.indexed c.args.address.now ∙ holders-world s c.requires.indexed c.args.address.now world stands) c.lives_at.ensures

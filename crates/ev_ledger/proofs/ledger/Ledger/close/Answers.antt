@@ -1,7 +1,7 @@
-use Rattle.std.proofs.Common.{Some, None, sym, ap, ◌∙◌, arith}
+use Rattle.std.proofs.Common.{Some, None, sym, ap, ◌∙◌, subst, arith}
 use Rattle.std.specs.Option.{is_some}
 use Rattle.ev_model.specs.Connections.{is_open, closed}
-use Rattle.ev_ledger.specs.Entries.{members_of}
+use Rattle.ev_ledger.specs.Entries.{LeavesUnder, began_at, listener_of, members_of}
 use Rattle.ev_ledger.proofs.EntryLemmas.{found_open, closed_members, sum_taken}
 use Rattle.ev_ledger.proofs.IndexLemmas.{none_taken, taken_left}
 use Rattle.ev_ledger.proofs.PlaceLemmas.{close_stands, closed_gone, answer_stands}
@@ -34,8 +34,10 @@ invariant_of-self c = record {
       let counts = c.self.invariant.counted number in
       omega (arith, sums, counts);
   none_zero = c.self.invariant.none_zero;
-  indexed = none_taken c.self.inside.places (c.args.worker, c.args.conn) c.self.inside.members.entries c.take.new.members.entries
+  indexed = none_taken listener_of c.self.inside.places (c.args.worker, c.args.conn) c.self.inside.members.entries c.take.new.members.entries
       (sym c.take.ensures.found ∙ c.in_default.is) c.take.ensures.left c.self.invariant.indexed;
+  begun_indexed = none_taken began_at c.self.inside.begun (c.args.worker, c.args.conn) c.self.inside.members.entries c.take.new.members.entries
+      (sym c.take.ensures.found ∙ c.in_default.is) c.take.ensures.left c.self.invariant.begun_indexed;
 }
 
 pub returns-in_default-clause-answer : goal.returns-in_default-clause-answer
@@ -64,8 +66,14 @@ invariant_of-self-2 c = record {
       let lowered = c.lower_on.ensures.counts number in
       omega (arith, sums, counts, lowered);
   none_zero = c.lower_on.ensures.none_zero c.self.invariant.none_zero;
-  indexed = taken_left c.self.inside.places c.leave.new.places (c.args.worker, c.args.conn) c.number.result c.in-Some.on c.self.inside.members.entries c.take.new.members.entries
-      c.number.ensures.number (sym c.take.ensures.found ∙ c.in-Some.is) c.leave.ensures c.take.ensures.left c.self.invariant.indexed;
+  indexed = taken_left listener_of c.self.inside.places c.leave_under.new.places (c.args.worker, c.args.conn) c.in-Some.on c.self.inside.members.entries c.take.new.members.entries
+      (sym c.take.ensures.found ∙ c.in-Some.is)
+      (subst (λ n. LeavesUnder n (c.args.worker, c.args.conn) c.self.inside.places c.leave_under.new.places) c.listener_of-listener.ensures c.leave_under.ensures)
+      c.take.ensures.left c.self.invariant.indexed;
+  begun_indexed = taken_left began_at c.self.inside.begun c.leave_under-2.new.places (c.args.worker, c.args.conn) c.in-Some.on c.self.inside.members.entries c.take.new.members.entries
+      (sym c.take.ensures.found ∙ c.in-Some.is)
+      (subst (λ n. LeavesUnder n (c.args.worker, c.args.conn) c.self.inside.begun c.leave_under-2.new.places) c.began_at-began.ensures c.leave_under-2.ensures)
+      c.take.ensures.left c.self.invariant.begun_indexed;
 }
 
 pub returns-clause-answer : goal.returns-clause-answer

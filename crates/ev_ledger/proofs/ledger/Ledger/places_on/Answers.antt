@@ -7,11 +7,11 @@ use Rattle.ev_ledger.proofs.ledger.Ledger.places_on.Goals as goal
 pub returns : goal.returns
 returns c = record {
   places =
-      IfOk-weaker c.places_on.result _ _
+      IfOk-weaker c.places_under.result _ _
       (λ v is worker connection. ap (has_place worker connection) is
       ∙ has_place_on c.number.result worker connection c.self.inside.places.keys
       ∙ c.self.invariant.indexed c.number.result (worker, connection)
       ∙ open_at c.number.result worker connection c.self.inside.members.entries c.len.ensures.ordered
       ∙ ap (is_open_at c.number.result worker connection) c.self.view_is
-      ∙ ap (λ n. is_open_at n worker connection c.args.self.now) c.number.ensures.number) c.places_on.ensures;
+      ∙ ap (λ n. is_open_at n worker connection c.args.self.now) c.number.ensures.number) c.places_under.ensures;
 }

@@ -3,7 +3,7 @@ use Rattle.std.proofs.lemmas.Option.{slice_get-get_or}
 use Rattle.ev_types.specs.Scripts.{IsScript}
 use Rattle.ev_operations.specs.declared.due.Due.{Due}
 use Rattle.ev_operations.specs.declared.due.Due.TheVariants.{Line}
-use Rattle.ev_walk_laws.specs.Walks.{may_leave_out}
+use Rattle.ev_model_laws.specs.Walks.{may_leave_out}
 use Rattle.ev_operations.specs.Courses.{seat_of}
 use Rattle.ev_operations.specs.declared.course.Course.{Course}
 use Rattle.ev_operations.specs.declared.courses.Found.{Found}

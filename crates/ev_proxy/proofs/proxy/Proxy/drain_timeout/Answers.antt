@@ -4,7 +4,6 @@ use Rattle.ev_model.specs.Tidy.{tidy}
 use Rattle.ev_retirement.specs.Holders.{timed_out, with_expired}
 use Rattle.ev_retirement.specs.Holders.{timeout_answer}
 use Rattle.ev_state.proofs.FrameLemmas.{at-frame}
-use Rattle.ev_proxy.specs.declared.proxy.Proxy.{Proxy}
 use Rattle.ev_proxy.specs.Proxies.{IsAt}
 use Rattle.ev_proxy.proofs.StepLemmas.{noted_at}
 use Rattle.ev_proxy.proofs.WorldLemmas.{same_but, tidy_same}

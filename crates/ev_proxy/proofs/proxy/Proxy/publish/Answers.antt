@@ -1,7 +1,7 @@
 use Rattle.std.proofs.Common.{◌≡◌, sym, ap, ◌∙◌, subst}
 use Rattle.ev_model.specs.Picture.{shown_of}
 use Rattle.ev_model.specs.Publishing.{publish}
-use Rattle.ev_pictures.specs.Pictures.{shown_after}
+use Rattle.ev_retirement.specs.Pictures.{shown_after}
 use Rattle.ev_state.proofs.FrameLemmas.{at-frame}
 use Rattle.ev_proxy.specs.Changing.{IsShownBut, changes_at}
 use Rattle.ev_proxy.proofs.ShownLemmas.{after_changes, published_shown}

@@ -18,11 +18,11 @@ returns-clause-world c world stands =
 pub invariant_of-self : goal.invariant_of-self
 invariant_of-self c = record {
   asked = go_kept c.self.inside.asking c.close_one.new.asking _ c.close_one.new.ledger c.close_one.ensures.goes c.self.invariant.asked;
-  found = c.close_one.ensures.found c.self.invariant.found;
+  found = c.close_one.ensures.found c.self.inside.pictures.last.shown c.self.invariant.found;
 }
 
 pub invariant_of-self-2 : goal.invariant_of-self-2
 invariant_of-self-2 c = record {
   asked = go_kept c.self.inside.asking c.close_one.new.asking _ c.close_one.new.ledger c.close_one.ensures.goes c.self.invariant.asked;
-  found = c.close_one.ensures.found c.self.invariant.found;
+  found = c.close_one.ensures.found c.self.inside.pictures.last.shown c.self.invariant.found;
 }

@@ -3,8 +3,8 @@ use Rattle.std.proofs.lemmas.Result.{IfOk-weaker}
 use Rattle.ev_types.specs.declared.journals.Format.TheVariants.{Two}
 use Rattle.ev_model.specs.Publishing.{dead_numbers}
 use Rattle.ev_drain.proofs.WorldLemmas.{dead_stands}
-use Rattle.ev_pictures.specs.Pictures.{is_shown_by}
-use Rattle.ev_pictures.proofs.WorldLemmas.{shows_stands}
+use Rattle.ev_retirement.specs.Pictures.{is_shown_by}
+use Rattle.ev_retirement.proofs.WorldLemmas.{shows_stands}
 use Rattle.ev_retirement.proofs.holders.Holders.dead.Goals as goal
 
 pub returns-in-Two-clause-world : goal.returns-in-Two-clause-world

@@ -1,7 +1,7 @@
 use Rattle.std.proofs.Common.{◌≤◌, ℕ, List, filter, length, sym, ap, ◌∙◌, arith}
 use Rattle.std.proofs.lemmas.List.{take_all}
 use Rattle.ev_types.specs.declared.journals.Format.TheVariants.{Two}
-use Rattle.ev_pictures.specs.Pictures.{is_shown_by}
+use Rattle.ev_retirement.specs.Pictures.{is_shown_by}
 use Rattle.ev_drain.specs.Retired.{dead_of, is_dead_row}
 use Rattle.ev_retirement.specs.Asking.{is_dead_now}
 use Rattle.ev_retirement.specs.Holders.{HoldersParts}

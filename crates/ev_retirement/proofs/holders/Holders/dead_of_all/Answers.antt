@@ -1,6 +1,6 @@
 use Rattle.std.proofs.Common.{sym, subst}
 use Rattle.std.proofs.lemmas.Result.{IfOk-weaker}
-use Rattle.ev_pictures.proofs.WorldLemmas.{shows_stands}
+use Rattle.ev_retirement.proofs.WorldLemmas.{shows_stands}
 use Rattle.ev_retirement.specs.Holders.{HoldersParts, HoldsFor}
 use Rattle.ev_retirement.proofs.holders.Holders.dead_of_all.Goals as goal
 

@@ -32,7 +32,7 @@ invariant_of-self c = record {
 pub invariant_of-self-in_default-enter_on_each : goal.invariant_of-self-in_default-enter_on_each
 invariant_of-self-in_default-enter_on_each c = record {
   asked = more_kept c.self.inside.asking c.ask_each.new.self _ c.ask_each.ensures.more c.self.invariant.asked;
-  found = found_more c.self.inside.closing c.enter_on_each.new.closing c.self.inside.drain c.self.inside.drain c.self.inside.ledger c.enter_on_each.ensures.more (λ n h. h) c.self.invariant.found;
+  found = found_more c.self.inside.closing c.enter_on_each.new.closing c.self.inside.drain c.self.inside.drain c.self.inside.pictures.last.shown c.self.inside.ledger c.enter_on_each.ensures.more (λ n h. h) c.self.invariant.found;
 }
 
 pub invariant_of-self-2 : goal.invariant_of-self-2
@@ -42,7 +42,7 @@ invariant_of-self-2 c =
       asked = subst (λ (drain : List Retired). AreAskedInOrder c.ask_each.new.self (record holders { drain = drain })) (sym c.expire.ensures.marked)
           (expired_kept c.args.name.now c.ask_each.new.self holders (λ n h. c.in-Ok.ensures.asked n (c.waiting-waiting.ensures.waiting n h))
           (more_kept c.self.inside.asking c.ask_each.new.self holders c.ask_each.ensures.more c.self.invariant.asked));
-      found = subst (λ (drain : List Retired). AreFound c.enter_on_each.new.closing drain c.self.inside.ledger) (sym c.expire.ensures.marked)
-          (timeout_found c.args.name.now c.self.inside.closing c.enter_on_each.new.closing c.self.inside.drain c.self.inside.ledger c.enter_on_each.ensures.more
+      found = subst (λ (drain : List Retired). AreFound c.enter_on_each.new.closing drain c.self.inside.pictures.last.shown c.self.inside.ledger) (sym c.expire.ensures.marked)
+          (timeout_found c.args.name.now c.self.inside.closing c.enter_on_each.new.closing c.self.inside.drain c.self.inside.pictures.last.shown c.self.inside.ledger c.enter_on_each.ensures.more
           (λ n h worker connection here. c.in-Ok-enter_on_each.ensures.entered n (c.waiting-waiting.ensures.waiting n h) worker connection here) c.self.invariant.found);
     }

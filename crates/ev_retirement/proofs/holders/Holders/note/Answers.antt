@@ -20,5 +20,5 @@ invariant_of-self-2 c =
       asked = retire_kept c.retire.result c.ask.new.self holders (newly_retired c.args.row.now.kind c.args.row.now.number c.args.row.now.name c.is_dropped-dropped.result) c.retire.new.self
           c.retire.ensures.retired c.retire.ensures.err c.in-Ok.ensures.asked absent
           (more_kept c.self.inside.asking c.ask.new.self holders c.ask.ensures.more c.self.invariant.asked);
-      found = retire_found c.retire.result c.self.inside.closing c.self.inside.drain c.retire.new.self (newly_retired c.args.row.now.kind c.args.row.now.number c.args.row.now.name c.is_dropped-dropped.result) c.self.inside.ledger refl c.retire.ensures.retired c.retire.ensures.err c.self.invariant.found;
+      found = retire_found c.retire.result c.self.inside.closing c.self.inside.drain c.retire.new.self c.self.inside.pictures.last.shown (newly_retired c.args.row.now.kind c.args.row.now.number c.args.row.now.name c.is_dropped-dropped.result) c.self.inside.ledger refl c.retire.ensures.retired c.retire.ensures.err c.self.invariant.found;
     }

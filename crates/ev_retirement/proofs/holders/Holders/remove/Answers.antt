@@ -20,5 +20,5 @@ invariant_of-self c =
     record {
       asked = subst (λ (drain : List Retired). AreAskedInOrder c.forget.new.self (record holders { drain = drain })) (sym c.remove.ensures.removed)
           (removed_kept c.args.number c.self.inside.asking c.forget.new.self holders c.forget.ensures c.self.invariant.asked);
-      found = removed_found c.args.number c.self.inside.closing c.self.inside.drain c.remove.new.self c.self.inside.ledger c.remove.ensures.removed c.self.invariant.found;
+      found = removed_found c.args.number c.self.inside.closing c.self.inside.drain c.remove.new.self c.self.inside.pictures.last.shown c.self.inside.ledger c.remove.ensures.removed c.self.invariant.found;
     }

@@ -1,6 +1,8 @@
 use Rattle.std.proofs.Common.{sym, ap, ◌∙◌, subst}
 use Rattle.std.proofs.lemmas.Result.{IfOk-weaker}
+use Rattle.ev_model.specs.declared.pictures.Picture.{Picture}
 use Rattle.ev_ledger.specs.Members.{in_order}
+use Rattle.ev_retirement.specs.Closing.{AreFound}
 use Rattle.ev_retirement.specs.Holders.{HoldersParts, HoldsFor}
 use Rattle.ev_retirement.specs.Lines.{lines_leave}
 use Rattle.ev_retirement.proofs.AskLemmas.{go_kept}
@@ -22,5 +24,7 @@ returns c = record {
 pub invariant_of-self : goal.invariant_of-self
 invariant_of-self c = record {
   asked = go_kept c.self.inside.asking c.take_lines.new.asking _ c.take_lines.new.ledger c.take_lines.ensures.goes c.self.invariant.asked;
-  found = c.take_lines.ensures.found c.self.invariant.found;
+  found = subst (λ (p : Picture). AreFound c.take_lines.new.closing c.self.inside.drain p.shown c.take_lines.new.ledger) c.last-last.ensures
+      (c.take_lines.ensures.found
+      (subst (λ (p : Picture). AreFound c.self.inside.closing c.self.inside.drain p.shown c.self.inside.ledger) (sym c.last-last.ensures) c.self.invariant.found));
 }

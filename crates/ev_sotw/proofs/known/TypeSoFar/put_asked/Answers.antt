@@ -1,5 +1,5 @@
 use Rattle.std.proofs.Common.{sym, ap, subst}
-use Rattle.ev_names.specs.Names.{IsInOrder}
+use Rattle.ev_sotw.specs.Names.{IsInOrder}
 use Rattle.ev_sotw.specs.Stated.{Known}
 use Rattle.ev_sotw.proofs.KnownLemmas.{put_other}
 use Rattle.ev_sotw.proofs.known.TypeSoFar.put_asked.Goals as goal

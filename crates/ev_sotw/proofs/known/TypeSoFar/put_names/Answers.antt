@@ -1,5 +1,5 @@
 use Rattle.std.proofs.Common.{◌∙◌, ap, subst}
-use Rattle.ev_names.specs.Names.{IsInOrder}
+use Rattle.ev_sotw.specs.Names.{IsInOrder}
 use Rattle.ev_sotw.specs.Stated.{Known}
 use Rattle.ev_sotw.specs.Follows.{with_asked_by}
 use Rattle.ev_sotw.proofs.KnownLemmas.{put_none, put_next}

@@ -14,7 +14,7 @@ returns g c = λ world follows.
     let after : World = record world { stream = true } in
     let over = c.in_ok-tidy.ensures.over world after
     (stream_follows c.args.self.now c.set_stream.new.self true world follows (c.set_stream.ensures.stands world follows.stands.subscription))
-    follows.stands.managers.made (none-moved c.none-moved.result world after c.none-moved.ensures refl (quiet-changed c.none-moved.result.changed world after refl (λ k q. refl) refl refl)) in
+    (c.made-made.ensures ∙ follows.stands.managers.made) (none-moved c.none-moved.result world after c.none-moved.ensures refl (quiet-changed c.none-moved.result.changed world after refl (λ k q. refl) refl refl)) in
     where_false c.tidy.new.self (Moved c.in_ok-requests.requests) c.tidy.new.moved world world.stream (world, Ignored) (tidy after, Moved (connect_requests world)) closed
     (record {
       kept = c.in_ok-tidy.ensures.kept;

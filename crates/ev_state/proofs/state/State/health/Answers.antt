@@ -4,11 +4,12 @@ use Rattle.ev_types.specs.declared.contents.Kind.TheVariants.{Cds}
 use Rattle.ev_model.specs.World.{World}
 use Rattle.ev_model.specs.Warming.{is_healthy}
 use Rattle.ev_model.specs.Signals.{is_meant, with_results, rows_meant}
+use Rattle.ev_mentions.specs.Keys.{named}
 use Rattle.ev_indexes.specs.Due.{is_one_of}
 use Rattle.ev_indexes.specs.Indexes.{serves, numbers_where}
 use Rattle.ev_indexes.proofs.HealthyLemmas.{as-healthy-world}
 use Rattle.ev_state.proofs.SignalLemmas.{managers_follow, health_led, health_ignored}
-use Rattle.ev_state.proofs.MoveLemmas.{none-have, rows-are}
+use Rattle.ev_state.proofs.MoveLemmas.{none-have}
 use Rattle.ev_state.proofs.TellLemmas.{resulted-changed}
 use Rattle.ev_state.proofs.state.State.health.Goals as goal
 use Rattle.ev_state.proofs.state.State.health.Goals.{then-not-same+in_ok-put_active, else-not-same}
@@ -25,7 +26,7 @@ returns g c = λ world follows.
     let after : World = with_results c.args.host.now c.args.healthy (rows_meant world.arrivals c.args.cluster.now c.args.host.now world.rows) world in
     let stand = c.in_ok-health.ensures.stands world follows.stands.managers in
     let old = c.args.self.now.managers in
-    let numbers = numbers_where (serves c.args.cluster.now) c.health.new.self.clusters.state.table.rows in
+    let numbers = numbers_where (serves (named Cds c.args.cluster.now)) c.health.new.self.core.state.table.rows in
     let told : (n : ℕ) → is_one_of c.in_ok-moved.moved.changed n ≡ false → (is_one_of numbers n ≡ false) ⊎ (is_healthy world.results n c.args.host.now ≡ c.args.healthy) =
     λ n other. elim c.if-not-same.branch [
       | then-not-same+in_ok-put_active w ↦
@@ -33,13 +34,12 @@ returns g c = λ world follows.
           let are = c.in_ok-moved.ensures.changed ∙ (λ i. put i ++ c.new.ensures.empty i) ∙ append-nil numbers in
           inl ((λ i. is_one_of (sym are i) n) ∙ other)
       | else-not-same w ↦
-          let same = rows-are old Cds world c.requires.kept follows.stands.managers ∙ sym (rows-are c.health.new.self Cds after c.in_ok-health.ensures.kept stand) in
+          let same = follows.stands.managers.rows ∙ sym stand.rows in
           either n (is_one_of numbers n) (is_healthy world.results n c.args.host.now) c.args.healthy refl
-          (λ e. as-healthy-world old.clusters.state world follows.stands.managers.clusters c.requires.kept.clusters.kept.indexed c.args.cluster.now c.args.host.now c.args.healthy
-          (sym c.is_as_healthy-same.ensures ∙ w.if-not-same.false) n ((λ i. is_one_of (numbers_where (serves c.args.cluster.now) (same i)) n) ∙ e))
+          (λ e. as-healthy-world old.core.state world follows.stands.managers c.requires.kept.indexed (named Cds c.args.cluster.now) c.args.host.now c.args.healthy
+          (sym c.is_as_healthy-same.ensures ∙ w.if-not-same.false) n ((λ i. is_one_of (numbers_where (serves (named Cds c.args.cluster.now)) (same i)) n) ∙ e))
     ] in
-    let changed = resulted-changed c.in_ok-moved.moved.changed c.health.new.self c.args.cluster.now c.args.host.now c.args.healthy world
-    c.in_ok-health.ensures.kept stand told in
+    let changed = resulted-changed c.in_ok-moved.moved.changed c.health.new.self c.args.cluster.now c.args.host.now c.args.healthy world stand told in
     health_led c.finish.new.self c.in_ok-told.told.0 c.in_ok-told.told.1 c.args.host.now c.args.healthy (is_meant world.arrivals c.args.cluster.now c.args.host.now) world
     (sym (c.in_ok-health.ensures.ignored world follows.stands.managers) ∙ c.if-not-branch.false)
     (c.in_ok-told.ensures world after

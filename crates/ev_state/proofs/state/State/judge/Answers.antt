@@ -9,5 +9,5 @@ pub returns-clause-judged : goal.returns-clause-judged
 returns-clause-judged c = λ kind world at typed.
     c.in_ok-verdicts.ensures.verdicts kind (lives_of world) world.versions typed
     (subst (λ (b : BeforeParts). Tells (answers_before b) kind (lives_of world) world.versions) (sym c.new-before.ensures)
-    (tells c.args.self.now.managers.clusters.state c.args.self.now.managers.listeners.state c.args.self.now.subscription kind world
-    at.kept.clusters.rows at.kept.listeners.rows at.kept.listeners.kept.indexed at.follows.stands.managers.clusters at.follows.stands.managers.listeners at.follows.stands.subscription at.whole))
+    (tells c.args.self.now.managers.core.state c.args.self.now.subscription kind world
+    at.kept.indexed at.follows.stands.managers at.follows.stands.subscription at.whole))

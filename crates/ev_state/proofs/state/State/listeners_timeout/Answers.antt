@@ -4,8 +4,8 @@ use Rattle.ev_types.specs.declared.events.Answer.TheVariants.{Ignored}
 use Rattle.ev_model.specs.World.{World}
 use Rattle.ev_model.specs.Phase.{is_clusters}
 use Rattle.ev_model.specs.Signals.{moved}
-use Rattle.ev_managers.proofs.FrameLemmas.{see_the_same}
-use Rattle.ev_targets.specs.Targets.{HaveBooted}
+use Rattle.ev_indexes.proofs.SeenLemmas.{seen-stands}
+use Rattle.ev_state.specs.InitTargets.{HaveBooted}
 use Rattle.ev_state.specs.declared.state.State.{State}
 use Rattle.ev_state.proofs.SignalLemmas.{targets_follow, not_true, not_false, ignores}
 use Rattle.ev_state.proofs.StepLemmas.{where_true, where_false}
@@ -36,7 +36,7 @@ returns g c = λ world follows.
     (not_true (is_clusters world.phase || (is_some world.first_listeners || world.late_listeners)) (sym (c.listeners_timeout.ensures.heard world booted) ∙ c.if-not-listeners_timeout.false))
     (c.in_ok-told.ensures world after
     (targets_follow c.args.self.now c.listeners_timeout.new.self world after follows boots
-    (see_the_same c.args.self.now.managers world after (record { rows = refl; made = refl; arrivals = refl; results = refl }) follows.stands.managers)
+    (seen-stands c.args.self.now.managers.core.state world after (record { rows = refl; made = refl; arrivals = refl; results = refl }) follows.stands.managers)
     (record { node = had.node; stream = had.stream; versions = had.versions; kept_once = had.kept_once })
     refl refl refl)
     refl (none-moved c.none-2.result world after c.none-2.ensures refl (quiet-changed c.none-2.result.changed world after refl (λ k q. refl) refl refl)))

@@ -13,7 +13,7 @@ returns c = λ workers. record {
       subscription = record { node = c.new-2.ensures.node ∙ c.in_ok-node.ensures.equal; stream = c.new-2.ensures.closed; versions = λ kind. c.new-2.ensures.empty kind; kept_once = keeps_versions.opens workers c.args.node.now };
       targets = c.new-3.ensures workers c.args.node.now;
     };
-    sound = (c.new.ensures.stands workers c.args.node.now).clusters.sound;
+    sound = (c.new.ensures.stands workers c.args.node.now).sound;
     later = tt;
     heard = All-nil _;
     phase = refl;

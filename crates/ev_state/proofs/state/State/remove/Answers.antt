@@ -1,5 +1,4 @@
 use Rattle.std.proofs.Common.{sym, ap, ◌∙◌}
-use Rattle.ev_types.specs.declared.contents.Kind.TheVariants.{Cds, Lds}
 use Rattle.ev_warming.specs.Changes.{is_over}
 use Rattle.ev_state.proofs.GoneLemmas.{one-goes, one-gone, nothing-goes, nothing-gone}
 use Rattle.ev_state.proofs.TellLemmas.{left-changed}
@@ -7,43 +6,25 @@ use Rattle.ev_state.proofs.state.State.remove.Goals as goal
 
 pub returns-then-has_ended-clause-at : goal.returns-then-has_ended-clause-at
 returns-then-has_ended-clause-at c = λ world at.
-    one-goes c.args.self.now c.remove.new.self Cds c.args.number world at
+    one-goes c.args.self.now c.remove.new.self c.args.number world at
     (ap is_over (sym c.get.ensures) ∙ sym c.has_ended.ensures ∙ c.if-has_ended.true)
     c.remove.ensures.kept c.remove.ensures.forgotten (c.remove.ensures.stands world at.follows.stands.managers)
 
 pub returns-then-has_ended-clause-row : goal.returns-then-has_ended-clause-row
 returns-then-has_ended-clause-row c = λ world at.
-    one-gone c.args.self.now Cds c.args.number c.remove.result world at c.remove.ensures.row
+    one-gone c.args.self.now c.args.number c.remove.result world at c.remove.ensures.row
     (ap is_over (sym c.get.ensures) ∙ sym c.has_ended.ensures ∙ c.if-has_ended.true)
-
-pub returns-then-has_ended-2-clause-at : goal.returns-then-has_ended-2-clause-at
-returns-then-has_ended-2-clause-at c = λ world at.
-    one-goes c.args.self.now c.remove-then-has_ended-2.new.self Lds c.args.number world at
-    (ap is_over (sym c.get-2.ensures) ∙ sym c.has_ended-2.ensures ∙ c.if-has_ended-2.true)
-    c.remove-then-has_ended-2.ensures.kept c.remove-then-has_ended-2.ensures.forgotten (c.remove-then-has_ended-2.ensures.stands world at.follows.stands.managers)
-
-pub returns-then-has_ended-2-clause-row : goal.returns-then-has_ended-2-clause-row
-returns-then-has_ended-2-clause-row c = λ world at.
-    one-gone c.args.self.now Lds c.args.number c.remove-then-has_ended-2.result world at c.remove-then-has_ended-2.ensures.row
-    (ap is_over (sym c.get-2.ensures) ∙ sym c.has_ended-2.ensures ∙ c.if-has_ended-2.true)
-
-pub returns-clause-at : goal.returns-clause-at
-returns-clause-at c = λ world at.
-    nothing-goes c.args.self.now c.args.number world at
-    (ap is_over (sym c.get.ensures) ∙ sym c.has_ended.ensures ∙ c.if-has_ended.false)
-    (ap is_over (sym c.get-2.ensures) ∙ sym c.has_ended-2.ensures ∙ c.if-has_ended-2.false)
-
-pub returns-clause-row : goal.returns-clause-row
-returns-clause-row c = λ world at.
-    nothing-gone c.args.self.now c.args.number world at
-    (ap is_over (sym c.get.ensures) ∙ sym c.has_ended.ensures ∙ c.if-has_ended.false)
-    (ap is_over (sym c.get-2.ensures) ∙ sym c.has_ended-2.ensures ∙ c.if-has_ended-2.false)
 
 pub returns-then-has_ended-clause-shown : goal.returns-then-has_ended-clause-shown
 returns-then-has_ended-clause-shown c = λ world at. left-changed c.args.number world at.follows.sound
 
-pub returns-then-has_ended-2-clause-shown : goal.returns-then-has_ended-2-clause-shown
-returns-then-has_ended-2-clause-shown c = λ world at. left-changed c.args.number world at.follows.sound
+pub returns-clause-at : goal.returns-clause-at
+returns-clause-at c = λ world at.
+    nothing-goes c.args.self.now c.args.number world at (ap is_over (sym c.get.ensures) ∙ sym c.has_ended.ensures ∙ c.if-has_ended.false)
+
+pub returns-clause-row : goal.returns-clause-row
+returns-clause-row c = λ world at.
+    nothing-gone c.args.self.now c.args.number world at (ap is_over (sym c.get.ensures) ∙ sym c.has_ended.ensures ∙ c.if-has_ended.false)
 
 pub returns-clause-shown : goal.returns-clause-shown
 returns-clause-shown c = λ world at. left-changed c.args.number world at.follows.sound

@@ -9,8 +9,10 @@ use Rattle.ev_model.specs.Live.{lives_of}
 use Rattle.ev_model.specs.Verdicts.{verdicts_of}
 use Rattle.ev_model.specs.Rows.{with_removals, add_items, made_names, with_first}
 use Rattle.ev_model.specs.Step.{responded, answered, respond_by}
-use Rattle.ev_model.specs.Requests.{Watched, all_watched, other_than, requests_by, requests_of, reply_of}
+use Rattle.ev_model.specs.Requests.{Watched, requests_by, requests_of, reply_of}
+use Rattle.ev_model.specs.Watching.{kinds_before, kinds_behind, watched_of}
 use Rattle.ev_managers.specs.Managers.{AreForgotten, AreManagersKept}
+use Rattle.ev_subscription.specs.Asked.{changes_of}
 use Rattle.ev_subscription.specs.Subscriptions.{HasVersions}
 use Rattle.ev_managers.specs.declared.moved.Moved.{Moved}
 use Rattle.ev_state.specs.declared.state.State.{State}
@@ -57,22 +59,20 @@ replies : (s : State) (told : Answer) (verdicts given : List Verdict) (kind : Ki
     → mentioned ≡ response → given ≡ verdicts → given ≡ verdicts_of (lives_of here) here.versions response
     → IsOver s asked these here (responded kind mentioned given here)
     → ((world : World) (before after : Watched) → HasVersions s.subscription world
-    → asked.endpoints.begun ≡ other_than before.endpoints after.endpoints → asked.endpoints.ended ≡ other_than after.endpoints before.endpoints
-    → asked.routes.begun ≡ other_than before.routes after.routes → asked.routes.ended ≡ other_than after.routes before.routes
+    → asked.before ≡ changes_of kinds_before before after → asked.behind ≡ changes_of kinds_behind before after
     → told ≡ Replied (requests_by world.stream before after asked.left world.versions (Some (reply_of kind response verdicts))) verdicts)
     → IsStep s told these here (answered kind response (verdicts_of (lives_of here) here.versions response) here)
 replies s told verdicts given kind mentioned response asked these here kept forgotten same are judged over answers =
     let after : World = responded kind mentioned given here in
     let replied : reply_of kind response verdicts ≡ reply_of kind mentioned given = (λ i. reply_of kind (sym same i) (sym are i)) in
-    let sent : requests_by after.stream (all_watched here) (all_watched after) asked.left after.versions (Some (reply_of kind response verdicts)) ≡ requests_of here after (Some (reply_of kind mentioned given)) =
-    (λ i. requests_by after.stream (all_watched here) (all_watched after) (over.left i) after.versions (Some (replied i))) in
+    let sent : requests_by after.stream (watched_of here) (watched_of after) asked.left after.versions (Some (reply_of kind response verdicts)) ≡ requests_of here after (Some (reply_of kind mentioned given)) =
+    (λ i. requests_by after.stream (watched_of here) (watched_of after) (over.left i) after.versions (Some (replied i))) in
     let base : IsStep s told these here (answered kind mentioned given here) = record {
       kept = kept;
       forgotten = forgotten;
       follows = over.follows;
       later = over.later;
-      answer = answers after (all_watched here) (all_watched after) over.follows.stands.subscription
-          over.endpoints.begun over.endpoints.ended over.routes.begun over.routes.ended
+      answer = answers after (watched_of here) (watched_of after) over.follows.stands.subscription over.changed_before over.changed_behind
           ∙ (λ i. Replied (sent i) (sym are i));
       moved = over.moved;
     } in

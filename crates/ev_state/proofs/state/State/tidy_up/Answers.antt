@@ -1,4 +1,4 @@
-use Rattle.std.proofs.Common.{refl}
+use Rattle.std.proofs.Common.{refl, ◌∙◌}
 use Rattle.ev_model.specs.Tidy.{tidy}
 use Rattle.ev_state.proofs.CeaseLemmas.{have-ceased}
 use Rattle.ev_state.proofs.MoveLemmas.{none-moved}
@@ -8,7 +8,7 @@ use Rattle.ev_state.proofs.state.State.tidy_up.Goals as goal
 
 pub returns-clause-at : goal.returns-clause-at
 returns-clause-at g c = λ world at.
-    let over = c.in_ok-tidy.ensures.over world world at.follows at.follows.stands.managers.made (none-moved c.none-moved.result world world c.none-moved.ensures refl (changed-none c.none-moved.result.changed world)) in
+    let over = c.in_ok-tidy.ensures.over world world at.follows (c.made-made.ensures ∙ at.follows.stands.managers.made) (none-moved c.none-moved.result world world c.none-moved.ensures refl (changed-none c.none-moved.result.changed world)) in
     record {
       kept = c.in_ok-tidy.ensures.kept;
       forgotten = c.in_ok-tidy.ensures.forgotten;
@@ -18,9 +18,9 @@ returns-clause-at g c = λ world at.
 
 pub returns-clause-ceased : goal.returns-clause-ceased
 returns-clause-ceased g c = λ world at.
-    let over = c.in_ok-tidy.ensures.over world world at.follows at.follows.stands.managers.made (none-moved c.none-moved.result world world c.none-moved.ensures refl (changed-none c.none-moved.result.changed world)) in
-    have-ceased c.tidy.new.moved.retired world (tidy world) at.follows.sound over.follows.sound over.later (tidy-whole world at.whole) over.moved.retired
+    let over = c.in_ok-tidy.ensures.over world world at.follows (c.made-made.ensures ∙ at.follows.stands.managers.made) (none-moved c.none-moved.result world world c.none-moved.ensures refl (changed-none c.none-moved.result.changed world)) in
+    have-ceased c.tidy.new.moved.retired world (tidy world) over.later over.moved.retired
 
 pub returns-clause-changed : goal.returns-clause-changed
 returns-clause-changed g c = λ world at.
-    (c.in_ok-tidy.ensures.over world world at.follows at.follows.stands.managers.made (none-moved c.none-moved.result world world c.none-moved.ensures refl (changed-none c.none-moved.result.changed world))).moved.changed
+    (c.in_ok-tidy.ensures.over world world at.follows (c.made-made.ensures ∙ at.follows.stands.managers.made) (none-moved c.none-moved.result world world c.none-moved.ensures refl (changed-none c.none-moved.result.changed world))).moved.changed

@@ -4,7 +4,7 @@ use Rattle.ev_types.specs.declared.events.Answer.TheVariants.{Ignored}
 use Rattle.ev_model.specs.World.{World}
 use Rattle.ev_model.specs.Signals.{moved, with_end, forget_version}
 use Rattle.ev_model.specs.Versions.{is_bounded}
-use Rattle.ev_managers.proofs.FrameLemmas.{see_the_same}
+use Rattle.ev_indexes.proofs.SeenLemmas.{seen-stands}
 use Rattle.ev_state.proofs.SignalLemmas.{ignores, ended_follows, end_draws, bounded_is_watched}
 use Rattle.ev_state.proofs.MoveLemmas.{told-have}
 use Rattle.ev_state.specs.Changed.{dependents_in}
@@ -26,9 +26,9 @@ returns g c = λ world follows.
     let m = c.args.self.now.managers in
     let forgotten : World = forget_version c.args.kind c.args.name.now world in
     let after : World = with_end c.args.kind c.args.name.now forgotten in
-    let stand = see_the_same m world forgotten (record { rows = refl; made = refl; arrivals = refl; results = refl }) follows.stands.managers in
-    let stand_after = c.in_ok-retired.ensures.stands forgotten stand (bounded_is_watched m c.args.kind c.args.name.now world c.requires.kept follows.stands.managers follows.heard bounded) in
-    let have = told-have c.in_ok-retired.retired m c.end.new.self world after c.requires.kept c.in_ok-retired.ensures.kept follows.stands.managers stand_after c.in_ok-retired.ensures.retired in
+    let stand = seen-stands m.core.state world forgotten (record { rows = refl; made = refl; arrivals = refl; results = refl }) follows.stands.managers in
+    let stand_after = c.in_ok-retired.ensures.stands forgotten stand (bounded_is_watched m c.args.kind c.args.name.now world follows.stands.managers follows.heard bounded) in
+    let have = told-have c.in_ok-retired.retired m c.end.new.self world after follows.stands.managers stand_after c.in_ok-retired.ensures.retired in
     where_true c.finish.new.self c.in_ok-told.told.0 c.in_ok-told.told.1 world (is_bounded world.versions c.args.kind c.args.name.now) (moved world after) (world, Ignored) bounded
     (c.in_ok-told.ensures world after
     (ended_follows c.args.self.now c.end.new.self c.forget.new.self c.args.kind c.args.name.now world follows
@@ -37,7 +37,7 @@ returns g c = λ world follows.
     (end_draws c.args.kind c.args.name.now forgotten)
     (record {
       retired = subst (λ (ns : List ℕ). HaveRetired ns world after) (sym c.in_ok-moved.ensures.retired) have;
-      changed = ended-changed c.in_ok-moved.moved.changed c.put_dependents.new.changed c.in_ok-retired.retired m world after c.in_ok-moved.ensures.changed c.requires.kept follows.stands.managers
-          stand_after.clusters.sound have c.args.kind c.args.name.now refl
-          (c.in_ok-put_dependents.ensures ∙ (λ i. c.new-changed.ensures.empty i ++ dependents_in m.clusters.state m.listeners.state c.args.kind (c.as_str-3.ensures.bytes i)));
+      changed = ended-changed c.in_ok-moved.moved.changed c.put_dependents.new.changed c.in_ok-retired.retired m world after c.in_ok-moved.ensures.changed follows.stands.managers
+          have c.args.kind c.args.name.now refl
+          (c.in_ok-put_dependents.ensures ∙ (λ i. c.new-changed.ensures.empty i ++ dependents_in m.core.state c.args.kind (c.as_str-3.ensures.bytes i)));
     }))

@@ -1,5 +1,4 @@
-use Rattle.std.proofs.Common.{◌∙◌, ◌<◌, ◌≤◌, length, get_or, subst, sym, arith, refl}
-use Rattle.ev_types.specs.declared.events.Verdict.TheVariants.{New}
+use Rattle.std.proofs.Common.{◌∙◌, ◌<◌, ◌≤◌, length, subst, sym, arith, refl}
 use Rattle.ev_model.specs.Rows.{add_item}
 use Rattle.ev_subscription.specs.Subscriptions.{HasVersions}
 use Rattle.ev_subscription.proofs.ResponseLemmas.{item_more, items_done}
@@ -15,9 +14,10 @@ loop-place-preserved c =
     let within : place < length c.args.verdicts.now = omega (arith, c.requires, c.loop-place-test.true) in
     λ world stands.
     let w = c.loop-place.invariant world stands in (
-      add_item c.args.kind (get_or c.args.verdicts.now place New) item w.0,
+      add_item c.args.kind c.index-verdicts-place.result item w.0,
       c.in_ok-keep.ensures w.0 w.1,
-      item_more c.args.kind c.args.verdicts.now c.args.items.now place New item w.0 within c.loop-place-test.true c.index-items-place.is ∙ w.2,
+      item_more c.args.kind c.args.verdicts.now c.args.items.now place c.index-verdicts-place.result item w.0
+          within c.loop-place-test.true c.index-verdicts-place.is c.index-items-place.is ∙ w.2,
     )
 
 pub returns : goal.returns

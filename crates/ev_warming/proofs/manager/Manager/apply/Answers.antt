@@ -1,20 +1,16 @@
-use Rattle.std.proofs.Common.{◌≡◌, ◌∙◌, subst}
-use Rattle.ev_model.specs.World.{World}
+use Rattle.std.proofs.Common.{◌∙◌, subst}
 use Rattle.ev_model.specs.Rows.{with_removals, add_items}
 use Rattle.ev_indexes.specs.Worlds.{HasRows}
-use Rattle.ev_warming.proofs.ResponseLemmas.{removals-stand, removals-draw}
+use Rattle.ev_warming.proofs.ResponseLemmas.{removals-stand}
 use Rattle.ev_warming.proofs.manager.Manager.apply.Goals as goal
 
 pub returns-clause-stands : goal.returns-clause-stands
 returns-clause-stands g c =
     let removed = c.in_ok-remove_names.ensures in
-    let kind = c.args.self.now.state.kind in
+    let kind = c.args.kind in
     let response = c.args.response.now in
-    let t = c.take_items.new.self.state in
-    λ world stands level.
+    λ world stands.
     let w = with_removals kind response world in
-    subst (λ (v : World). HasRows t v × (t.table.made ≡ v.made))
-    (λ i. add_items (((λ j. (c.advance.ensures.others j).state.kind) ∙ removed.kind) i) c.args.verdicts.now ((c.as_slice.ensures.elements ∙ (λ j. (c.response.view_is j).items)) i) w)
-    (c.in_ok-take_items.ensures.stands w
-    (c.advance.ensures.stands w (removals-stand c.remove_names.new.self.state world kind response c.requires.kept.rows (removed.stands world stands)))
-    (c.advance.ensures.made ∙ level ∙ removals-draw kind response world))
+    subst (HasRows c.take_items.new.self.state)
+    (λ i. add_items kind c.args.verdicts.now ((c.as_slice.ensures.elements ∙ (λ j. (c.response.view_is j).items)) i) w)
+    (c.in_ok-take_items.ensures.stands w (removals-stand c.remove_names.new.self.state world kind response c.requires.rows (removed.stands world stands)))

@@ -1,18 +1,16 @@
-use Rattle.std.proofs.Common.{◌∙◌, subst, sym}
+use Rattle.std.proofs.Common.{◌∙◌, subst}
 use Rattle.ev_model.specs.Rows.{with_removals, add_items}
-use Rattle.ev_indexes.specs.Worlds.{HasRows, needs_of}
-use Rattle.ev_warming.proofs.AbsenceLemmas.{absences-stand}
-use Rattle.ev_warming.proofs.MadeLemmas.{removals-made}
+use Rattle.ev_indexes.specs.Worlds.{HasRows}
+use Rattle.ev_warming.proofs.AbsenceLemmas.{removals-told}
 use Rattle.ev_warming.proofs.manager.Manager.arrive_all.Goals as goal
 
 pub returns-clause-stands : goal.returns-clause-stands
 returns-clause-stands g c =
-    let told = c.in_ok-tell_absences.ensures in
-    let kind = c.args.self.now.state.kind in
+    let told = c.in_ok-tell_removals.ensures in
+    let kind = c.args.kind in
     let response = c.args.response.now in
-    λ world stands drawn.
+    λ world stands.
     subst (HasRows c.take_values.new.self.state)
-    (λ i. add_items (needs_of (told.kind i)) c.args.verdicts.now ((c.as_slice.ensures.elements ∙ (λ j. (c.response.view_is j).items)) i) (with_removals (needs_of kind) response world))
-    (c.in_ok-take_values.ensures.stands (with_removals (needs_of kind) response world)
-    (absences-stand c.tell_absences.new.self.state world kind response c.requires.kept.rows (told.stands world stands drawn))
-    (drawn ∙ sym (removals-made (needs_of kind) response world)))
+    (λ i. add_items kind c.args.verdicts.now ((c.as_slice.ensures.elements ∙ (λ j. (c.response.view_is j).items)) i) (with_removals kind response world))
+    (c.in_ok-take_values.ensures.stands (with_removals kind response world)
+    (removals-told c.tell_removals.new.self.state world kind response c.requires.by_name (told.stands world stands)))

@@ -1,5 +1,4 @@
 use Rattle.std.proofs.Common.{◌∙◌, ◌++◌, option_to_list, sym, subst}
-use Rattle.ev_model.specs.Watching.{is_by_name}
 use Rattle.ev_model.specs.Signals.{ended_status}
 use Rattle.ev_warming.proofs.NeedLemmas.{needs-statused}
 use Rattle.ev_warming.specs.Forgetting.{IsTidyBut}
@@ -12,9 +11,8 @@ returns-clause-kept g c =
     let t = c.end.new.state in
     let e = c.end.ensures in
     record {
-      rows = (λ i. is_by_name (e.others i).kind) ∙ c.requires.kept.rows;
       indexed = e.indexed;
-      needs = needs-statused m.state.table.rows t.table.rows (ended_status m.state.kind c.args.name.now) e.rows c.requires.kept.needs;
+      needs = needs-statused m.state.table.rows t.table.rows (ended_status c.args.kind c.args.name.now) e.rows c.requires.kept.needs;
       tidy = subst (IsTidyBut t) (sym (c.in_ok-put_one-2.ensures ∙ (λ i. c.in_ok-put_one.ensures i ++ option_to_list c.standing-ended.result.active)))
-          (tidy-ended m.state t c.args.name.now c.standing-ended.result m.stale c.requires.kept.indexed c.standing-ended.ensures e.rows e.marks (λ i. (e.others i).results) c.requires.kept.tidy);
+          (tidy-ended m.state t c.args.kind c.args.name.now c.standing-ended.result m.stale c.requires.kept.indexed c.standing-ended.ensures e.rows e.marks (λ i. (e.others i).results) c.requires.kept.tidy);
     }

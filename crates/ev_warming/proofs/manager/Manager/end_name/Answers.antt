@@ -13,4 +13,4 @@ returns-clause-told g c =
     on_ok c.put_one-2.result c.put_one-2.ensures (λ put.
     subst (Tells m.state.table.rows c.end.new.self.state.table.rows c.args.retired.now)
     (sym (put ∙ (λ i. c.in_ok-put_one.ensures i ++ option_to_list ended.active) ∙ append_assoc c.args.retired.now (option_to_list ended.warming) (option_to_list ended.active)))
-    (tells-ended m.state.kind c.args.name.now m.state.table.rows x.table.apart x.kinds ended.warming ended.active c.end.new.self.state.table.rows c.args.retired.now e.dropped e.drains e.rows))
+    (tells-ended c.args.kind c.args.name.now m.state.table.rows x.table.apart ended.warming ended.active c.end.new.self.state.table.rows c.args.retired.now e.dropped e.drains e.rows))

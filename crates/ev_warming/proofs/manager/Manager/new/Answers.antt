@@ -1,7 +1,7 @@
-use Rattle.std.proofs.Common.{◌∙◌, [], sym, subst}
+use Rattle.std.proofs.Common.{[], sym, subst}
 use Rattle.std.specs.List.{AllByRecursion}
 use Rattle.ev_types.specs.declared.rows.GenRow.{GenRow}
-use Rattle.ev_model.specs.Watching.{is_by_name, dependencies_of}
+use Rattle.ev_model.specs.Watching.{dependencies_of}
 use Rattle.ev_warming.specs.Forgetting.{IsTidyBut}
 use Rattle.ev_warming.proofs.TidyLemmas.{tidy-new}
 use Rattle.ev_indexes.specs.Needs.{HaveNames}
@@ -9,7 +9,6 @@ use Rattle.ev_warming.proofs.manager.Manager.new.Goals as goal
 
 pub returns-clause-kept : goal.returns-clause-kept
 returns-clause-kept c = record {
-  rows = (λ i. is_by_name (c.new.ensures.kind i)) ∙ c.requires.rows;
   indexed = c.new.ensures.indexed;
   needs = subst (AllByRecursion (λ (r : GenRow). HaveNames (dependencies_of r.content))) (sym (c.new.ensures.stands 0 []).rows) tt;
   tidy = subst (IsTidyBut c.new.result) (sym c.new-2.ensures.empty) (tidy-new c.new.result (c.new.ensures.stands 0 []));

@@ -1,6 +1,5 @@
 use Rattle.std.proofs.Common.{◌∙◌, ◌++◌, sym, subst}
 use Rattle.ev_types.specs.declared.rows.GenRow.{GenRow}
-use Rattle.ev_model.specs.Watching.{is_by_name}
 use Rattle.ev_model.specs.Tidy.{status_by}
 use Rattle.ev_warming.specs.Promotion.{succeeded_by}
 use Rattle.ev_warming.proofs.NeedLemmas.{needs-statused}
@@ -16,7 +15,6 @@ returns-clause-kept g c =
     let t = c.promote.new.state in
     let e = c.in_ok-promoted.ensures in
     record {
-      rows = (λ i. is_by_name (e.others i).kind) ∙ c.requires.kept.rows;
       indexed = e.indexed;
       needs = needs-statused m.state.table.rows t.table.rows
           (λ (r : GenRow). status_by (succeeded_by (is_ready_in m.state.watches m.state.results) m.state.table.rows r) (is_ready_in m.state.watches m.state.results r) r.status) e.rows c.requires.kept.needs;

@@ -9,9 +9,8 @@ use Rattle.ev_warming.proofs.manager.Manager.remove_names.Given as goal
 abbrev pub invariant-loop-name : goal.invariant-loop-name
 invariant-loop-name g l = record {
   kept : IsKept l.self;
-  kind : l.self.state.kind ≡ l.initial.self.state.kind;
   made : l.self.state.table.made ≡ l.initial.self.state.table.made;
   told : Tells l.initial.self.state.table.rows l.self.state.table.rows l.initial.retired l.retired;
   stands : (world : World) → HasRows l.initial.self.state world
-      → HasRows l.self.state (record world { rows = with_statuses (status_left_by l.initial.self.state.kind l.response (take l.name-index l.name-items)) world.rows });
+      → HasRows l.self.state (record world { rows = with_statuses (status_left_by l.kind l.response (take l.name-index l.name-items)) world.rows });
 }

@@ -1,66 +1,70 @@
-use Rattle.std.proofs.Common.{◌≡◌, ◌∙◌, ℕ, List, option_to_list, refl, sym, subst, arith}
+use Rattle.std.proofs.Common.{◌∙◌, List, ℕ, [], arith, sym, subst}
 use Rattle.ev_types.specs.declared.events.Verdict.{Verdict}
-use Rattle.ev_model.specs.Rows.{add_item, rows_with_new}
-use Rattle.ev_model.specs.Watching.{is_by_name}
-use Rattle.ev_warming.specs.Changes.{Tells}
-use Rattle.ev_warming.specs.Forgetting.{IsTidyBut}
-use Rattle.ev_warming.specs.Worlds.{FollowsDrawing, with_generation}
-use Rattle.ev_warming.proofs.ItemLemmas.{new-stands, other-stays}
-use Rattle.ev_warming.proofs.NeedLemmas.{needs-added}
-use Rattle.ev_warming.proofs.RetiredLemmas.{tells-added, tells-none}
-use Rattle.ev_warming.proofs.TidyLemmas.{tidy-added}
+use Rattle.ev_types.specs.declared.origins.KeptChain.{KeptChain}
+use Rattle.ev_model.specs.Origins.{kept_from}
+use Rattle.ev_model.specs.Rows.{add_item, serving_row}
+use Rattle.ev_warming.specs.Worlds.{Follows, with_generation, with_rows_replaced}
+use Rattle.ev_warming.proofs.IndexLemmas.{on_ok}
+use Rattle.ev_warming.proofs.ItemLemmas.{new-stands, in-place-stands, back-stands, bare-item-stays, other-stays}
+use Rattle.ev_warming.proofs.RetiredLemmas.{tells-none}
 use Rattle.ev_warming.proofs.manager.Manager.take_item.Goals as goal
 
-pub returns-clause-kept : goal.returns-clause-kept
-returns-clause-kept g c =
-    let m = c.args.self.now in
-    let t = c.add.new.state in
-    let e = c.in_ok-add.ensures in
-    let content = c.in-New-Good.content in
-    let rows : t.table.rows ≡ rows_with_new m.state.kind m.state.table.made c.in_ok-name.name content m.state.table.rows = e.rows in
-    record {
-      rows = (λ i. is_by_name (e.others i).kind) ∙ c.requires.kept.rows;
-      indexed = e.indexed;
-      needs = needs-added m.state.kind m.state.table.made c.in_ok-name.name content m.state.table.rows t.table.rows rows c.requires.kept.needs e.needs;
-      tidy = subst (IsTidyBut t) (sym c.in_ok-put_one.ensures)
-          (tidy-added m.state t c.in_ok-name.name content c.standing-dropped.result.warming m.stale c.requires.kept.indexed (λ i. (c.standing-dropped.ensures i).warming)
-          rows e.marks (λ i. (e.others i).results) c.requires.kept.tidy);
-    }
-
-pub returns-clause-told : goal.returns-clause-told
-returns-clause-told g c =
-    let m = c.args.self.now in
-    let e = c.in_ok-add.ensures in
-    let x = c.requires.kept.indexed in
-    let name = c.in_ok-name.name in
-    let content = c.in-New-Good.content in
-    let rows : c.add.new.state.table.rows ≡ rows_with_new m.state.kind m.state.table.made name content m.state.table.rows = e.rows in
-    subst (Tells m.state.table.rows c.add.new.state.table.rows c.args.retired.now) (sym c.in_ok-put_one-2.ensures)
-    (tells-added m.state.kind name m.state.table.rows x.table.apart x.kinds m.state.table.made content c.standing-dropped.result.warming c.add.new.state.table.rows c.args.retired.now
-    ((λ i. option_to_list (c.standing-dropped.ensures i).warming) ∙ x.warming name) rows)
-
-pub returns-clause-stands : goal.returns-clause-stands
-returns-clause-stands g c =
+pub returns-in_ok-name-in-New-clause-stands : goal.returns-in_ok-name-in-New-clause-stands
+returns-in_ok-name-in-New-clause-stands g c =
     let s = c.args.self.now.state in
-    let t = c.add.new.state in
+    let t = c.make.new.self.state in
     let item = c.args.item.now in
-    let content = c.in-New-Good.content in
-    subst (λ (verdict : Verdict). FollowsDrawing s.table.made s t (add_item s.kind verdict item)) (sym c.in-New-Good.is-0)
-    (new-stands s t s.table.made s.kind item content ((λ i. (sym c.item.view_is i).body) ∙ c.in-New-Good.is-1)
-    (subst (λ (name : List ℕ). FollowsDrawing s.table.made s t (with_generation s.kind name content)) c.in_ok-name.ensures c.in_ok-add.ensures.stands))
+    let content = c.in-Good.content in
+    on_ok c.make.result c.make.ensures.stands (λ step.
+    subst (λ (verdict : Verdict). Follows s t (add_item c.args.kind verdict item)) (sym c.in-New.is)
+    (new-stands s t c.args.kind item content ((λ i. (sym c.item.view_is i).body) ∙ c.in-Good.is)
+    (subst (λ (name : List ℕ). Follows s t (with_generation c.args.kind name content [])) c.in_ok-name-in-New.ensures
+    (subst (λ (chains : List KeptChain). Follows s t (with_generation c.args.kind c.in_ok-name-in-New.name content chains)) c.new.ensures.empty step))))
 
-pub returns-in_default-clause-told : goal.returns-in_default-clause-told
-returns-in_default-clause-told g c = tells-none c.args.self.now.state.table.rows c.args.retired.now
+pub returns-in_ok-name-in-InPlace-clause-stands : goal.returns-in_ok-name-in-InPlace-clause-stands
+returns-in_ok-name-in-InPlace-clause-stands g c =
+    let s = c.args.self.now.state in
+    let t = c.make_in_place.new.self.state in
+    let item = c.args.item.now in
+    let content = c.in-Good.content in
+    on_ok c.make_in_place.result c.make_in_place.ensures.stands (λ step.
+    subst (λ (verdict : Verdict). Follows s t (add_item c.args.kind verdict item)) (sym c.in-InPlace.is)
+    (in-place-stands s t c.args.kind item content ((λ i. (sym c.item.view_is i).body) ∙ c.in-Good.is)
+    (subst (λ (name : List ℕ). Follows s t (with_generation c.args.kind name content (kept_from (serving_row c.args.kind name s.table.rows) content))) c.in_ok-name-in-InPlace.ensures step)))
 
-pub returns-in_default-2 : goal.returns-in_default-2
-returns-in_default-2 g c =
+pub returns-in_ok-name-in-Back-clause-stands : goal.returns-in_ok-name-in-Back-clause-stands
+returns-in_ok-name-in-Back-clause-stands g c =
+    let s = c.args.self.now.state in
+    let t = c.go_back.new.self.state in
+    let item = c.args.item.now in
+    let content = c.in-Good.content in
+    on_ok c.go_back.result c.go_back.ensures.stands (λ step.
+    subst (λ (verdict : Verdict). Follows s t (add_item c.args.kind verdict item)) (sym c.in-Back.is)
+    (back-stands s t c.args.kind item content ((λ i. (sym c.item.view_is i).body) ∙ c.in-Good.is)
+    (subst (λ (name : List ℕ). Follows s t (with_rows_replaced c.args.kind name)) c.in_ok-name-in-Back.ensures step)))
+
+pub returns-in_default-verdict : goal.returns-in_default-verdict
+returns-in_default-verdict g c =
     let s = c.args.self.now.state in
     record {
       kept = c.requires.kept;
-      kind = refl;
       grows = omega arith;
       few = omega arith;
       told = tells-none s.table.rows c.args.retired.now;
-      stands = λ world stands drawn.
-          let after = other-stays s world c.args.verdict c.args.item.now c.requires.kept.rows c.in_default.not-New-0 stands in (after.0, drawn ∙ after.1);
+      stands = λ world stands.
+          other-stays s world c.args.kind c.args.verdict.now c.args.item.now c.requires.rows c.requires.on_row
+          c.in_default-verdict.not-New c.in_default-verdict.not-InPlace c.in_default-verdict.not-Back stands;
+    }
+
+pub returns-in_default : goal.returns-in_default
+returns-in_default g c =
+    let s = c.args.self.now.state in
+    record {
+      kept = c.requires.kept;
+      grows = omega arith;
+      few = omega arith;
+      told = tells-none s.table.rows c.args.retired.now;
+      stands = λ world stands.
+          bare-item-stays s world c.args.kind c.args.verdict.now c.args.item.now c.requires.rows c.requires.on_row
+          (λ content is. c.in_default.not-Good content ((λ i. (c.item.view_is i).body) ∙ is)) stands;
     }

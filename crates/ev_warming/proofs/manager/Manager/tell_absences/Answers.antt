@@ -3,8 +3,9 @@ use Rattle.ev_model.specs.Verdicts.{is_among}
 use Rattle.std.proofs.lemmas.List.{nil_from_length, take_all}
 use Rattle.std.specs.List.{list_any}
 use Rattle.ev_types.specs.declared.rows.Arrival.TheVariants.{Absent}
+use Rattle.ev_mentions.specs.Keys.{named}
 use Rattle.ev_indexes.specs.Indexes.{depends_on}
-use Rattle.ev_indexes.specs.Worlds.{HasRows, needs_of}
+use Rattle.ev_indexes.specs.Worlds.{HasRows}
 use Rattle.ev_warming.specs.Changes.{is_unlisted}
 use Rattle.ev_warming.specs.Arrivals.{told_where}
 use Rattle.ev_warming.proofs.ForgottenLemmas.{watched-same}
@@ -25,13 +26,12 @@ loop-name-preserved g c =
     let within : place < length response.removed = subst (λ (n : _). place < n) (λ j. length (i.items j)) c.loop-name-test.true in
     record {
       kept = e.kept;
-      kind = e.kind ∙ i.kind;
       table = e.table ∙ i.table;
       items = i.items;
-      stands = λ world stands drawn.
-          absent-more s t world response (needs_of s0.kind) s0.table.rows place name within (c.name-item.is ∙ (λ j. get_or (i.items j) place name)) (watched-same s0 world stands c.requires.kept.rows name) (i.stands world stands drawn)
-          (λ w standing same.
-          subst (HasRows t) (λ j. told_where (is_unlisted (c.in_ok-mentions.ensures j) name && list_any (depends_on name) (i.table j).rows) (needs_of (i.kind j)) Absent name w) (e.stands w standing (drawn ∙ sym same)));
+      stands = λ world stands.
+          absent-more s t world response c.args.kind s0.table.rows place name within (c.name-item.is ∙ (λ j. get_or (i.items j) place name)) (watched-same s0 world stands (named c.args.kind name)) (i.stands world stands)
+          (λ w standing.
+          subst (HasRows t) (λ j. told_where (is_unlisted (c.in_ok-mentions.ensures j) name && list_any (depends_on (named c.args.kind name)) (i.table j).rows) c.args.kind Absent name w) (e.stands w standing));
     }
 
 pub tell_absence-requires-clause-listed : goal.tell_absence-requires-clause-listed
@@ -44,14 +44,14 @@ pub returns-then-is_empty-clause-stands : goal.returns-then-is_empty-clause-stan
 returns-then-is_empty-clause-stands g c =
     let none : c.args.response.now.removed ≡ [] = (λ i. (sym c.response.view_is i).removed) ∙ nil_from_length c.response.inside.removed (c.is_empty.ensures.0 c.if-is_empty.true) in
     let response = c.args.response.now in
-    let kind = needs_of c.args.self.now.state.kind in
-    λ world stands drawn.
+    let kind = c.args.kind in
+    λ world stands.
     subst (λ names. HasRows c.args.self.now.state (with_absent response kind world names)) (sym none) (absent-none c.args.self.now.state world response kind stands)
 
 pub returns-clause-stands : goal.returns-clause-stands
 returns-clause-stands g c =
     let response = c.args.response.now in
-    let kind = needs_of c.args.self.now.state.kind in
+    let kind = c.args.kind in
     let done : length response.removed ≤ c.loop-name.name-index = subst (λ (names : List (List ℕ)). length names ≤ c.loop-name.name-index) c.loop-name.invariant.items c.loop-name-test.false in
-    λ world stands drawn.
-    subst (λ (names : List (List ℕ)). HasRows c.loop-name.self.state (with_absent response kind world names)) (take_all c.loop-name.name-index response.removed done) (c.loop-name.invariant.stands world stands drawn)
+    λ world stands.
+    subst (λ (names : List (List ℕ)). HasRows c.loop-name.self.state (with_absent response kind world names)) (take_all c.loop-name.name-index response.removed done) (c.loop-name.invariant.stands world stands)

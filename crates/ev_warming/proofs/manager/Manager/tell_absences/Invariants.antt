@@ -1,16 +1,15 @@
 use Rattle.std.proofs.Common.{◌≡◌, take}
 use Rattle.ev_model.specs.World.{World}
 use Rattle.ev_warming.specs.Managers.{IsKept}
-use Rattle.ev_indexes.specs.Worlds.{HasRows, needs_of}
+use Rattle.ev_indexes.specs.Worlds.{HasRows}
 use Rattle.ev_warming.proofs.AbsenceLemmas.{with_absent}
 use Rattle.ev_warming.proofs.manager.Manager.tell_absences.Given as goal
 
 abbrev pub invariant-loop-name : goal.invariant-loop-name
 invariant-loop-name g l = record {
   kept : IsKept l.self;
-  kind : l.self.state.kind ≡ l.initial.self.state.kind;
   table : l.self.state.table ≡ l.initial.self.state.table;
   items : l.name-items ≡ l.response.removed;
-  stands : (world : World) → HasRows l.initial.self.state world → l.made ≡ world.made
-      → HasRows l.self.state (with_absent l.response (needs_of l.initial.self.state.kind) world (take l.name-index l.response.removed));
+  stands : (world : World) → HasRows l.initial.self.state world
+      → HasRows l.self.state (with_absent l.response l.kind world (take l.name-index l.response.removed));
 }

@@ -1,7 +1,8 @@
-use Rattle.std.proofs.Common.{◌++◌, ◌∷◌, [], ℕ, Option, map, ap, sym, ◌∙◌, is_some}
+use Rattle.std.proofs.Common.{◌++◌, ◌∷◌, [], Option, map, ap, sym, ◌∙◌, is_some}
 use Rattle.std.specs.Option.{option_to_list}
 use Rattle.std.specs.Arc.{arc_value}
 use Rattle.ev_model.specs.Connections.{accepted, is_open}
+use Rattle.ev_ledger.specs.declared.open_on.On.{On}
 use Rattle.ev_worker.specs.Batches.{BatchParts, accept_line, accepted_as}
 use Rattle.ev_worker.specs.Members.{on_of, stored_members}
 use Rattle.ev_worker.specs.Workers.{WorkerParts}
@@ -25,9 +26,9 @@ opened c =
     let es = c.self.inside.members.entries in
     ap (λ (b : BatchParts). stored_members b.worker c.open_on.new.members.entries) c.push.ensures
     ∙ ap (stored_members worker) c.open_on.ensures.entries
-    ∙ (λ i. stored_members worker (es ++ map (λ (o : ℕ × Option ℕ). ((c.get.ensures.value i).conn, o)) (option_to_list c.on_of.result)))
-    ∙ ap (λ (on : Option (ℕ × Option ℕ)). stored_members worker (es ++ map (λ (o : ℕ × Option ℕ). (c.args.ask.conn, o)) (option_to_list on))) (c.on_of.ensures ∙ ap on_of c.answer_to-answer.ensures)
-    ∙ ap (λ (v : WorkerParts). stored_members worker (es ++ map (λ (o : ℕ × Option ℕ). (c.args.ask.conn, o)) (option_to_list (on_of (accepted_as v.picture c.args.ask (is_open v.opened v.number c.args.ask.conn)))))) (sym c.self.view_is)
+    ∙ (λ i. stored_members worker (es ++ map (λ (o : On). ((c.get.ensures.value i).conn, o)) (option_to_list c.on_of.result)))
+    ∙ ap (λ (on : Option On). stored_members worker (es ++ map (λ (o : On). (c.args.ask.conn, o)) (option_to_list on))) (c.on_of.ensures ∙ ap on_of c.answer_to-answer.ensures)
+    ∙ ap (λ (v : WorkerParts). stored_members worker (es ++ map (λ (o : On). (c.args.ask.conn, o)) (option_to_list (on_of (accepted_as v.picture c.args.ask (is_open v.opened v.number c.args.ask.conn)))))) (sym c.self.view_is)
     ∙ accept_opens (arc_value c.self.inside.snapshot) c.args.ask worker es
     ∙ ap (λ (v : WorkerParts). (accepted v.picture c.args.ask v.number v.opened).opened) c.self.view_is
 

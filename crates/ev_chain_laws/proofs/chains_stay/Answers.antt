@@ -1,5 +1,0 @@
-use Rattle.ev_chain_laws.proofs.ChainLemmas.{stays}
-use Rattle.ev_chain_laws.proofs.chains_stay.Goals as goal
-
-pub returns : goal.returns
-returns c = λ events start place row made after within. stays events start row place after within made

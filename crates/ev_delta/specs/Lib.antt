@@ -1,3 +1,0 @@
-pub mod Discovery
-pub mod Delta
-pub mod Told

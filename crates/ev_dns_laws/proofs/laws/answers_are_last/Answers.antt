@@ -1,5 +1,0 @@
-use Rattle.ev_dns_laws.proofs.LawLemmas.{last_answer}
-use Rattle.ev_dns_laws.proofs.laws.answers_are_last.Goals as goal
-
-pub returns : goal.returns
-returns c = last_answer

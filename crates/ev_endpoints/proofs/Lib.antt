@@ -1,3 +1,0 @@
-pub mod ResultLemmas
-pub mod RoundLemmas
-pub mod MarkLemmas

@@ -1,4 +1,0 @@
-pub mod Said
-pub mod Waiting
-pub mod Scripts
-pub mod Runs

@@ -1,9 +1,0 @@
-use Rattle.std.proofs.Common.{◌∙◌}
-use Rattle.ev_generations.specs.Tables.{row_in}
-use Rattle.ev_generations.proofs.StoredLemmas.{lookup_is, lookup-row_in}
-use Rattle.ev_generations.proofs.table.Generations.get.Goals as goal
-
-pub returns : goal.returns
-returns c =
-    c.get.ensures.value ∙ lookup_is c.number.result c.self.inside.rows.entries ∙ lookup-row_in c.number.result c.self.inside.rows.entries c.self.invariant.numbered
-    ∙ (λ i. row_in (c.number.ensures.number i) (c.self.view_is i).rows)

@@ -1,7 +1,0 @@
-use Rattle.std.proofs.Common.{sym, subst}
-use Rattle.ev_generations.specs.Tables.{IsStored}
-use Rattle.ev_generations.proofs.StoredLemmas.{stored_none}
-use Rattle.ev_generations.proofs.table.Generations.new.Goals as goal
-
-pub invariant_of-result : goal.invariant_of-result
-invariant_of-result c = subst (λ es. IsStored es 0) (sym c.new.ensures.empty) (stored_none 0)

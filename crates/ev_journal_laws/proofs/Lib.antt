@@ -1,4 +1,0 @@
-pub mod FeedLemmas
-pub mod RowLemmas
-pub mod RunLemmas
-pub mod TextLemmas

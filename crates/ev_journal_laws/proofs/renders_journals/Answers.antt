@@ -1,5 +1,0 @@
-use Rattle.ev_journal_laws.proofs.TextLemmas.{renders}
-use Rattle.ev_journal_laws.proofs.renders_journals.Goals as goal
-
-pub returns : goal.returns
-returns c = renders

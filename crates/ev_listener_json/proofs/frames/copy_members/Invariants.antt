@@ -1,0 +1,10 @@
+use Rattle.std.proofs.Common.{◌≡◌, List, ◌++◌}
+use Rattle.serde_json.specs.View.{members_view}
+use Rattle.serde_json.proofs.Views.{Entry}
+use Rattle.ev_tree.specs.Floats.{whole_members}
+use Rattle.ev_listener_json.specs.Frames.{frame_members}
+use Rattle.ev_listener_json.proofs.frames.copy_members.Given as goal
+
+abbrev pub invariant-loop-key : goal.invariant-loop-key
+invariant-loop-key l =
+    (done : List Entry) × (l.members.entries ≡ done ++ l.key-iterator) × (members_view l.copies.entries ≡ whole_members (frame_members (members_view done)))

@@ -1,0 +1,4 @@
+pub mod Domains
+pub mod Paths
+pub mod Indexed
+pub mod Requests

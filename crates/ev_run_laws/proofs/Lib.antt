@@ -1,4 +1,0 @@
-pub mod NumberLemmas
-pub mod RowLemmas
-pub mod InUseLemmas
-pub mod OpenLemmas

@@ -1,7 +1,0 @@
-ghost use Rattle.ev_run_laws.specs.Drawing.{DrawsForResources};
-
-/// A law of the machine: at most one number is drawn for each resource, by one event and by many, so an event without resources
-/// draws none. It does nothing.
-pub fn numbers_are_drawn_for_resources()
-    ensures { DrawsForResources }
-{}

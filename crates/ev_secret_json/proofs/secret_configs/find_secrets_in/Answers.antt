@@ -1,0 +1,12 @@
+use Rattle.std.proofs.Common.{◌∙◌, ap}
+use Rattle.ev_tree.specs.Forms.{listed}
+use Rattle.ev_secret_json.specs.References.{wrong_form, joined, each_joined}
+use Rattle.ev_secret_json.specs.SecretConfigs.{config_secret, secrets_in}
+use Rattle.ev_secret_json.proofs.secret_configs.find_secrets_in.Goals as goal
+
+pub returns : goal.returns
+unfolding secrets_in
+returns c =
+    let below = c.in_ok-below.ensures ∙ ap (each_joined config_secret) (c.elements.ensures ∙ ap listed c.in_ok-configs.ensures.value) in
+    let wrong = c.wrong_form.ensures ∙ ap wrong_form (c.is_wrong.ensures ∙ c.in_ok-configs.ensures.wrong) in
+    c.in_ok-both.ensures ∙ (λ i. joined (below i) (wrong i))

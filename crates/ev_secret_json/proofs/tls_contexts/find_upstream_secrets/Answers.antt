@@ -1,0 +1,12 @@
+use Rattle.std.proofs.Common.{◌∙◌, ap}
+use Rattle.ev_tree.specs.Forms.{inside}
+use Rattle.ev_secret_json.specs.References.{wrong_form, joined}
+use Rattle.ev_secret_json.specs.TlsContexts.{common_secrets, upstream_secrets}
+use Rattle.ev_secret_json.proofs.tls_contexts.find_upstream_secrets.Goals as goal
+
+pub returns : goal.returns
+unfolding upstream_secrets
+returns c =
+    let below = c.in_ok-below.ensures ∙ ap common_secrets (c.inner.ensures ∙ ap inside c.in_ok-common.ensures.value) in
+    let wrong = c.wrong_form.ensures ∙ ap wrong_form (c.is_wrong.ensures ∙ c.in_ok-common.ensures.wrong) in
+    c.in_ok-both.ensures ∙ (λ i. joined (below i) (wrong i))

@@ -1,0 +1,13 @@
+use Rattle.std.proofs.Common.{◌∙◌, ap}
+use Rattle.ev_tree.specs.Forms.{inside}
+use Rattle.ev_secret_json.specs.References.{wrong_form, joined}
+use Rattle.ev_secret_json.specs.TlsContexts.{downstream_secrets}
+use Rattle.ev_secret_json.specs.TransportSockets.{quic_downstream_secrets}
+use Rattle.ev_secret_json.proofs.transport_sockets.find_quic_downstream.Goals as goal
+
+pub returns : goal.returns
+unfolding quic_downstream_secrets
+returns c =
+    let below = c.in_ok-below.ensures ∙ ap downstream_secrets (c.inner.ensures ∙ ap inside c.in_ok-context.ensures.value) in
+    let wrong = c.wrong_form.ensures ∙ ap wrong_form (c.is_wrong.ensures ∙ c.in_ok-context.ensures.wrong) in
+    c.in_ok-both.ensures ∙ (λ i. joined (below i) (wrong i))

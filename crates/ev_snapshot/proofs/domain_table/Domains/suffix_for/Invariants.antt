@@ -1,7 +1,0 @@
-use Rattle.std.specs.Str.{str_to_ascii_lowercase}
-use Rattle.ev_model.specs.Choice.{has_suffix}
-use Rattle.ev_snapshot.proofs.Patterns.{FitsWithin}
-use Rattle.ev_snapshot.proofs.domain_table.Domains.suffix_for.Given as goal
-
-abbrev pub invariant-loop-beside : goal.invariant-loop-beside
-invariant-loop-beside l = FitsWithin (has_suffix (str_to_ascii_lowercase l.host)) l.beside l.self

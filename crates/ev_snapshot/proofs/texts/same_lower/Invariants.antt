@@ -1,6 +1,0 @@
-use Rattle.std.proofs.Common.{◌≡◌, drop}
-use Rattle.std.specs.Str.{bytes_eq, str_to_ascii_lowercase}
-use Rattle.ev_snapshot.proofs.texts.same_lower.Given as goal
-
-abbrev pub invariant-loop-place : goal.invariant-loop-place
-invariant-loop-place l = bytes_eq (str_to_ascii_lowercase (drop l.place l.text)) (str_to_ascii_lowercase (drop l.place l.other)) ≡ bytes_eq (str_to_ascii_lowercase l.text) (str_to_ascii_lowercase l.other)

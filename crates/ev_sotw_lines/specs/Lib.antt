@@ -1,4 +1,0 @@
-pub mod Searches
-pub mod Lines
-pub mod Deltas
-pub mod Follows

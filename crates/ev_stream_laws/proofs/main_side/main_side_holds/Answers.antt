@@ -1,5 +1,0 @@
-use Rattle.ev_stream_laws.proofs.HoldLemmas.{side_holds}
-use Rattle.ev_stream_laws.proofs.main_side.main_side_holds.Goals as goal
-
-pub returns : goal.returns
-returns c = side_holds

@@ -1,5 +1,0 @@
-use Rattle.ev_stream_laws.proofs.KeptLemmas.{kept_value}
-use Rattle.ev_stream_laws.proofs.told.kept_is_value.Goals as goal
-
-pub returns : goal.returns
-returns c = kept_value

@@ -1,5 +1,0 @@
-use Rattle.ev_stream_laws.proofs.ToldLemmas.{told_stay}
-use Rattle.ev_stream_laws.proofs.told.told_stays.Goals as goal
-
-pub returns : goal.returns
-returns c = told_stay

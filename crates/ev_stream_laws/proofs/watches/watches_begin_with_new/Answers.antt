@@ -1,5 +1,0 @@
-use Rattle.ev_stream_laws.proofs.LiveLemmas.{watches_begin}
-use Rattle.ev_stream_laws.proofs.watches.watches_begin_with_new.Goals as goal
-
-pub returns : goal.returns
-returns c = watches_begin

@@ -1,3 +1,0 @@
-pub mod MainSide
-pub mod Watches
-pub mod Told

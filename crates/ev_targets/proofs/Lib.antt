@@ -1,2 +1,0 @@
-pub mod ComeLemmas
-pub mod WaitLemmas

@@ -1,4 +1,0 @@
-pub mod FirstLemmas
-pub mod ToldLemmas
-pub mod NextLemmas
-pub mod DrawnLemmas

@@ -1,5 +1,0 @@
-use Rattle.ev_walk_laws.proofs.NextLemmas.{journal_more}
-use Rattle.ev_walk_laws.proofs.walks.goes_on.Goals as goal
-
-pub returns : goal.returns
-returns c = journal_more

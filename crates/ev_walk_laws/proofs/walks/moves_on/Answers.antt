@@ -1,5 +1,0 @@
-use Rattle.ev_walk_laws.proofs.NextLemmas.{moves_on}
-use Rattle.ev_walk_laws.proofs.walks.moves_on.Goals as goal
-
-pub returns : goal.returns
-returns c = moves_on
