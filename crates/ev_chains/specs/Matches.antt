@@ -1,6 +1,5 @@
 -- A filter chain's match, and the rules that it breaks.
 use Rattle.std.specs.Prelude.{ℕ, ◌||◌, ◌&&◌, List, map, Bool, false, not, nat_le, if◌then◌else◌, Option, Some, None, codes}
-use Rattle.std.specs.List.{list_any}
 use Rattle.std.specs.Str.{bytes_eq}
 use Rattle.serde_json.specs.Data.{Data, Members, no_members, member}
 use Rattle.serde_json.specs.Find.{as_object}
@@ -11,8 +10,8 @@ use Rattle.ev_tree.specs.declared.outcome.Found.TheVariants.{Absent, Wrong, Give
 use Rattle.ev_tree.specs.Forms.{is_wrong, listed, text_in, number_of, texts_of}
 use Rattle.ev_tree.specs.Broken.{none_broken}
 use Rattle.ev_listener_json.specs.Members.{is_present}
+use Rattle.ev_listener_json.specs.ServerNames.{has_no_name}
 use Rattle.ev_chains.specs.declared.matches.ChainMatch.{ChainMatch}
-use Rattle.ev_chains.specs.Names.{is_server_name}
 
 -- ---- members that are not read
 
@@ -64,5 +63,5 @@ match_broken tree = record none_broken {
       || is_above (number_of (codes "destination_port") tree)
       || is_wrong (texts_of (codes "server_names") tree);
   v16 = has_other tree;
-  v27 = list_any (λ name. not (is_server_name name)) (names_in tree);
+  v27 = has_no_name (names_in tree);
 }

@@ -1,22 +1,5 @@
--- Server names: those that a filter chain's match may have, and those that a connection's name is looked for under.
-use Rattle.std.specs.Prelude.{ℕ, ◌==◌, ◌&&◌, Bool, not, nat_lt, List, [], ◌∷◌, ◌++◌, length, take, drop, map, if◌then◌else◌, Option, Some, None, codes}
-use Rattle.std.specs.List.{list_any}
-use Rattle.std.specs.Str.{bytes_eq}
-
--- ---- the names of a match
-
-abbrev pub has_star : List ℕ → Bool
-has_star name = list_any (λ byte. byte == 42) name
-
--- what comes after a leading `*.` that something follows, or the whole name where it doesn't begin so
-abbrev pub behind_star : List ℕ → List ℕ
-behind_star name = if nat_lt 2 (length name) && bytes_eq (take 2 name) (codes "*.") then drop 2 name else name
-
--- a name that isn't empty, with no star but that of a leading `*.` that something follows
-abbrev pub is_server_name : List ℕ → Bool
-is_server_name name = not (length name == 0) && not (has_star (behind_star name))
-
--- ---- the names that a connection is looked for under
+-- The server names that a connection's name is looked for under.
+use Rattle.std.specs.Prelude.{ℕ, ◌==◌, List, [], ◌∷◌, ◌++◌, drop, map, if◌then◌else◌, Option, Some, None}
 
 -- for each dot of a text, from the left, a star and the text from the dot on
 abbrev pub wild_from : List ℕ → List (List ℕ)

@@ -58,7 +58,6 @@ mod laws;
 mod listed;
 mod listeners;
 mod matches;
-mod names;
 mod next;
 mod rows;
 

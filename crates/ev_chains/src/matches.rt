@@ -3,11 +3,10 @@ ghost use Rattle.std.specs.List.{list_any};
 ghost use Rattle.serde_json.specs.View.{view};
 ghost use Rattle.ev_tree.specs.Forms.{tree_of, text_in};
 ghost use Rattle.ev_listener_json.specs.Members.{is_present};
-ghost use Rattle.ev_chains.specs.Names.{is_server_name};
 ghost use Rattle.ev_chains.specs.Matches.{has_other, is_known, port_in, is_above, match_read, match_broken};
 
 use crate::keys::same_port;
-use crate::names::is_server_name;
+use ev_listener_json::has_no_name;
 use ev_tree::{BrokenRules, Found, Inspection, MAX_PORT, member};
 use ev_types::{Seq, Text};
 use serde_json::{Map, Value};
@@ -70,15 +69,6 @@ fn copy_texts(alloc: Global, elements: &[Value]) -> Result<Vec<Text>, AllocError
         texts.push(Text::new(alloc, member::text_value(element))?)?;
     }
     Ok(texts)
-}
-
-// Whether one of these texts is no server name.
-fn has_no_name(texts: &[Text]) -> bool
-    ensures { result ≡ list_any (λ name. not (is_server_name name)) texts.now }
-{
-    texts
-        .iter()
-        .any(|text| !is_server_name(text.as_str().as_bytes()))
 }
 
 // The port, where one is given that is one.

@@ -9,7 +9,7 @@ use Rattle.ev_model.specs.Warming.{is_healthy}
 use Rattle.ev_model.specs.World.{World}
 use Rattle.ev_indexes.specs.KeptEndpoints.{result_in}
 use Rattle.ev_indexes.specs.Tables.{row_in}
-use Rattle.ev_mentions.specs.declared.kind_keys.Key.{Key}
+use Rattle.ev_lookups.specs.declared.kind_keys.Key.{Key}
 use Rattle.ev_indexes.specs.declared.state.State.{State}
 use Rattle.ev_indexes.specs.Due.{is_one_of}
 use Rattle.ev_indexes.specs.Indexes.{IsIndexed, numbers_where, passes, serves}

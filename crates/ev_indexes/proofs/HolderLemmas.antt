@@ -7,7 +7,7 @@ use Rattle.ev_types.specs.declared.rows.GenRow.{GenRow}
 use Rattle.ev_model.specs.World.{World}
 use Rattle.ev_model.specs.Live.{live_of}
 use Rattle.ev_indexes.specs.Tables.{row_in, numbers_of}
-use Rattle.ev_mentions.specs.Lives.{is_at}
+use Rattle.ev_lookups.specs.Lives.{is_at}
 use Rattle.ev_indexes.specs.declared.state.State.{State}
 use Rattle.ev_indexes.specs.Addresses.{listens_at, lives_numbered, lives_listed}
 use Rattle.ev_indexes.specs.Indexes.{IsIndexed, holds, numbers_where}

@@ -23,7 +23,7 @@ use Rattle.ev_model.specs.Versions.{is_before}
 use Rattle.ev_model.specs.Verdicts.{is_among}
 use Rattle.ev_model.specs.Watching.{Dependency, dependencies_of, is_dependency, is_watched, names_awaited, sorted_names, watched_by}
 use Rattle.ev_model.specs.Requests.{other_than}
-use Rattle.ev_mentions.specs.Keys.{named}
+use Rattle.ev_lookups.specs.Keys.{named}
 use Rattle.ev_indexes.specs.Indexes.{depends_on}
 use Rattle.ev_indexes.specs.Needs.{is_on, is_needed, needs_of}
 use Rattle.ev_indexes.specs.Reads.{live_rows, names_needed, names_watched}

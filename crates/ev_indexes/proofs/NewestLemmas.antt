@@ -12,7 +12,7 @@ use Rattle.ev_model.specs.Live.{live_of, lives_of, is_named, later_of, latest, n
 use Rattle.ev_model.specs.Phase.{has_come}
 use Rattle.ev_model.specs.Rows.{is_row_of}
 use Rattle.ev_indexes.specs.Tables.{row_in, numbers_of}
-use Rattle.ev_mentions.specs.declared.kind_keys.Key.{Key}
+use Rattle.ev_lookups.specs.declared.kind_keys.Key.{Key}
 use Rattle.ev_indexes.specs.declared.names.Standing.{Standing}
 use Rattle.ev_indexes.specs.declared.state.State.{State}
 use Rattle.ev_indexes.specs.Due.{has_number}

@@ -16,8 +16,8 @@ use Rattle.ev_model.specs.Live.{live_of, lives_of}
 use Rattle.ev_model.specs.Signals.{awaits, is_waiting, is_awaited}
 use Rattle.ev_model.specs.Warming.{counts_for, has_word, has_timeout, last_told, last_timed}
 use Rattle.ev_model.specs.Watching.{Dependency, dependencies_of, has_dependency, is_watched, watched_of, names_awaited}
-use Rattle.ev_mentions.specs.Keys.{key_same, named}
-use Rattle.ev_mentions.specs.declared.kind_keys.Key.{Key}
+use Rattle.ev_lookups.specs.Keys.{key_same, named}
+use Rattle.ev_lookups.specs.declared.kind_keys.Key.{Key}
 use Rattle.ev_indexes.specs.declared.state.State.{State}
 use Rattle.ev_indexes.specs.declared.watches.Watch.{Watch}
 use Rattle.ev_indexes.specs.Watched.{unwatched, watch_in, has_watcher, watchers_of}

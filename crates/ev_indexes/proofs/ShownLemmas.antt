@@ -24,8 +24,8 @@ use Rattle.ev_model.specs.declared.pictures.Secrets.TheVariants.{There, Missing,
 use Rattle.ev_types.specs.declared.references.Reference.{Reference}
 use Rattle.ev_model.specs.Warming.{is_checked}
 use Rattle.ev_indexes.specs.Tables.{row_in, numbers_of}
-use Rattle.ev_mentions.specs.Keys.{named}
-use Rattle.ev_mentions.specs.declared.kind_keys.Key.{Key}
+use Rattle.ev_lookups.specs.Keys.{named}
+use Rattle.ev_lookups.specs.declared.kind_keys.Key.{Key}
 use Rattle.ev_indexes.specs.declared.state.State.{State}
 use Rattle.ev_indexes.specs.Standings.{standing_in}
 use Rattle.ev_indexes.specs.Indexes.{IsIndexed, serves, numbers_where}

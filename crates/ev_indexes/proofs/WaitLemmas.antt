@@ -10,7 +10,7 @@ use Rattle.ev_types.specs.Statuses.{is_live}
 use Rattle.ev_types.specs.declared.rows.GenRow.{GenRow}
 use Rattle.ev_model.specs.Watching.{Dependency, dependencies_of}
 use Rattle.ev_indexes.specs.Tables.{row_in, numbers_of}
-use Rattle.ev_mentions.specs.declared.kind_keys.Key.{Key}
+use Rattle.ev_lookups.specs.declared.kind_keys.Key.{Key}
 use Rattle.ev_indexes.specs.declared.state.State.{State}
 use Rattle.ev_indexes.specs.Due.{is_one_of, has_number}
 use Rattle.ev_indexes.specs.Watched.{watch_in, has_watcher, watchers_of, is_last, with_last, watched_for, unwatched_for, watched_less, numbers_without, is_other}

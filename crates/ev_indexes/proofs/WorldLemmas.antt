@@ -12,8 +12,8 @@ use Rattle.ev_model.specs.Watching.{Dependency, dependencies_of}
 use Rattle.ev_model.specs.Warming.{counts_for, has_answer, discovered, assignment_by, rows_in, has_result, has_all_results, value_by, is_answered_by, is_ready_by, is_checked}
 use Rattle.ev_indexes.specs.KeptEndpoints.{ResultsKept, result_in}
 use Rattle.ev_indexes.specs.Tables.{row_in}
-use Rattle.ev_mentions.specs.Keys.{named}
-use Rattle.ev_mentions.specs.declared.kind_keys.Key.{Key}
+use Rattle.ev_lookups.specs.Keys.{named}
+use Rattle.ev_lookups.specs.declared.kind_keys.Key.{Key}
 use Rattle.ev_indexes.specs.declared.state.State.{State}
 use Rattle.ev_indexes.specs.Needs.{key_of}
 use Rattle.ev_indexes.specs.Watched.{WatchesKept, watch_in}

@@ -14,8 +14,8 @@ use Rattle.ev_model.specs.Rows.{is_row_of}
 use Rattle.ev_model.specs.Watching.{dependencies_of}
 use Rattle.ev_indexes.specs.KeptEndpoints.{result_in, marked_in}
 use Rattle.ev_indexes.specs.Tables.{IsTable, numbers_of, row_in}
-use Rattle.ev_mentions.specs.Keys.{named}
-use Rattle.ev_mentions.specs.declared.kind_keys.Key.{Key}
+use Rattle.ev_lookups.specs.Keys.{named}
+use Rattle.ev_lookups.specs.declared.kind_keys.Key.{Key}
 use Rattle.ev_indexes.specs.Addresses.{numbers_at, listens_at}
 use Rattle.ev_indexes.specs.Due.{is_one_of}
 use Rattle.ev_indexes.specs.Standings.{standing_in}

@@ -1,8 +1,8 @@
 -- Values that are kept by names of kinds.
 use Rattle.std.specs.Prelude.{◌≡◌, ◌≢◌, if◌then◌else◌, List, Some, unwrap_or}
 use Rattle.std.specs.Map.{lookup}
-use Rattle.ev_mentions.specs.Keys.{key_same}
-use Rattle.ev_mentions.specs.declared.kind_keys.Key.{Key}
+use Rattle.ev_lookups.specs.Keys.{key_same}
+use Rattle.ev_lookups.specs.declared.kind_keys.Key.{Key}
 
 -- the value of a name, or the default where none is kept
 abbrev pub kept_at : {V : Type 0} → V → List (Key × V) → Key → V

@@ -8,8 +8,8 @@ use Rattle.ev_types.specs.declared.contents.Kind.{Kind}
 use Rattle.ev_types.specs.declared.rows.GenRow.{GenRow}
 use Rattle.ev_model.specs.Watching.{names_awaited, sorted_names}
 use Rattle.ev_indexes.specs.Tables.{row_in}
-use Rattle.ev_mentions.specs.Keys.{named}
-use Rattle.ev_mentions.specs.declared.kind_keys.Key.{Key}
+use Rattle.ev_lookups.specs.Keys.{named}
+use Rattle.ev_lookups.specs.declared.kind_keys.Key.{Key}
 use Rattle.ev_indexes.specs.Needs.{needs_of}
 use Rattle.ev_indexes.specs.Indexes.{depends_on}
 

@@ -33,9 +33,9 @@ use Rattle.ev_model.specs.Watching.{Dependency, dependencies_of, names_awaited, 
 use Rattle.ev_model.specs.World.{World}
 use Rattle.ev_indexes.specs.KeptEndpoints.{ResultsKept, result_in}
 use Rattle.ev_indexes.specs.Tables.{row_in}
-use Rattle.ev_mentions.specs.Lives.{is_at}
-use Rattle.ev_mentions.specs.Keys.{named}
-use Rattle.ev_mentions.specs.declared.kind_keys.Key.{Key}
+use Rattle.ev_lookups.specs.Lives.{is_at}
+use Rattle.ev_lookups.specs.Keys.{named}
+use Rattle.ev_lookups.specs.declared.kind_keys.Key.{Key}
 use Rattle.ev_indexes.specs.declared.watches.Watch.{Watch}
 use Rattle.ev_indexes.specs.Needs.{is_on, needs_of}
 use Rattle.ev_indexes.specs.Watched.{WatchesKept, watch_in}

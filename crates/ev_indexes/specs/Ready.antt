@@ -16,7 +16,7 @@ use Rattle.ev_model.specs.Watching.{Dependency, dependencies_of}
 use Rattle.ev_model.specs.Warming.{counts_for, rows_in, is_checked}
 use Rattle.ev_indexes.specs.KeptEndpoints.{ResultsKept, result_in}
 use Rattle.ev_indexes.specs.Tables.{row_in}
-use Rattle.ev_mentions.specs.Keys.{named}
+use Rattle.ev_lookups.specs.Keys.{named}
 use Rattle.ev_indexes.specs.Due.{is_one_of}
 use Rattle.ev_indexes.specs.Needs.{key_of}
 use Rattle.ev_indexes.specs.Watched.{WatchesKept, watch_in}

@@ -1,6 +1,6 @@
 -- Which generations of a name are live.
 use Rattle.std.specs.Prelude.{List, None}
-use Rattle.ev_mentions.specs.declared.kind_keys.Key.{Key}
+use Rattle.ev_lookups.specs.declared.kind_keys.Key.{Key}
 use Rattle.ev_indexes.specs.declared.names.Standing.{Standing}
 use Rattle.ev_indexes.specs.Kept.{kept_at}
 

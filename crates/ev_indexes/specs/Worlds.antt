@@ -10,7 +10,7 @@ use Rattle.ev_model.specs.World.{World}
 use Rattle.ev_model.specs.Warming.{value_by, last_told, last_timed, has_result, is_healthy}
 use Rattle.ev_indexes.specs.KeptEndpoints.{result_in}
 use Rattle.ev_indexes.specs.Tables.{IsTable, row_in}
-use Rattle.ev_mentions.specs.declared.kind_keys.Key.{Key}
+use Rattle.ev_lookups.specs.declared.kind_keys.Key.{Key}
 use Rattle.ev_indexes.specs.declared.state.State.{State}
 use Rattle.ev_indexes.specs.Watched.{watch_in}
 

@@ -5,7 +5,7 @@ ghost use Rattle.ev_indexes.specs.Reads.{holders_in, holders_of};
 ghost use Rattle.ev_indexes.specs.Worlds.{InWorlds};
 
 use crate::{Addresses, Generations, State};
-use ev_mentions::LiveRow;
+use ev_lookups::LiveRow;
 use ev_types::{Gen, SocketAddress};
 use std::alloc::{AllocError, Global};
 

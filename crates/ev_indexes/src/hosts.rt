@@ -2,7 +2,7 @@ ghost use Rattle.std.specs.Prelude.{◌≡◌, [], unwrap_or};
 ghost use Rattle.std.specs.Option.{option_copied};
 ghost use Rattle.ev_model.specs.Warming.{is_checked, rows_in};
 ghost use Rattle.ev_types.specs.declared.contents.Kind.TheVariants.{Eds};
-ghost use Rattle.ev_mentions.specs.Keys.{named};
+ghost use Rattle.ev_lookups.specs.Keys.{named};
 ghost use Rattle.ev_indexes.specs.Watched.{watch_in};
 ghost use Rattle.ev_indexes.specs.Ready.{assignment_in};
 ghost use Rattle.ev_indexes.specs.Ready.{takes_result};

@@ -1,11 +1,11 @@
 ghost use Rattle.std.specs.Prelude.{◌≡◌, [], Decides, IsSome, OnOk, OnErr};
 ghost use Rattle.std.specs.Map.{lookup};
-ghost use Rattle.ev_mentions.specs.Keys.{key_same, named};
+ghost use Rattle.ev_lookups.specs.Keys.{key_same, named};
 ghost use Rattle.ev_indexes.specs.Kept.{Sets};
 ghost use Rattle.ev_indexes.specs.Standings.{nobody, standing_in};
 
 use ev_keys::Keys;
-use ev_mentions::{Key, KeyText};
+use ev_lookups::{Key, KeyText};
 use ev_types::{Gen, Kind, Name};
 use indexmap::IndexMap;
 use std::alloc::{AllocError, Global};

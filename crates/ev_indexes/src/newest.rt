@@ -4,14 +4,14 @@
 ghost use Rattle.std.specs.Prelude.{◌≡◌, ◌||◌, not, is_some};
 ghost use Rattle.ev_model.specs.Live.{lives_of, newest_of};
 ghost use Rattle.ev_model.specs.Phase.{has_come};
-ghost use Rattle.ev_mentions.specs.Keys.{named};
+ghost use Rattle.ev_lookups.specs.Keys.{named};
 ghost use Rattle.ev_indexes.specs.Indexes.{IsIndexed};
 ghost use Rattle.ev_indexes.specs.Newest.{later_number, newest_in, found_in};
 ghost use Rattle.ev_indexes.specs.Worlds.{InWorlds};
 ghost use Rattle.ev_indexes.specs.Reads.{has_come_in};
 
 use crate::{Generations, Standing, State};
-use ev_mentions::LiveRow;
+use ev_lookups::LiveRow;
 use ev_types::{Gen, Kind};
 
 impl State {

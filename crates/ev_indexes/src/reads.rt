@@ -5,7 +5,7 @@ ghost use Rattle.std.specs.List.{list_any};
 ghost use Rattle.ev_model.specs.Live.{live_of, lives_of};
 ghost use Rattle.ev_model.specs.Watching.{dependencies_of, is_watched};
 ghost use Rattle.ev_types.specs.declared.contents.Kind.TheVariants.{Cds};
-ghost use Rattle.ev_mentions.specs.Keys.{named};
+ghost use Rattle.ev_lookups.specs.Keys.{named};
 ghost use Rattle.ev_indexes.specs.Indexes.{IsIndexed, depends_on, waits, numbers_waiting, numbers_where};
 ghost use Rattle.ev_indexes.specs.Reads.{is_as_healthy, lives_as, awaits_in, is_waiting_in, is_one_waiting, is_timeout_due, is_awaited_at};
 ghost use Rattle.ev_indexes.specs.Worlds.{InWorlds};

@@ -4,7 +4,7 @@ ghost use Rattle.std.specs.Prelude.{◌≡◌, ◌+◌, ◌<◌, length, option_
 ghost use Rattle.std.specs.List.{list_all};
 ghost use Rattle.ev_model.specs.Warming.{counts_for, rows_in};
 ghost use Rattle.ev_types.specs.declared.contents.Kind.TheVariants.{Eds};
-ghost use Rattle.ev_mentions.specs.Keys.{named};
+ghost use Rattle.ev_lookups.specs.Keys.{named};
 ghost use Rattle.ev_indexes.specs.Watched.{watch_in};
 ghost use Rattle.ev_indexes.specs.Ready.{has_answer_in, are_results_in, is_answered_in, is_round_done_in, is_ready_in, Refreshes};
 

@@ -2,7 +2,7 @@
 
 ghost use Rattle.std.specs.Prelude.{◌≡◌, Some, map, option_map, IfOk};
 ghost use Rattle.ev_types.specs.declared.contents.Kind.TheVariants.{Rds};
-ghost use Rattle.ev_mentions.specs.Keys.{named};
+ghost use Rattle.ev_lookups.specs.Keys.{named};
 ghost use Rattle.ev_model.specs.Origins.{placed_default, placed_from};
 ghost use Rattle.ev_indexes.specs.Origins.{AreKept};
 ghost use Rattle.ev_model.specs.Picture.{table_in};

@@ -5,7 +5,7 @@
 ghost use Rattle.std.specs.Prelude.{◌≡◌, ◌≢◌, ◌++◌, [], None, Decides, IsSome, OnOk, OnErr};
 ghost use Rattle.std.specs.Map.{lookup};
 ghost use Rattle.std.specs.Option.{option_copied};
-ghost use Rattle.ev_mentions.specs.Keys.{key_same, named};
+ghost use Rattle.ev_lookups.specs.Keys.{key_same, named};
 ghost use Rattle.ev_indexes.specs.Kept.{Sets};
 ghost use Rattle.ev_indexes.specs.Due.{has_number};
 ghost use Rattle.ev_indexes.specs.Watched.{Turns, unwatched, has_watcher, watchers_of, watched_too, watched_less, with_arrival};
@@ -13,7 +13,7 @@ ghost use Rattle.ev_indexes.specs.Watched.{Turns, unwatched, has_watcher, watche
 use crate::Numbers;
 use crate::names::key;
 use ev_keys::Keys;
-use ev_mentions::{Key, KeyText};
+use ev_lookups::{Key, KeyText};
 use ev_types::{Arrival, Content, Gen, Kind, Name, Seq, TryCopy};
 use indexmap::IndexMap;
 use std::alloc::{AllocError, Global};

@@ -53,3 +53,4 @@ pub use chains::{chain_rule_is_least, inspect_chain, read_chain};
 pub use collisions::has_collision;
 pub use envoy_chains::{ChainsFound, inspect_envoy_chains};
 pub use listeners::{listener_rule_is_least, read_listener};
+pub use server_names::has_no_name;

@@ -5,7 +5,7 @@ use ev_types::Text;
 
 /// Whether one of these texts is no server name: it is empty, or has a star but that of a leading `*.` that
 /// something follows.
-pub(crate) fn has_no_name(texts: &[Text]) -> bool
+pub fn has_no_name(texts: &[Text]) -> bool
     ensures { result ≡ has_no_name texts.now }
 {
     texts

@@ -12,7 +12,7 @@ use Rattle.ev_model.specs.Signals.{is_draining, rows_ended}
 use Rattle.ev_model.specs.Tidy.{status_by}
 use Rattle.ev_indexes.specs.Tables.{row_in}
 use Rattle.ev_indexes.proofs.TableLemmas.{row_in-with_statuses}
-use Rattle.ev_mentions.specs.Keys.{named}
+use Rattle.ev_lookups.specs.Keys.{named}
 use Rattle.ev_indexes.specs.declared.state.State.{State}
 use Rattle.ev_indexes.specs.Due.{is_one_of}
 use Rattle.ev_indexes.specs.Indexes.{IsIndexed, numbers_where, serves, status_in, warms}

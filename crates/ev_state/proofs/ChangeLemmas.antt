@@ -13,8 +13,8 @@ use Rattle.ev_model.specs.Watching.{dependencies_of}
 use Rattle.ev_model_laws.proofs.AnyLemmas.{or_so, any_so}
 use Rattle.ev_indexes.specs.Tables.{IsTable, row_in}
 use Rattle.ev_indexes.proofs.TableLemmas.{number-row_in}
-use Rattle.ev_mentions.specs.Keys.{named}
-use Rattle.ev_mentions.specs.declared.kind_keys.Key.{Key}
+use Rattle.ev_lookups.specs.Keys.{named}
+use Rattle.ev_lookups.specs.declared.kind_keys.Key.{Key}
 use Rattle.ev_indexes.specs.Due.{is_one_of}
 use Rattle.ev_warming.specs.Changes.{is_over, has_retired}
 use Rattle.ev_indexes.specs.Indexes.{depends_on}

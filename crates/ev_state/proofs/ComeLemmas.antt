@@ -5,7 +5,7 @@ use Rattle.ev_types.specs.declared.contents.Kind.TheVariants.{Cds, Lds}
 use Rattle.ev_model.specs.World.{World}
 use Rattle.ev_model.specs.Phase.{has_come, have_come, phase_from}
 use Rattle.ev_model.specs.Tidy.{with_phase}
-use Rattle.ev_mentions.specs.Keys.{named}
+use Rattle.ev_lookups.specs.Keys.{named}
 use Rattle.ev_indexes.specs.Indexes.{IsIndexed}
 use Rattle.ev_indexes.specs.Worlds.{HasRows}
 use Rattle.ev_indexes.specs.declared.state.State.{State}

@@ -18,7 +18,7 @@ use Rattle.ev_model.specs.Signals.{with_end, forget_version}
 use Rattle.ev_model.specs.Warming.{value_by, assignment_by}
 use Rattle.ev_model.specs.Watching.{has_dependency}
 use Rattle.ev_indexes.specs.Tables.{row_in}
-use Rattle.ev_mentions.specs.Keys.{named}
+use Rattle.ev_lookups.specs.Keys.{named}
 use Rattle.ev_indexes.specs.declared.state.State.{State}
 use Rattle.ev_indexes.specs.Due.{is_one_of}
 use Rattle.ev_warming.specs.Changes.{has_retired}

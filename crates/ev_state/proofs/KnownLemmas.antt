@@ -14,8 +14,8 @@ use Rattle.ev_model.specs.Live.{is_named, live_of, lives_of}
 use Rattle.ev_model.specs.Rows.{is_row_of, serving_row}
 use Rattle.ev_model.specs.Verdicts.{serving_of}
 use Rattle.ev_types.specs.Kinds.{is_by_name}
-use Rattle.ev_mentions.specs.Keys.{named}
-use Rattle.ev_mentions.specs.declared.kind_keys.Key.{Key}
+use Rattle.ev_lookups.specs.Keys.{named}
+use Rattle.ev_lookups.specs.declared.kind_keys.Key.{Key}
 use Rattle.ev_indexes.specs.declared.state.State.{State}
 use Rattle.ev_indexes.specs.Indexes.{IsIndexed}
 use Rattle.ev_indexes.specs.Reads.{live_rows}

@@ -9,8 +9,8 @@ use Rattle.ev_types.specs.declared.rows.GenRow.{GenRow}
 use Rattle.ev_model.specs.Verdicts.{is_among}
 use Rattle.ev_model.specs.Watching.{dependencies_of, names_awaited}
 use Rattle.ev_indexes.specs.Tables.{row_in}
-use Rattle.ev_mentions.specs.Keys.{named}
-use Rattle.ev_mentions.specs.declared.kind_keys.Key.{Key}
+use Rattle.ev_lookups.specs.Keys.{named}
+use Rattle.ev_lookups.specs.declared.kind_keys.Key.{Key}
 use Rattle.ev_indexes.specs.Indexes.{depends_on}
 use Rattle.ev_indexes.specs.Moved.{is_held, free_needs, needs_found, live_needs_found, needs_lost, needs_gained, numbers_after, names_lost, names_gained}
 use Rattle.ev_indexes.specs.Needs.{is_needed, needs_of}

@@ -18,7 +18,7 @@ use Rattle.ev_model.specs.Warming.{assignment_by, is_checked, is_result_of, is_h
 use Rattle.ev_model.specs.Signals.{is_meant, rows_meant, result_for, with_results}
 use Rattle.ev_indexes.specs.Tables.{row_in, numbers_of}
 use Rattle.ev_indexes.proofs.TableLemmas.{number-row_in}
-use Rattle.ev_mentions.specs.Keys.{named}
+use Rattle.ev_lookups.specs.Keys.{named}
 use Rattle.ev_indexes.specs.declared.state.State.{State}
 use Rattle.ev_indexes.specs.Due.{is_one_of}
 use Rattle.ev_indexes.specs.Indexes.{serves, numbers_where}

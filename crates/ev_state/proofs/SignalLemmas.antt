@@ -16,8 +16,8 @@ use Rattle.ev_types.specs.Kinds.{is_by_name}
 use Rattle.std.proofs.lemmas.List.Elements.{All-filter, recursion_from_All}
 use Rattle.ev_types.specs.declared.contents.Kind.{Kind}
 use Rattle.ev_types.specs.declared.contents.Kind.TheVariants.{Cds}
-use Rattle.ev_mentions.specs.Keys.{named}
-use Rattle.ev_mentions.specs.declared.kind_keys.Key.{Key}
+use Rattle.ev_lookups.specs.Keys.{named}
+use Rattle.ev_lookups.specs.declared.kind_keys.Key.{Key}
 use Rattle.ev_indexes.proofs.ReadLemmas.{watched-world, still-waits}
 use Rattle.ev_indexes.proofs.WaitLemmas.{waits-depends}
 use Rattle.ev_state.proofs.TidyLemmas.{found_watched}

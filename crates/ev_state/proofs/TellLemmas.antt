@@ -19,7 +19,7 @@ use Rattle.ev_model.specs.Tidy.{tidy, promoted, without_unwatched, without_old_r
 use Rattle.ev_model.specs.Warming.{value_by, assignment_by, is_healthy}
 use Rattle.ev_types.specs.declared.rows.Arrival.TheVariants.{TimedOut}
 use Rattle.ev_indexes.specs.Tables.{row_in}
-use Rattle.ev_mentions.specs.Keys.{named}
+use Rattle.ev_lookups.specs.Keys.{named}
 use Rattle.ev_indexes.specs.Due.{is_one_of}
 use Rattle.ev_warming.specs.Changes.{is_over, has_retired, began_to_serve, began_to_drain}
 use Rattle.ev_indexes.specs.Indexes.{serves, numbers_where}

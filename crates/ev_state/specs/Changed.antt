@@ -7,7 +7,7 @@ use Rattle.ev_types.specs.declared.contents.Kind.TheVariants.{Lds}
 use Rattle.ev_types.specs.declared.rows.Phase.{Phase}
 use Rattle.ev_model.specs.World.{World}
 use Rattle.ev_model.specs.Phase.{is_serving}
-use Rattle.ev_mentions.specs.Keys.{named}
+use Rattle.ev_lookups.specs.Keys.{named}
 use Rattle.ev_indexes.specs.declared.state.State.{State}
 use Rattle.ev_indexes.specs.Due.{is_one_of}
 use Rattle.ev_indexes.specs.Indexes.{numbers_waiting, numbers_where}

@@ -10,7 +10,7 @@ use Rattle.ev_model.specs.World.{World}
 use Rattle.ev_model.specs.Rows.{made_names, noted_once, with_first}
 use Rattle.ev_model.specs.Phase.{have_come, is_clusters}
 use Rattle.ev_model.specs.Tidy.{with_phase}
-use Rattle.ev_mentions.specs.Keys.{named}
+use Rattle.ev_lookups.specs.Keys.{named}
 use Rattle.ev_indexes.specs.Reads.{has_come_in}
 use Rattle.ev_indexes.specs.Worlds.{HasRows}
 use Rattle.ev_indexes.specs.declared.state.State.{State}

@@ -1,6 +1,6 @@
 ghost use Rattle.std.specs.Prelude.{◌≡◌, ◌++◌, OnOk};
 ghost use Rattle.ev_types.specs.declared.contents.Kind.TheVariants.{Cds};
-ghost use Rattle.ev_mentions.specs.Keys.{named};
+ghost use Rattle.ev_lookups.specs.Keys.{named};
 ghost use Rattle.ev_indexes.specs.Indexes.{numbers_where, serves};
 ghost use Rattle.ev_managers.specs.Managers.{AreManagersKept};
 ghost use Rattle.ev_state.specs.Changed.{dependents_in, dependents_of, listeners_begun};

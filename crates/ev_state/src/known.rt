@@ -1,12 +1,12 @@
 ghost use Rattle.std.specs.Prelude.{◌≡◌};
-ghost use Rattle.ev_mentions.specs.Keys.{named};
+ghost use Rattle.ev_lookups.specs.Keys.{named};
 ghost use Rattle.ev_indexes.specs.Indexes.{IsIndexed};
 ghost use Rattle.ev_managers.specs.Managers.{AreManagersKept};
 ghost use Rattle.ev_state.specs.Known.{serving_in};
 
 use ev_indexes::{State, live_row_of};
+use ev_lookups::LiveRow;
 use ev_managers::Managers;
-use ev_mentions::LiveRow;
 use ev_subscription::Subscription;
 use ev_types::{Kind, SocketAddress};
 use ev_verdicts::Known;

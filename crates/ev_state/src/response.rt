@@ -18,8 +18,8 @@ use crate::asked::Asked;
 use crate::known::Before;
 use crate::state::State;
 use ev_indexes::Steps;
+use ev_lookups::Mentions;
 use ev_managers::Moved;
-use ev_mentions::Mentions;
 use ev_subscription::reply_of;
 use ev_types::{Answer, Kind, Response, Seq, Verdict};
 use ev_verdicts::verdicts_by_mentions;
@@ -116,7 +116,7 @@ impl State {
         self.put_all_dependents(kind, response, &mut changed)?;
         let retired = self
             .managers
-            .respond(alloc, kind, response, verdicts, steps)?;
+            .respond(alloc, kind, mentions, verdicts, steps)?;
         let moved = Moved::of(retired, changed)?;
         self.subscription.respond(alloc, kind, verdicts, mentions)?;
         self.targets.note_first(alloc, kind, response, verdicts)?;

@@ -21,8 +21,8 @@ use Rattle.ev_types.specs.Kinds.{kind_same, kind_decides}
 use Rattle.ev_types.specs.declared.contents.Kind.{Kind}
 use Rattle.ev_types.specs.declared.contents.Kind.TheVariants.{Cds, Eds, Lds, Rds, Sds, Ecds}
 use Rattle.ev_types.specs.declared.rows.KeptVersion.{KeptVersion}
-use Rattle.ev_mentions.specs.Keys.{key_decides, named}
-use Rattle.ev_mentions.specs.declared.kind_keys.Key.{Key}
+use Rattle.ev_lookups.specs.Keys.{key_decides, named}
+use Rattle.ev_lookups.specs.declared.kind_keys.Key.{Key}
 use Rattle.ev_model.specs.Versions.{is_before, is_bounded, is_kept, is_version_of, renewed, with_version, without_version}
 use Rattle.ev_subscription.specs.declared.versions.Held.{Held}
 use Rattle.ev_subscription.specs.Held.{Entries, bounded_in, key_order, version_at, versions_in}

@@ -8,8 +8,8 @@ use Rattle.std.proofs.Common.{◌∙◌}
 use Rattle.ev_types.specs.Kinds.{kind_same}
 use Rattle.ev_types.specs.declared.contents.Kind.{Kind}
 use Rattle.ev_types.specs.declared.contents.Kind.TheVariants.{Cds, Eds, Lds, Rds, Sds, Ecds}
-use Rattle.ev_mentions.specs.Keys.{key_same}
-use Rattle.ev_mentions.specs.declared.kind_keys.Key.{Key}
+use Rattle.ev_lookups.specs.Keys.{key_same}
+use Rattle.ev_lookups.specs.declared.kind_keys.Key.{Key}
 use Rattle.ev_subscription.specs.Held.{key_code, key_order, kind_place}
 
 -- kinds are the same where their places are

@@ -3,11 +3,11 @@ ghost use Rattle.std.specs.Str.{bytes_eq};
 ghost use Rattle.indexmap.specs.IndexSet.{contains};
 ghost use Rattle.ev_model.specs.Requests.{other_than};
 ghost use Rattle.ev_model.specs.Verdicts.{is_among};
-ghost use Rattle.ev_mentions.specs.Mentions.{Puts};
+ghost use Rattle.ev_lookups.specs.Mentions.{Puts};
 ghost use Rattle.ev_subscription.specs.Sets.{names_outside};
 
 use ev_keys::Keys;
-use ev_mentions::NameKey;
+use ev_lookups::NameKey;
 use ev_types::{Kind, Name, Seq, TryCopy};
 use indexmap::IndexSet;
 use std::alloc::{AllocError, Global};

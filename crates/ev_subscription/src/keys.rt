@@ -1,5 +1,5 @@
 ghost use Rattle.std.specs.Prelude.{◌≡◌, IfOk};
-ghost use Rattle.ev_mentions.specs.Keys.{named};
+ghost use Rattle.ev_lookups.specs.Keys.{named};
 ghost use Rattle.ev_subscription.specs.Held.{key_order, kind_place};
 
 use ev_types::{Kind, Name, Shared};
@@ -16,8 +16,8 @@ pub(crate) struct VersionKey {
 }
 
 impl Model for VersionKey {
-    ghost use Rattle.ev_mentions.specs.declared.kind_keys.Key.{Key};
-    ghost use Rattle.ev_mentions.specs.Keys.{named};
+    ghost use Rattle.ev_lookups.specs.declared.kind_keys.Key.{Key};
+    ghost use Rattle.ev_lookups.specs.Keys.{named};
 
     ghost Value = { Key };
 
@@ -66,7 +66,7 @@ impl Clone for VersionKey {
 
 impl PartialEq for VersionKey {
     ghost use Rattle.std.specs.Cmp.{decided, partial_equiv_from_equiv};
-    ghost use Rattle.ev_mentions.specs.Keys.{key_same, key_decides};
+    ghost use Rattle.ev_lookups.specs.Keys.{key_same, key_decides};
 
     ghost eq = { key_same };
 
@@ -79,7 +79,7 @@ impl PartialEq for VersionKey {
 
 impl Eq for VersionKey {
     ghost use Rattle.std.specs.Cmp.{decided};
-    ghost use Rattle.ev_mentions.specs.Keys.{key_same, key_decides};
+    ghost use Rattle.ev_lookups.specs.Keys.{key_same, key_decides};
 
     ghost laws = { decided key_same key_decides };
 }
@@ -129,8 +129,8 @@ pub(crate) struct VersionText<'a> {
 }
 
 impl<'a> Model for VersionText<'a> {
-    ghost use Rattle.ev_mentions.specs.declared.kind_keys.Key.{Key};
-    ghost use Rattle.ev_mentions.specs.Keys.{named};
+    ghost use Rattle.ev_lookups.specs.declared.kind_keys.Key.{Key};
+    ghost use Rattle.ev_lookups.specs.Keys.{named};
 
     ghost Value = { Key };
 

@@ -3,7 +3,7 @@ ghost use Rattle.ev_model.specs.Rows.{add_item, add_items};
 ghost use Rattle.ev_subscription.specs.Subscriptions.{StandsAfter, with_good, with_response};
 
 use crate::subscription::Subscription;
-use ev_mentions::Mentions;
+use ev_lookups::Mentions;
 use ev_types::{Body, Item, Kind, TryCopy, Verdict};
 use std::alloc::{AllocError, Global};
 

@@ -8,7 +8,7 @@ ghost use Rattle.ev_subscription.specs.Subscriptions.{InWorlds, StandsAfter, Sta
 use crate::changes::NameChange;
 use crate::keys::VersionKey;
 use crate::versions::{self, Held, Versions};
-use ev_mentions::Mentions;
+use ev_lookups::Mentions;
 use ev_types::{Kind, Name, Seq, Shared, Text};
 use std::alloc::{AllocError, Global};
 use std::collections::BTreeMap;

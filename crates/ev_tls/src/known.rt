@@ -1,6 +1,6 @@
 ghost use Rattle.std.specs.Prelude.{◌≡◌, ◌∷◌, [], ℕ, List, map, take, false, true, None, option_map, IfOk, OnOk};
 ghost use Rattle.serde_json.specs.View.{view};
-ghost use Rattle.ev_mentions.specs.Mentions.{Puts};
+ghost use Rattle.ev_lookups.specs.Mentions.{Puts};
 ghost use Rattle.ev_trees.specs.Kept.{kept_shown};
 ghost use Rattle.ev_tls.specs.declared.awaited.Awaited.{Awaited};
 ghost use Rattle.ev_tls.specs.declared.awaited.Awaited.TheVariants.{Endpoints};

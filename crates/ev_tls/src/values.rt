@@ -9,7 +9,7 @@ ghost use Rattle.ev_tls.specs.Told.{values_in, given_in, given_among, value_give
 
 use crate::references::{body_in, endpoints_in};
 use ev_expand::message_of;
-use ev_mentions::Mentions;
+use ev_lookups::Mentions;
 use ev_tree::member;
 use ev_types::{Body, Event, Item, Kind, Name, Profile, Response};
 use serde_json::Value;

@@ -28,7 +28,7 @@ use Rattle.ev_types.specs.declared.rows.Live.{Live}
 use Rattle.ev_model.specs.Live.{is_named, latest, newest_of}
 use Rattle.ev_model.specs.Verdicts.{against, body_verdict, good_verdict, is_among, is_heard, is_removed, items_named, lesser, lives_after, lives_left, listening_address, number_after, removed_rule, form_rule, rule_of, shares_address, stale_rule, twice_rule, verdict_by, verdict_of, verdicts_by, verdicts_for, verdicts_from, verdicts_of, with_new, without_warming, serving_of, listener_verdict, value_verdict}
 use Rattle.ev_model.specs.Watching.{is_watched}
-use Rattle.ev_mentions.specs.Lives.{is_at}
+use Rattle.ev_lookups.specs.Lives.{is_at}
 use Rattle.ev_verdicts.specs.Known.{Answers, Tells, answers_of}
 use Rattle.ev_verdicts.specs.Judged.{MadeKept, all_judged, body_by, good_by, is_heard_by, is_made, is_taken_by, judged, made_by, names_at, rule_by, ruled, stale_by, stays, with_made}
 use Rattle.ev_verdicts.proofs.ListLemmas.{any_filter, any_same, any_of_none, filter_within, find_within, find_before, all_kept}

@@ -10,7 +10,7 @@ use Rattle.ev_model.specs.Live.{newest_of}
 use Rattle.ev_model.specs.Versions.{is_kept}
 use Rattle.ev_model.specs.Verdicts.{serving_of}
 use Rattle.ev_model.specs.Watching.{is_watched}
-use Rattle.ev_mentions.specs.Lives.{is_at}
+use Rattle.ev_lookups.specs.Lives.{is_at}
 
 -- the answers to what verdicts ask: the newest live row of a kind and name, the one that serves,
 -- the live rows of an address, whether a live row depends on a kind and name,

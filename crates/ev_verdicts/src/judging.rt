@@ -10,7 +10,7 @@ use crate::known::Known;
 use crate::made::Made;
 use crate::rules::rule_of;
 use ev_keys::Keys;
-use ev_mentions::{LiveRow, Mentions};
+use ev_lookups::{LiveRow, Mentions};
 use ev_types::{Body, Content, Item, Kind, Listener, Rule, Seq, SocketAddress, Verdict};
 use std::alloc::{AllocError, Global};
 use std::hash::{DefaultHasher, Hash};

@@ -1,7 +1,7 @@
 ghost use Rattle.std.specs.Prelude.{◌≡◌, IfOk};
 ghost use Rattle.ev_verdicts.specs.Known.{Answers};
 
-use ev_mentions::LiveRow;
+use ev_lookups::LiveRow;
 use ev_types::{Kind, SocketAddress};
 use std::alloc::{AllocError, Global};
 

@@ -17,7 +17,7 @@
 //! - Live generations are borrowed rows, `LiveRow`, which clauses see as `Live`: no name and no content is copied.
 //! - The loop over the resources gets what the response mentions by reference: a loop that owned those three sets
 //!   would drop them at each way out of it, and be expensive to prove.
-//! - What a response mentions, texts as keys and live rows are in ev_mentions, below this crate: the managers and
+//! - What a response mentions, texts as keys and live rows are in ev_lookups, below this crate: the managers and
 //!   the subscription need these and nothing else of it, so they don't wait for the verdicts' proofs.
 //! - Whether a heartbeat is heard is asked of the live generations after the response's removals, as the watched
 //!   names of endpoints and routes are. Of clusters and listeners every one is heard, so a stale heartbeat of them is

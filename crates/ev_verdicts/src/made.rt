@@ -5,7 +5,7 @@ ghost use Rattle.ev_verdicts.specs.Made.{AddsName, AddsAt};
 
 use crate::keys::AddressKey;
 use ev_keys::Keys;
-use ev_mentions::NameKey;
+use ev_lookups::NameKey;
 use ev_types::{Seq, SocketAddress};
 use indexmap::IndexMap;
 use std::alloc::{AllocError, Global};

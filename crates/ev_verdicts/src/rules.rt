@@ -3,7 +3,7 @@ ghost use Rattle.ev_model.specs.Verdicts.{twice_rule, removed_rule, form_rule, l
 ghost use Rattle.ev_verdicts.specs.Judged.{rule_by, stale_by, is_heard_by, is_stale};
 
 use crate::known::Known;
-use ev_mentions::Mentions;
+use ev_lookups::Mentions;
 use ev_types::{Body, Item, Kind, Rule};
 
 /// The lowest-numbered rule that a resource breaks, taken addresses left aside.

@@ -20,8 +20,8 @@ use Rattle.ev_model.specs.Live.{lives_of}
 use Rattle.ev_model.specs.Watching.{is_watched, dependencies_of, Dependency}
 use Rattle.ev_model.specs.Verdicts.{is_among, is_removed}
 use Rattle.ev_model.specs.Rows.{arrived, versions_left, with_removals, refuse}
-use Rattle.ev_mentions.specs.Keys.{key_decides, named}
-use Rattle.ev_mentions.specs.declared.kind_keys.Key.{Key}
+use Rattle.ev_lookups.specs.Keys.{key_decides, named}
+use Rattle.ev_lookups.specs.declared.kind_keys.Key.{Key}
 use Rattle.ev_indexes.specs.declared.state.State.{State}
 use Rattle.ev_indexes.specs.Indexes.{depends_on}
 use Rattle.ev_indexes.specs.Worlds.{HasRows}

@@ -14,8 +14,8 @@ use Rattle.ev_types.specs.declared.rows.GenRow.{GenRow}
 use Rattle.ev_model.specs.Rows.{removed_status, replaced_status, is_row_of, with_statuses, new_row}
 use Rattle.ev_model.specs.Watching.{dependencies_of}
 use Rattle.ev_indexes.specs.Tables.{GenerationsParts, IsTable, is_number, row_in, status_with, with_status, numbers_of}
-use Rattle.ev_mentions.specs.Keys.{key_decides, key_same, named}
-use Rattle.ev_mentions.specs.declared.kind_keys.Key.{Key}
+use Rattle.ev_lookups.specs.Keys.{key_decides, key_same, named}
+use Rattle.ev_lookups.specs.declared.kind_keys.Key.{Key}
 use Rattle.ev_indexes.specs.declared.state.State.{State}
 use Rattle.ev_indexes.specs.Addresses.{AddressesKept, HoldsAddress, listens_at}
 use Rattle.ev_indexes.specs.Due.{is_one_of}

@@ -17,8 +17,8 @@ use Rattle.ev_model.specs.Rows.{arrived, is_row_of, with_statuses, replaced_stat
 use Rattle.ev_model.specs.Signals.{ended_status}
 use Rattle.ev_indexes.specs.KeptEndpoints.{result_in}
 use Rattle.ev_indexes.specs.Tables.{row_in}
-use Rattle.ev_mentions.specs.Keys.{key_same, key_decides, named}
-use Rattle.ev_mentions.specs.declared.kind_keys.Key.{Key}
+use Rattle.ev_lookups.specs.Keys.{key_same, key_decides, named}
+use Rattle.ev_lookups.specs.declared.kind_keys.Key.{Key}
 use Rattle.ev_indexes.specs.declared.watches.Watch.{Watch}
 use Rattle.ev_indexes.specs.declared.state.State.{State}
 use Rattle.ev_indexes.specs.Kept.{Sets}

@@ -24,7 +24,7 @@ use Rattle.ev_types.specs.declared.rows.GenRow.{GenRow}
 use Rattle.ev_model.specs.Origins.{PlacedChain, kept_as, kept_of, origin_at, placed_default, placed_from, placed_in, stays_as}
 use Rattle.ev_model.specs.Rows.{is_row_of, serving_row}
 use Rattle.ev_indexes.specs.Tables.{row_in, numbers_of}
-use Rattle.ev_mentions.specs.Keys.{named}
+use Rattle.ev_lookups.specs.Keys.{named}
 use Rattle.ev_indexes.specs.declared.state.State.{State}
 use Rattle.ev_indexes.specs.Due.{is_one_of}
 use Rattle.ev_indexes.specs.Indexes.{IsIndexed, numbers_where, passes, serves}

@@ -13,7 +13,7 @@ use Rattle.ev_model.specs.Watching.{dependencies_of, Dependency}
 use Rattle.ev_indexes.specs.KeptEndpoints.{ResultsKept, marked_in, result_in}
 use Rattle.ev_indexes.specs.Tables.{row_in, numbers_of}
 use Rattle.ev_indexes.proofs.TableLemmas.{number-row_in}
-use Rattle.ev_mentions.specs.declared.kind_keys.Key.{Key}
+use Rattle.ev_lookups.specs.declared.kind_keys.Key.{Key}
 use Rattle.ev_indexes.specs.declared.watches.Watch.{Watch}
 use Rattle.ev_indexes.specs.declared.state.State.{State}
 use Rattle.ev_indexes.specs.Watched.{WatchesKept, unwatched, watch_in, has_watcher}

@@ -19,7 +19,7 @@ use Rattle.ev_model.specs.Tidy.{arrivals_watched, without_unwatched, is_result_d
 use Rattle.ev_indexes.specs.KeptEndpoints.{ResultsKept, marked_in, result_in}
 use Rattle.ev_indexes.specs.Tables.{row_in, numbers_of}
 use Rattle.ev_indexes.proofs.TableLemmas.{number-row_in}
-use Rattle.ev_mentions.specs.declared.kind_keys.Key.{Key}
+use Rattle.ev_lookups.specs.declared.kind_keys.Key.{Key}
 use Rattle.ev_indexes.specs.declared.state.State.{State}
 use Rattle.ev_indexes.specs.Due.{is_one_of}
 use Rattle.ev_indexes.specs.Watched.{WatchesKept, unwatched, watch_in}

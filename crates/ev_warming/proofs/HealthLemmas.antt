@@ -24,7 +24,7 @@ use Rattle.ev_model.specs.Rows.{is_row_of}
 use Rattle.ev_indexes.specs.KeptEndpoints.{ResultsKept, marked_in, result_in, Notes}
 use Rattle.ev_indexes.specs.Tables.{row_in, numbers_of}
 use Rattle.ev_indexes.proofs.TableLemmas.{number-row_in}
-use Rattle.ev_mentions.specs.Keys.{named}
+use Rattle.ev_lookups.specs.Keys.{named}
 use Rattle.ev_indexes.specs.declared.state.State.{State}
 use Rattle.ev_indexes.specs.Due.{is_one_of, has_number}
 use Rattle.ev_indexes.specs.Standings.{standing_in}

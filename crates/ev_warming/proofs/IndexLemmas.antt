@@ -15,8 +15,8 @@ use Rattle.ev_model.specs.Watching.{dependencies_of}
 use Rattle.ev_indexes.specs.KeptEndpoints.{ResultsKept}
 use Rattle.ev_indexes.specs.Tables.{GenerationsParts, IsTable, row_in, with_status}
 use Rattle.ev_indexes.proofs.TableLemmas.{table-with_status}
-use Rattle.ev_mentions.specs.Keys.{key_same, key_decides}
-use Rattle.ev_mentions.specs.declared.kind_keys.Key.{Key}
+use Rattle.ev_lookups.specs.Keys.{key_same, key_decides}
+use Rattle.ev_lookups.specs.declared.kind_keys.Key.{Key}
 use Rattle.ev_indexes.specs.declared.names.Standing.{Standing}
 use Rattle.ev_indexes.specs.declared.watches.Watch.{Watch}
 use Rattle.ev_indexes.specs.declared.state.State.{State}

@@ -22,7 +22,7 @@ use Rattle.ev_model.specs.Live.{live_of, lives_of, newest_of}
 use Rattle.ev_model.specs.Verdicts.{against, changes_chains, content_verdict, listener_verdict, returns_to, serving_of, serving_verdict, update_verdict, is_removed, is_taken, lives_left, rule_of, good_verdict, body_verdict, verdict_by, verdict_of, lives_after, verdicts_from, verdicts_by, verdicts_of}
 use Rattle.ev_model.specs.Versions.{is_kept}
 use Rattle.ev_model.specs.Watching.{is_watched, has_dependency}
-use Rattle.ev_mentions.specs.Keys.{named}
+use Rattle.ev_lookups.specs.Keys.{named}
 use Rattle.ev_indexes.specs.declared.state.State.{State}
 use Rattle.ev_warming.specs.Arrivals.{IsOnRow, AreOnRows, IsOnValue, AreOnValues}
 use Rattle.ev_indexes.specs.Indexes.{depends_on}

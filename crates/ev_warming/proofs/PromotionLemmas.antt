@@ -9,8 +9,8 @@ use Rattle.ev_types.specs.declared.rows.RowStatus.TheVariants.{Warming, Active, 
 use Rattle.ev_types.specs.declared.rows.GenRow.{GenRow}
 use Rattle.ev_model.specs.Rows.{is_row_of, with_statuses}
 use Rattle.ev_model.specs.Tidy.{status_by}
-use Rattle.ev_mentions.specs.Keys.{key_decides}
-use Rattle.ev_mentions.specs.declared.kind_keys.Key.{Key}
+use Rattle.ev_lookups.specs.Keys.{key_decides}
+use Rattle.ev_lookups.specs.declared.kind_keys.Key.{Key}
 use Rattle.ev_indexes.specs.Indexes.{is_of, key_of_row, serves, warms}
 use Rattle.ev_warming.specs.Promotion.{succeeded_by, rows_promoted}
 use Rattle.ev_indexes.proofs.WhereLemmas.{row_with}

@@ -13,8 +13,8 @@ use Rattle.ev_model.specs.Warming.{is_checked, rows_in, counts_for}
 use Rattle.ev_indexes.specs.KeptEndpoints.{ResultsKept}
 use Rattle.ev_indexes.specs.Tables.{row_in, status_with, with_status}
 use Rattle.ev_indexes.proofs.TableLemmas.{row_in-with_statuses, number-row_in}
-use Rattle.ev_mentions.specs.Keys.{key_same, key_decides}
-use Rattle.ev_mentions.specs.declared.kind_keys.Key.{Key}
+use Rattle.ev_lookups.specs.Keys.{key_same, key_decides}
+use Rattle.ev_lookups.specs.declared.kind_keys.Key.{Key}
 use Rattle.ev_indexes.specs.Watched.{WatchesKept, watch_in}
 use Rattle.ev_indexes.specs.Ready.{has_answer_in, discovered_in, assignment_in, are_results_in, is_ready_in, is_due_in, is_due_found, is_due_at}
 use Rattle.ev_indexes.specs.Needs.{is_needed, is_on, key_of}

@@ -11,7 +11,7 @@ use Rattle.ev_types.specs.declared.rows.GenRow.{GenRow}
 use Rattle.ev_model.specs.World.{World}
 use Rattle.ev_model.specs.Watching.{dependencies_of}
 use Rattle.ev_indexes.specs.Tables.{GenerationsParts, IsTable, is_number, row_in, numbers_of, without_row}
-use Rattle.ev_mentions.specs.declared.kind_keys.Key.{Key}
+use Rattle.ev_lookups.specs.declared.kind_keys.Key.{Key}
 use Rattle.ev_warming.specs.declared.manager.Manager.{Manager}
 use Rattle.ev_indexes.specs.Ready.{is_ready_in, is_due_found, is_due_at}
 use Rattle.ev_indexes.specs.Addresses.{listens_at}

@@ -15,7 +15,7 @@ use Rattle.ev_model.specs.Rows.{is_row_of, with_statuses, replaced_status, remov
 use Rattle.ev_model.specs.Signals.{ended_status, rows_ended}
 use Rattle.ev_indexes.specs.Tables.{is_number, row_in, numbers_of}
 use Rattle.ev_indexes.proofs.TableLemmas.{row_in-with_statuses}
-use Rattle.ev_mentions.specs.Keys.{named}
+use Rattle.ev_lookups.specs.Keys.{named}
 use Rattle.ev_indexes.specs.Due.{is_one_of}
 use Rattle.ev_indexes.specs.Indexes.{serves, warms, numbers_where}
 use Rattle.ev_warming.specs.Changes.{is_over, has_retired, Tells}

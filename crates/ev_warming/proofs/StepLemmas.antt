@@ -4,8 +4,8 @@ use Rattle.std.specs.Prelude.{slice_get}
 use Rattle.ev_types.specs.Same.{bool_same}
 use Rattle.ev_types.specs.declared.contents.Content.{Content}
 use Rattle.ev_model.specs.Watching.{Dependency, dependencies_of}
-use Rattle.ev_mentions.specs.Keys.{key_same, key_decides}
-use Rattle.ev_mentions.specs.declared.kind_keys.Key.{Key}
+use Rattle.ev_lookups.specs.Keys.{key_same, key_decides}
+use Rattle.ev_lookups.specs.declared.kind_keys.Key.{Key}
 use Rattle.ev_indexes.specs.Needs.{HaveNames, is_need, is_needed, is_on, key_of, needs_of}
 use Rattle.ev_indexes.specs.Watched.{WatchesKept, unwatched, watch_in, has_watcher, watched_too, watched_less, watched_for, unwatched_for, with_last}
 use Rattle.ev_indexes.proofs.NeedLemmas.{any_needs, first-rest, first-none}

@@ -25,8 +25,8 @@ use Rattle.ev_model.specs.Watching.{dependencies_of}
 use Rattle.ev_indexes.specs.KeptEndpoints.{marked_in, result_in}
 use Rattle.ev_indexes.specs.Tables.{is_number, row_in, numbers_of}
 use Rattle.ev_indexes.proofs.TableLemmas.{row_in-with_statuses}
-use Rattle.ev_mentions.specs.Keys.{key_same, key_decides, named}
-use Rattle.ev_mentions.specs.declared.kind_keys.Key.{Key}
+use Rattle.ev_lookups.specs.Keys.{key_same, key_decides, named}
+use Rattle.ev_lookups.specs.declared.kind_keys.Key.{Key}
 use Rattle.ev_indexes.specs.declared.names.Standing.{Standing}
 use Rattle.ev_indexes.specs.declared.watches.Watch.{Watch}
 use Rattle.ev_indexes.specs.declared.state.State.{State}

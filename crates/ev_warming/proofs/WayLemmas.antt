@@ -12,8 +12,8 @@ use Rattle.ev_model.specs.Rows.{removed_status, with_statuses}
 use Rattle.ev_indexes.specs.Tables.{row_in, status_with, with_status}
 use Rattle.ev_indexes.proofs.TableLemmas.{row_in-with_statuses, number-row_in}
 use Rattle.ev_indexes.specs.KeptEndpoints.{ResultsKept}
-use Rattle.ev_mentions.specs.Keys.{key_decides}
-use Rattle.ev_mentions.specs.declared.kind_keys.Key.{Key}
+use Rattle.ev_lookups.specs.Keys.{key_decides}
+use Rattle.ev_lookups.specs.declared.kind_keys.Key.{Key}
 use Rattle.ev_indexes.specs.declared.state.State.{State}
 use Rattle.ev_indexes.specs.Due.{is_one_of}
 use Rattle.ev_indexes.specs.Standings.{standing_in}

@@ -12,7 +12,7 @@ use Rattle.ev_model.specs.Rows.{removed_status, with_statuses, rows_with_new}
 use Rattle.ev_model.specs.Signals.{is_draining, rows_ended}
 use Rattle.ev_model.specs.Verdicts.{items_named, is_among}
 use Rattle.ev_indexes.specs.Tables.{row_in, with_status}
-use Rattle.ev_mentions.specs.declared.kind_keys.Key.{Key}
+use Rattle.ev_lookups.specs.declared.kind_keys.Key.{Key}
 use Rattle.ev_indexes.specs.declared.state.State.{State}
 use Rattle.ev_indexes.specs.Due.{is_one_of}
 use Rattle.ev_indexes.specs.Indexes.{status_in, key_in, serves, warms, numbers_where}

@@ -8,7 +8,7 @@ use Rattle.ev_types.specs.declared.rows.RowStatus.TheVariants.{Draining}
 use Rattle.ev_types.specs.declared.rows.GenRow.{GenRow}
 use Rattle.ev_model.specs.Rows.{is_row_of, with_statuses}
 use Rattle.ev_model.specs.Tidy.{status_by}
-use Rattle.ev_mentions.specs.declared.kind_keys.Key.{Key}
+use Rattle.ev_lookups.specs.declared.kind_keys.Key.{Key}
 use Rattle.ev_indexes.specs.Indexes.{serves}
 
 -- of these rows one of the same kind and name warms and is ready

@@ -16,7 +16,7 @@ use Rattle.ev_model.specs.Rows.{arrived, absent_names, rows_left, rows_replaced,
 use Rattle.ev_model.specs.Signals.{is_meant, rows_meant, rows_ended, with_results}
 use Rattle.ev_model.specs.Tidy.{without_unwatched, without_old_results}
 use Rattle.ev_indexes.specs.Tables.{without_row}
-use Rattle.ev_mentions.specs.Keys.{named}
+use Rattle.ev_lookups.specs.Keys.{named}
 use Rattle.ev_indexes.specs.declared.state.State.{State}
 use Rattle.ev_indexes.specs.Indexes.{depends_on}
 use Rattle.ev_indexes.specs.Worlds.{HasRows}

@@ -6,7 +6,7 @@ ghost use Rattle.ev_types.specs.Kinds.{is_by_name};
 ghost use Rattle.ev_types.specs.declared.events.Verdict.TheVariants.{Kept};
 ghost use Rattle.ev_model.specs.Verdicts.{is_among};
 ghost use Rattle.ev_model.specs.Rows.{add_item, add_items};
-ghost use Rattle.ev_mentions.specs.Keys.{named};
+ghost use Rattle.ev_lookups.specs.Keys.{named};
 ghost use Rattle.ev_indexes.specs.Indexes.{depends_on};
 ghost use Rattle.ev_warming.specs.Managers.{IsKept};
 ghost use Rattle.ev_warming.specs.Arrivals.{IsOnValue, AreOnValues};
@@ -14,8 +14,8 @@ ghost use Rattle.ev_warming.specs.Worlds.{Follows, with_name_absent, with_names_
 
 use crate::Manager;
 use ev_indexes::Steps;
-use ev_mentions::Mentions;
-use ev_types::{Arrival, Body, Item, Kind, Name, NameError, Response, Text, TryCopy, Verdict};
+use ev_lookups::Mentions;
+use ev_types::{Arrival, Body, Item, Kind, Name, NameError, Text, TryCopy, Verdict};
 use std::alloc::{AllocError, Global};
 use std::sync::ledger::Ledger;
 
@@ -29,24 +29,25 @@ impl Manager {
         &mut self,
         alloc: Global,
         kind: Kind,
-        response: &Response,
+        mentions: &Mentions<'_>,
         verdicts: &[Verdict],
         steps: &mut Steps<L>,
     ) -> Result<(), AllocError>
         requires kept { IsKept self.old }
-        requires typed { response.now.kind ≡ Some kind }
+        requires typed { mentions.now.kind ≡ Some kind }
         requires by_name { is_by_name kind ≡ true }
-        requires one_each { length verdicts.now ≡ length response.now.items }
-        requires on_values { AreOnValues kind self.old.state.table.rows verdicts.now response.now.items }
+        requires one_each { length verdicts.now ≡ length mentions.now.items }
+        requires on_values { AreOnValues kind self.old.state.table.rows verdicts.now mentions.now.items }
         ensures kept { OnOk result (IsKept self.new) }
         ensures table { OnOk result (self.new.state.table ≡ self.old.state.table) }
         // Whatever world the manager represented, it represents that world once the response's
         // removals and resources are in.
         ensures stands { OnOk result (Follows self.old.state self.new.state
-            (with_response kind verdicts.now response.now)) }
+            (with_response kind verdicts.now mentions.now)) }
     {
-        self.tell_removals(alloc, kind, response, steps)?;
-        self.take_values(alloc, kind, response.items.as_slice(), verdicts, steps)?;
+        self.tell_removals(alloc, kind, mentions, steps)?;
+        let items = mentions.response().items.as_slice();
+        self.take_values(alloc, kind, items, verdicts, steps)?;
         Ok(())
     }
 
@@ -55,19 +56,19 @@ impl Manager {
         &mut self,
         alloc: Global,
         kind: Kind,
-        response: &Response,
+        mentions: &Mentions<'_>,
         steps: &mut Steps<L>,
     ) -> Result<(), AllocError>
         requires kept { IsKept self.old }
         ensures kept { OnOk result (IsKept self.new) }
         ensures table { OnOk result (self.new.state.table ≡ self.old.state.table) }
         ensures stands { OnOk result (Follows self.old.state self.new.state
-            (with_removals_told kind response.now)) }
+            (with_removals_told kind mentions.now)) }
     {
         if kind.is(Kind::Sds) {
             return Ok(());
         }
-        self.tell_absences(alloc, kind, response, steps)
+        self.tell_absences(alloc, kind, mentions, steps)
     }
 
     // Watched names that a response removes are reported, except those that a resource has.
@@ -75,21 +76,17 @@ impl Manager {
         &mut self,
         alloc: Global,
         kind: Kind,
-        response: &Response,
+        mentions: &Mentions<'_>,
         steps: &mut Steps<L>,
     ) -> Result<(), AllocError>
         requires kept { IsKept self.old }
         ensures kept { OnOk result (IsKept self.new) }
         ensures table { OnOk result (self.new.state.table ≡ self.old.state.table) }
         ensures stands { OnOk result (Follows self.old.state self.new.state
-            (with_names_absent kind response.now)) }
+            (with_names_absent kind mentions.now)) }
     {
-        if response.removed.is_empty() {
-            return Ok(());
-        }
-        let mentions = Mentions::of(alloc, response)?;
-        for name in response.removed.as_slice() {
-            self.tell_absence(alloc, kind, &mentions, name, steps)?;
+        for name in mentions.response().removed.as_slice() {
+            self.tell_absence(alloc, kind, mentions, name, steps)?;
         }
         Ok(())
     }

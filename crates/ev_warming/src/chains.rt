@@ -10,7 +10,7 @@ ghost use Rattle.ev_warming.specs.Chains.{AddsOrigin, HaveOrigins, default_kept,
 
 use ev_indexes::{KeptPlaces, State, Steps, kept_places, origin_of};
 use ev_keys::Keys;
-use ev_mentions::NameKey;
+use ev_lookups::NameKey;
 use ev_types::{
     ChainPlace, Content, FilterChain, GenRow, KeptChain, Kind, Listener, Name, Origin, Seq,
 };

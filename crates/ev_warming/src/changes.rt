@@ -13,7 +13,7 @@ ghost use Rattle.ev_indexes.specs.Needs.{HaveNames};
 ghost use Rattle.ev_indexes.specs.Due.{is_one_of};
 ghost use Rattle.ev_model.specs.Tidy.{promoted};
 ghost use Rattle.ev_model.specs.Watching.{dependencies_of};
-ghost use Rattle.ev_mentions.specs.Keys.{named};
+ghost use Rattle.ev_lookups.specs.Keys.{named};
 ghost use Rattle.ev_warming.specs.Promotion.{status_drained};
 ghost use Rattle.ev_indexes.specs.Indexes.{IsIndexed, SameMarks, depends_on, numbers_waiting, status_in, key_in};
 ghost use Rattle.ev_warming.specs.Arrivals.{Hears, UnwatchesNeeds, WatchesNeeds, with_arrived};

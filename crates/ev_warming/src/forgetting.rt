@@ -8,7 +8,7 @@ ghost use Rattle.ev_model.specs.Watching.{dependencies_of};
 ghost use Rattle.ev_model.specs.Warming.{rows_in};
 ghost use Rattle.ev_indexes.specs.KeptEndpoints.{Trims, Unmarks};
 ghost use Rattle.ev_types.specs.declared.contents.Kind.TheVariants.{Eds};
-ghost use Rattle.ev_mentions.specs.Keys.{named};
+ghost use Rattle.ev_lookups.specs.Keys.{named};
 ghost use Rattle.ev_indexes.specs.Watched.{watch_in, has_watcher};
 ghost use Rattle.ev_indexes.specs.Ready.{assignment_in};
 ghost use Rattle.ev_indexes.specs.Indexes.{IsIndexed};

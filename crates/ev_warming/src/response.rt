@@ -1,7 +1,6 @@
 //! Responses of clusters or listeners. A removed name is a text of any length, and no row has one that is no name of 1
-//! to 512 bytes. Whether a resource has it is looked up in a table of what the response mentions, made where it removes
-//! names; the verdicts were made by another, above both managers: with that one as an argument these calls would speak
-//! of a table in place of a response.
+//! to 512 bytes. Whether a resource has it is looked up in the table of what the response mentions, which the verdicts
+//! were made by too.
 
 ghost use Rattle.std.specs.Prelude.{◌≡◌, ◌+◌, ◌^◌, ◌<◌, ◌≤◌, true, false, Some, All, length, IfOk, OnOk};
 ghost use Rattle.ev_types.specs.Kinds.{is_by_name};
@@ -18,10 +17,8 @@ use crate::Manager;
 use crate::chains::kept_from;
 use crate::changes::{add, drop_warming, put_one};
 use ev_indexes::Steps;
-use ev_mentions::Mentions;
-use ev_types::{
-    Body, Content, Gen, Item, KeptChain, Kind, Name, NameError, Response, Seq, Text, Verdict,
-};
+use ev_lookups::Mentions;
+use ev_types::{Body, Content, Gen, Item, KeptChain, Kind, Name, NameError, Seq, Text, Verdict};
 use std::alloc::{AllocError, Global};
 use std::sync::ledger::Ledger;
 
@@ -35,30 +32,30 @@ impl Manager {
         &mut self,
         alloc: Global,
         kind: Kind,
-        response: &Response,
+        mentions: &Mentions<'_>,
         verdicts: &[Verdict],
         steps: &mut Steps<L>,
     ) -> Result<Seq<Gen>, AllocError>
         requires kept { IsKept self.old }
-        requires typed { response.now.kind ≡ Some kind }
+        requires typed { mentions.now.kind ≡ Some kind }
         requires rows { is_by_name kind ≡ false }
-        requires one_each { length verdicts.now ≡ length response.now.items }
+        requires one_each { length verdicts.now ≡ length mentions.now.items }
         requires on_rows { AreOnRows verdicts.now }
-        requires room { self.old.state.table.made + length response.now.items < 2 ^ 32 }
+        requires room { self.old.state.table.made + length mentions.now.items < 2 ^ 32 }
         ensures kept { OnOk result (IsKept self.new) }
         ensures grows { OnOk result (self.old.state.table.made ≤ self.new.state.table.made) }
         ensures retired { IfOk result (λ retired. HaveRetired retired self.old.state self.new.state) }
         // Whatever world the manager represented, it represents that world once the response's
         // removals and resources are in.
         ensures stands { OnOk result (Follows self.old.state self.new.state
-            (with_response kind verdicts.now response.now)) }
+            (with_response kind verdicts.now mentions.now)) }
     {
         let mut retired = Seq::new(alloc);
-        self.remove_names(alloc, kind, response, &mut retired, steps)?;
+        self.remove_names(alloc, kind, mentions, &mut retired, steps)?;
         self.take_items(
             alloc,
             kind,
-            response.items.as_slice(),
+            mentions.response().items.as_slice(),
             verdicts,
             &mut retired,
             steps,
@@ -71,7 +68,7 @@ impl Manager {
         &mut self,
         alloc: Global,
         kind: Kind,
-        response: &Response,
+        mentions: &Mentions<'_>,
         retired: &mut Seq<Gen>,
         steps: &mut Steps<L>,
     ) -> Result<(), AllocError>
@@ -80,14 +77,10 @@ impl Manager {
         ensures made { OnOk result (self.new.state.table.made ≡ self.old.state.table.made) }
         ensures told { OnOk result (TellsRetired self.old.state self.new.state retired.old retired.new) }
         ensures stands { OnOk result (Follows self.old.state self.new.state
-            (with_rows_left kind response.now)) }
+            (with_rows_left kind mentions.now)) }
     {
-        if response.removed.is_empty() {
-            return Ok(());
-        }
-        let mentions = Mentions::of(alloc, response)?;
-        for name in response.removed.as_slice() {
-            self.remove_name(alloc, kind, &mentions, name, retired, steps)?;
+        for name in mentions.response().removed.as_slice() {
+            self.remove_name(alloc, kind, mentions, name, retired, steps)?;
         }
         Ok(())
     }

@@ -1,8 +1,7 @@
-use Rattle.std.proofs.Common.{◌∙◌, ap, map, not}
-use Rattle.std.specs.List.{list_any}
+use Rattle.std.proofs.Common.{◌∙◌, ap, map}
 use Rattle.ev_tree.specs.Forms.{is_wrong, listed, text_in}
 use Rattle.ev_tree.proofs.Outcomes.{or_same}
-use Rattle.ev_chains.specs.Names.{is_server_name}
+use Rattle.ev_listener_json.specs.ServerNames.{has_no_name}
 use Rattle.ev_chains.specs.Matches.{match_read, match_broken, is_above, port_in}
 use Rattle.ev_chains.proofs.matches.inspect_match.Goals as goal
 
@@ -22,5 +21,5 @@ returns-clause-broken c =
     λ i. record (c.none.ensures i) {
       v6 = or_same (or_same (c.is_wrong.ensures ∙ ap is_wrong c.in_ok-port.ensures) (c.is_above.ensures ∙ ap is_above c.in_ok-port.ensures)) (c.is_wrong-2.ensures ∙ c.in_ok-names.ensures.wrong) i;
       v16 = c.has_other.ensures i;
-      v27 = (c.has_no_name.ensures ∙ ap (list_any (λ name. not (is_server_name name))) (c.as_slice.ensures.value ∙ texts)) i;
+      v27 = (c.has_no_name.ensures ∙ ap has_no_name (c.as_slice.ensures.value ∙ texts)) i;
     }

@@ -1,6 +1,6 @@
 use Rattle.std.proofs.Common.{◌≡◌, length}
 use Rattle.std.specs.List.{list_any}
-use Rattle.ev_mentions.specs.Keys.{named}
+use Rattle.ev_lookups.specs.Keys.{named}
 use Rattle.ev_model.specs.Watching.{dependencies_of}
 use Rattle.ev_indexes.specs.Reads.{awaits_in}
 use Rattle.ev_indexes.proofs.reads.awaits_one.Given as goal

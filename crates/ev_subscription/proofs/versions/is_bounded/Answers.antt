@@ -1,5 +1,5 @@
 use Rattle.std.proofs.Common.{◌∙◌, ap}
-use Rattle.ev_mentions.specs.Keys.{named}
+use Rattle.ev_lookups.specs.Keys.{named}
 use Rattle.ev_subscription.specs.declared.versions.Held.{Held}
 use Rattle.ev_subscription.proofs.HeldLemmas.{told_of, bounded_found}
 use Rattle.ev_subscription.proofs.versions.is_bounded.Goals as goal

@@ -1,6 +1,6 @@
 use Rattle.std.proofs.Common.{◌∙◌, ap, List, ℕ}
 use Rattle.std.specs.Str.{bytes_eq}
-use Rattle.ev_mentions.specs.Keys.{named}
+use Rattle.ev_lookups.specs.Keys.{named}
 use Rattle.ev_subscription.specs.declared.versions.Held.{Held}
 use Rattle.ev_subscription.proofs.HeldLemmas.{told_of, kept_found}
 use Rattle.ev_subscription.proofs.versions.is_kept.Goals as goal

@@ -1,7 +1,7 @@
 use Rattle.std.proofs.Common.{◌≡◌, ◌∙◌, ◌+◌, ◌++◌, [], ◌∷◌, Some, cond}
 use Rattle.ev_model.specs.Rows.{new_row}
 use Rattle.ev_model.specs.Watching.{dependencies_of}
-use Rattle.ev_mentions.specs.Keys.{key_same, named}
+use Rattle.ev_lookups.specs.Keys.{key_same, named}
 use Rattle.ev_indexes.specs.declared.state.State.{State}
 use Rattle.ev_indexes.specs.Addresses.{listens_at, numbers_at}
 use Rattle.ev_indexes.specs.Due.{is_one_of}

@@ -1,12 +1,12 @@
 use Rattle.std.proofs.Common.{◌≡◌, ◌∙◌, ◌||◌, ◌++◌, ℕ, Bool, true, false, cond, List, length, refl, sym, ap, Some, arith, length-append}
 use Rattle.std.proofs.lemmas.List.Folds.{list_any-append}
 use Rattle.std.specs.Prelude.{nat_eq}
-use Rattle.ev_mentions.specs.Keys.{key_same, named}
+use Rattle.ev_lookups.specs.Keys.{key_same, named}
 use Rattle.ev_indexes.specs.Due.{is_one_of}
 use Rattle.ev_indexes.specs.Indexes.{numbers_waiting}
 use Rattle.ev_indexes.specs.Ready.{is_due_at}
 use Rattle.ev_types.specs.declared.rows.Arrival.{Arrival}
-use Rattle.ev_mentions.specs.declared.kind_keys.Key.{Key}
+use Rattle.ev_lookups.specs.declared.kind_keys.Key.{Key}
 use Rattle.ev_warming.specs.Arrivals.{Hears}
 use Rattle.ev_indexes.specs.Watched.{WatchesKept, watch_in, watchers_of, unwatched, with_arrival}
 use Rattle.ev_indexes.proofs.KeptLemmas.{kept_at-found}

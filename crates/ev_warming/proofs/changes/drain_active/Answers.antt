@@ -1,5 +1,5 @@
 use Rattle.std.proofs.Common.{◌∙◌, sym}
-use Rattle.ev_mentions.specs.Keys.{named}
+use Rattle.ev_lookups.specs.Keys.{named}
 use Rattle.ev_warming.proofs.WayLemmas.{way-none, way-live, way-rows}
 use Rattle.ev_warming.proofs.changes.drain_active.Goals as goal
 

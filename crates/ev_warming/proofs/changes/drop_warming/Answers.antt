@@ -1,5 +1,5 @@
 use Rattle.std.proofs.Common.{◌∙◌, sym}
-use Rattle.ev_mentions.specs.Keys.{named}
+use Rattle.ev_lookups.specs.Keys.{named}
 use Rattle.ev_warming.proofs.AddLemmas.{drop-none, drop-live, drop-rows, drop-alone}
 use Rattle.ev_warming.proofs.changes.drop_warming.Goals as goal
 

@@ -1,7 +1,7 @@
 use Rattle.std.proofs.Common.{◌∙◌, ap}
 use Rattle.ev_model.specs.Rows.{with_statuses}
 use Rattle.ev_model.specs.Signals.{ended_status}
-use Rattle.ev_mentions.specs.Keys.{named}
+use Rattle.ev_lookups.specs.Keys.{named}
 use Rattle.ev_warming.specs.Promotion.{status_drained}
 use Rattle.ev_warming.proofs.WayLemmas.{marks-then}
 use Rattle.ev_warming.proofs.ArrivalLemmas.{statused-stands, ended-rows}

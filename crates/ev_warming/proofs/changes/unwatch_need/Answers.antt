@@ -1,5 +1,5 @@
 use Rattle.std.proofs.Common.{◌∙◌, cond}
-use Rattle.ev_mentions.specs.Keys.{key_same}
+use Rattle.ev_lookups.specs.Keys.{key_same}
 use Rattle.ev_indexes.specs.Needs.{key_of}
 use Rattle.ev_indexes.specs.Watched.{watch_in, watched_less}
 use Rattle.ev_warming.proofs.StepLemmas.{unwatched-one}

@@ -2,7 +2,7 @@ use Rattle.std.proofs.Common.{◌≡◌, ◌+◌, ◌&&◌, ℕ, None, is_some, 
 use Rattle.ev_types.specs.declared.hosts.Host.{Host}
 use Rattle.ev_indexes.specs.KeptEndpoints.{marked_in, result_in}
 use Rattle.ev_indexes.specs.Tables.{row_in}
-use Rattle.ev_mentions.specs.declared.kind_keys.Key.{Key}
+use Rattle.ev_lookups.specs.declared.kind_keys.Key.{Key}
 use Rattle.ev_indexes.specs.Due.{is_one_of}
 use Rattle.ev_indexes.specs.Watched.{unwatched, watch_in}
 use Rattle.ev_indexes.specs.Indexes.{IsIndexed}

@@ -1,5 +1,5 @@
 use Rattle.std.proofs.Common.{◌∙◌, sym}
-use Rattle.ev_mentions.specs.Keys.{named}
+use Rattle.ev_lookups.specs.Keys.{named}
 use Rattle.ev_warming.proofs.StepLemmas.{forgotten-name, known-name}
 use Rattle.ev_warming.proofs.forgetting.forget_idle.Goals as goal
 

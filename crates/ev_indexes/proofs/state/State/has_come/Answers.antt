@@ -1,5 +1,5 @@
 use Rattle.std.proofs.Common.{◌∙◌}
-use Rattle.ev_mentions.specs.Keys.{named}
+use Rattle.ev_lookups.specs.Keys.{named}
 use Rattle.ev_indexes.proofs.NewestLemmas.{come-found, come-world}
 use Rattle.ev_indexes.proofs.state.State.has_come.Goals as goal
 

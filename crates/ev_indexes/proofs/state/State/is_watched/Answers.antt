@@ -1,5 +1,5 @@
 use Rattle.std.proofs.Common.{◌∙◌, Some, None, sym}
-use Rattle.ev_mentions.specs.Keys.{named}
+use Rattle.ev_lookups.specs.Keys.{named}
 use Rattle.ev_indexes.proofs.ReadLemmas.{watcher-found, watched-world}
 use Rattle.ev_indexes.proofs.state.State.is_watched.Goals as goal
 

@@ -1,6 +1,6 @@
 use Rattle.std.proofs.Common.{◌∙◌, sym, ap}
 use Rattle.ev_indexes.specs.Newest.{later_number, found_in}
-use Rattle.ev_mentions.specs.Keys.{named}
+use Rattle.ev_lookups.specs.Keys.{named}
 use Rattle.ev_indexes.proofs.NewestLemmas.{newest-found, newest-world}
 use Rattle.ev_indexes.proofs.state.State.newest.Goals as goal
 

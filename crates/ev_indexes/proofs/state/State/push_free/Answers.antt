@@ -1,6 +1,6 @@
 use Rattle.std.proofs.Common.{◌∙◌, ◌++◌, [], ◌∷◌, not, drop, append_assoc, sym, ap}
 use Rattle.std.proofs.lemmas.List.Elements.{filter-append}
-use Rattle.ev_mentions.specs.Keys.{named}
+use Rattle.ev_lookups.specs.Keys.{named}
 use Rattle.ev_indexes.specs.Moved.{is_held, free_names}
 use Rattle.ev_model.specs.Watching.{names_awaited}
 use Rattle.ev_indexes.proofs.NeedLemmas.{awaited_first}

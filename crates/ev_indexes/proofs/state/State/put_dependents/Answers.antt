@@ -1,6 +1,6 @@
 use Rattle.std.proofs.Common.{◌∙◌, ◌++◌, Some, None, sym, ap, append-nil}
 use Rattle.std.proofs.lemmas.Result.{on_ok_weaker}
-use Rattle.ev_mentions.specs.Keys.{named}
+use Rattle.ev_lookups.specs.Keys.{named}
 use Rattle.ev_indexes.proofs.ReadLemmas.{watchers-found}
 use Rattle.ev_indexes.proofs.state.State.put_dependents.Goals as goal
 

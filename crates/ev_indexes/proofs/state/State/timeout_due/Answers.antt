@@ -1,5 +1,5 @@
 use Rattle.std.proofs.Common.{◌∙◌, ◌≤◌, ◌+◌, List, ℕ, Some, None, length, sym, subst}
-use Rattle.ev_mentions.specs.Keys.{named}
+use Rattle.ev_lookups.specs.Keys.{named}
 use Rattle.ev_indexes.proofs.ReadLemmas.{limited-found, timeout-found, timeout-world}
 use Rattle.ev_indexes.proofs.state.State.timeout_due.Goals as goal
 

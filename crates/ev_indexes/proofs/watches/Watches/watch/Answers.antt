@@ -1,6 +1,6 @@
 use Rattle.std.proofs.Common.{◌∙◌, Some, cond, sym}
 use Rattle.std.proofs.lemmas.Result.{on_ok_weaker}
-use Rattle.ev_mentions.specs.Keys.{key_same}
+use Rattle.ev_lookups.specs.Keys.{key_same}
 use Rattle.ev_indexes.specs.Kept.{kept_at}
 use Rattle.ev_indexes.specs.Watched.{unwatched, watched_too}
 use Rattle.ev_indexes.proofs.KeptLemmas.{kept_at-found, kept_at-written}

@@ -12,16 +12,14 @@ use Rattle.ev_state.proofs.state.State.enter.Goals as goal
 
 pub respond-requires-clause-given : goal.respond-requires-clause-given
 respond-requires-clause-given g c =
-    subst (λ (r : ResponseParts). MayBeGiven c.args.self.now.managers c.args.kind c.args.verdicts.now r.items) (sym c.response-response.ensures)
-    (may_be_given c.args.self.now.managers c.args.kind c.args.mentions.now c.args.verdicts.now g.here
-    c.requires.1.0.follows.stands.managers c.requires.1.1.0 c.requires.1.1.1.1.1)
+    may_be_given c.args.self.now.managers c.args.kind c.args.mentions.now c.args.verdicts.now g.here
+    c.requires.1.0.follows.stands.managers c.requires.1.1.0 c.requires.1.1.1.1.1
 
 pub returns-clause-follows : goal.returns-clause-follows
 returns-clause-follows g c =
     taken c.args.self.now c.respond.new.self c.respond-2.new.self c.note_first.new.self c.args.kind c.args.mentions.now c.args.verdicts.now g.here
     c.requires.1.0.follows c.requires.1.1.0 c.requires.1.1.1.1.1
-    (subst (λ (r : ResponseParts). StandFor c.respond.new.self (add_items c.args.kind c.args.verdicts.now r.items (with_removals c.args.kind r g.here)))
-    c.response-response.ensures (c.in_ok-retired.ensures.stands g.here c.requires.1.0.follows.stands.managers))
+    (c.in_ok-retired.ensures.stands g.here c.requires.1.0.follows.stands.managers)
     (c.in_ok-respond.ensures g.here c.requires.1.0.follows.stands.subscription)
     (λ w boots. subst (λ (r : ResponseParts). HaveBooted c.note_first.new.self (with_first c.args.kind (made_names c.args.verdicts.now r.items) w))
     c.response-response.ensures (c.in_ok-note_first.ensures.stands w boots))
@@ -33,8 +31,7 @@ returns-clause-moved g c =
     let have : HaveRetired c.in_ok-retired.retired g.here after =
     taken_retired c.in_ok-retired.retired c.args.self.now.managers c.respond.new.self c.args.kind c.args.mentions.now c.args.verdicts.now g.here
     c.requires.1.0.follows.stands.managers
-    (subst (λ (r : ResponseParts). StandFor c.respond.new.self (add_items c.args.kind c.args.verdicts.now r.items (with_removals c.args.kind r g.here)))
-    c.response-response.ensures (c.in_ok-retired.ensures.stands g.here c.requires.1.0.follows.stands.managers))
+    (c.in_ok-retired.ensures.stands g.here c.requires.1.0.follows.stands.managers)
     c.in_ok-retired.ensures.retired in
     record {
       retired = subst (λ (ns : List ℕ). HaveRetired ns g.here after) (sym c.in_ok-moved.ensures.retired) have;

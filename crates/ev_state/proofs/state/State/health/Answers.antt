@@ -4,7 +4,7 @@ use Rattle.ev_types.specs.declared.contents.Kind.TheVariants.{Cds}
 use Rattle.ev_model.specs.World.{World}
 use Rattle.ev_model.specs.Warming.{is_healthy}
 use Rattle.ev_model.specs.Signals.{is_meant, with_results, rows_meant}
-use Rattle.ev_mentions.specs.Keys.{named}
+use Rattle.ev_lookups.specs.Keys.{named}
 use Rattle.ev_indexes.specs.Due.{is_one_of}
 use Rattle.ev_indexes.specs.Indexes.{serves, numbers_where}
 use Rattle.ev_indexes.proofs.HealthyLemmas.{as-healthy-world}

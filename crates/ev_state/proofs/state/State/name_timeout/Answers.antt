@@ -1,7 +1,7 @@
 use Rattle.std.proofs.Common.{◌++◌, [], ◌∷◌, refl, sym, ◌∙◌}
 use Rattle.ev_types.specs.declared.events.Answer.TheVariants.{Ignored}
 use Rattle.ev_types.specs.declared.rows.Arrival.TheVariants.{TimedOut}
-use Rattle.ev_mentions.specs.Keys.{named}
+use Rattle.ev_lookups.specs.Keys.{named}
 use Rattle.ev_model.specs.World.{World}
 use Rattle.ev_model.specs.Rows.{arrived}
 use Rattle.ev_model.specs.Signals.{is_awaited, moved}

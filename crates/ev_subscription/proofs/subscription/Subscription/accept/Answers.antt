@@ -5,7 +5,7 @@ use Rattle.ev_types.specs.Kinds.{kind_same}
 use Rattle.ev_types.specs.declared.rows.KeptVersion.{KeptVersion}
 use Rattle.ev_model.specs.World.{World}
 use Rattle.ev_model.specs.Versions.{with_version}
-use Rattle.ev_mentions.specs.Keys.{named}
+use Rattle.ev_lookups.specs.Keys.{named}
 use Rattle.ev_subscription.specs.Held.{key_order, versions_in}
 use Rattle.ev_subscription.specs.Subscriptions.{Accepts, HasVersions, SubscriptionParts, held_of, kept_of, kept_version}
 use Rattle.ev_subscription.proofs.HeldLemmas.{held_more, on_ok}

@@ -1,6 +1,6 @@
 use Rattle.std.proofs.Common.{◌≡◌, ◌∙◌, option_to_list, sym, subst}
 use Rattle.ev_model.specs.Rows.{rows_with_new}
-use Rattle.ev_mentions.specs.Keys.{named}
+use Rattle.ev_lookups.specs.Keys.{named}
 use Rattle.ev_warming.specs.Changes.{Tells}
 use Rattle.ev_warming.specs.Forgetting.{IsTidyBut}
 use Rattle.ev_warming.proofs.NeedLemmas.{needs-added}

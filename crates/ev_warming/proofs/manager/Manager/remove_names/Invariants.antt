@@ -12,5 +12,5 @@ invariant-loop-name g l = record {
   made : l.self.state.table.made ≡ l.initial.self.state.table.made;
   told : Tells l.initial.self.state.table.rows l.self.state.table.rows l.initial.retired l.retired;
   stands : (world : World) → HasRows l.initial.self.state world
-      → HasRows l.self.state (record world { rows = with_statuses (status_left_by l.kind l.response (take l.name-index l.name-items)) world.rows });
+      → HasRows l.self.state (record world { rows = with_statuses (status_left_by l.kind l.mentions (take l.name-index l.name-items)) world.rows });
 }

@@ -1,7 +1,7 @@
 use Rattle.std.proofs.Common.{sym, subst, arith, ⊎_elim, Err}
 use Rattle.std.specs.List.{list_any}
 use Rattle.ev_types.specs.Texts.{IsName}
-use Rattle.ev_mentions.specs.Keys.{named}
+use Rattle.ev_lookups.specs.Keys.{named}
 use Rattle.ev_indexes.specs.Indexes.{depends_on}
 use Rattle.ev_warming.proofs.AbsenceLemmas.{unneeded, quiet-stands}
 use Rattle.ev_warming.proofs.manager.Manager.tell.Goals as goal

@@ -9,7 +9,7 @@ abbrev pub invariant-loop-name : goal.invariant-loop-name
 invariant-loop-name g l = record {
   kept : IsKept l.self;
   table : l.self.state.table ≡ l.initial.self.state.table;
-  items : l.name-items ≡ l.response.removed;
+  items : l.name-items ≡ l.mentions.removed;
   stands : (world : World) → HasRows l.initial.self.state world
-      → HasRows l.self.state (with_absent l.response l.kind world (take l.name-index l.response.removed));
+      → HasRows l.self.state (with_absent l.mentions l.kind world (take l.name-index l.mentions.removed));
 }

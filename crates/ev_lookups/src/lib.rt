@@ -1,5 +1,5 @@
-//! What a response mentions, each name found by a look-up; texts and names of kinds as keys;
-//! and what is seen of a live generation.
+//! What managers look things up by: the names that a response mentions; texts and names of kinds as keys; and what is
+//! seen of a live generation.
 #![tactic(auto)]
 
 mod keys;

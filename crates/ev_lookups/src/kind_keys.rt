@@ -1,5 +1,5 @@
 ghost use Rattle.std.specs.Prelude.{◌≡◌};
-ghost use Rattle.ev_mentions.specs.Keys.{key_same, named};
+ghost use Rattle.ev_lookups.specs.Keys.{key_same, named};
 
 use ev_types::{Kind, Name};
 use indexmap::Equivalent;
@@ -15,7 +15,7 @@ pub struct Key {
 
 impl PartialEq for Key {
     ghost use Rattle.std.specs.Cmp.{decided, partial_equiv_from_equiv};
-    ghost use Rattle.ev_mentions.specs.Keys.{key_same, key_decides};
+    ghost use Rattle.ev_lookups.specs.Keys.{key_same, key_decides};
 
     ghost eq = { key_same };
 
@@ -28,14 +28,14 @@ impl PartialEq for Key {
 
 impl Eq for Key {
     ghost use Rattle.std.specs.Cmp.{decided};
-    ghost use Rattle.ev_mentions.specs.Keys.{key_same, key_decides};
+    ghost use Rattle.ev_lookups.specs.Keys.{key_same, key_decides};
 
     ghost laws = { decided key_same key_decides };
 }
 
 impl Hash for Key {
     ghost use Rattle.std.proofs.Common.{ap};
-    ghost use Rattle.ev_mentions.specs.Keys.{key_hash_input, key_decides};
+    ghost use Rattle.ev_lookups.specs.Keys.{key_hash_input, key_decides};
 
     ghost hash_input = { key_hash_input };
 
@@ -55,8 +55,8 @@ pub struct KeyText<'a> {
 }
 
 impl<'a> Model for KeyText<'a> {
-    ghost use Rattle.ev_mentions.specs.declared.kind_keys.Key.{Key};
-    ghost use Rattle.ev_mentions.specs.Keys.{named};
+    ghost use Rattle.ev_lookups.specs.declared.kind_keys.Key.{Key};
+    ghost use Rattle.ev_lookups.specs.Keys.{named};
 
     ghost Value = { Key };
 
@@ -88,7 +88,7 @@ impl<'a> KeyText<'a> {
 
 impl<'a> PartialEq for KeyText<'a> {
     ghost use Rattle.std.specs.Cmp.{decided, partial_equiv_from_equiv};
-    ghost use Rattle.ev_mentions.specs.Keys.{key_same, key_decides};
+    ghost use Rattle.ev_lookups.specs.Keys.{key_same, key_decides};
 
     ghost eq = { key_same };
 
@@ -101,14 +101,14 @@ impl<'a> PartialEq for KeyText<'a> {
 
 impl<'a> Eq for KeyText<'a> {
     ghost use Rattle.std.specs.Cmp.{decided};
-    ghost use Rattle.ev_mentions.specs.Keys.{key_same, key_decides};
+    ghost use Rattle.ev_lookups.specs.Keys.{key_same, key_decides};
 
     ghost laws = { decided key_same key_decides };
 }
 
 impl<'a> Hash for KeyText<'a> {
     ghost use Rattle.std.proofs.Common.{ap};
-    ghost use Rattle.ev_mentions.specs.Keys.{key_hash_input, key_decides};
+    ghost use Rattle.ev_lookups.specs.Keys.{key_hash_input, key_decides};
 
     ghost hash_input = { key_hash_input };
 
@@ -122,7 +122,7 @@ impl<'a> Hash for KeyText<'a> {
 impl<'a> Equivalent<Key> for &KeyText<'a> {
     ghost use Rattle.std.specs.Cmp.{decided};
     ghost use Rattle.std.proofs.Common.{ap};
-    ghost use Rattle.ev_mentions.specs.Keys.{key_same, key_decides, key_hash_input};
+    ghost use Rattle.ev_lookups.specs.Keys.{key_same, key_decides, key_hash_input};
 
     ghost equivalent = { λ q. key_same q.now };
 

@@ -2,8 +2,8 @@ use Rattle.std.proofs.Common.{◌≡◌, ◌∙◌, ap}
 use Rattle.std.specs.Str.{bytes_eq}
 use Rattle.indexmap.specs.IndexSet.{contains}
 use Rattle.ev_types.specs.Items.{ItemParts}
-use Rattle.ev_mentions.proofs.MentionLemmas.{named_more, twice_more}
-use Rattle.ev_mentions.proofs.mentions.note_all.Goals as goal
+use Rattle.ev_lookups.proofs.MentionLemmas.{named_more, twice_more}
+use Rattle.ev_lookups.proofs.mentions.note_all.Goals as goal
 
 pub loop-item-preserved : goal.loop-item-preserved
 loop-item-preserved c =

@@ -2,7 +2,7 @@ ghost use Rattle.std.specs.Prelude.{◌≡◌, ◌&&◌, List, ℕ, false, nat_l
 ghost use Rattle.std.specs.Str.{bytes_eq};
 ghost use Rattle.indexmap.specs.IndexSet.{contains};
 ghost use Rattle.ev_model.specs.Verdicts.{items_named, is_among, is_removed};
-ghost use Rattle.ev_mentions.specs.Mentions.{HasNamed, Puts, PutsAgain};
+ghost use Rattle.ev_lookups.specs.Mentions.{HasNamed, Puts, PutsAgain};
 
 use crate::keys::NameKey;
 use ev_keys::Keys;
@@ -28,7 +28,7 @@ impl<'a> Model for Mentions<'a> {
     ghost use Rattle.std.specs.Str.{bytes_eq};
     ghost use Rattle.indexmap.specs.IndexSet.{contains};
     ghost use Rattle.ev_types.specs.Items.{ResponseParts};
-    ghost use Rattle.ev_mentions.specs.Mentions.{AreFound};
+    ghost use Rattle.ev_lookups.specs.Mentions.{AreFound};
 
     ghost Value = { ResponseParts };
 

@@ -7,7 +7,7 @@ use Rattle.std.proofs.Common.{ap}
 use Rattle.ev_types.specs.declared.contents.Kind.{Kind}
 use Rattle.ev_types.specs.Kinds.{kind_same, kind_decides}
 use Rattle.ev_types.specs.Same.{both_decide, decides_as, bytes_decide}
-use Rattle.ev_mentions.specs.declared.kind_keys.Key.{Key}
+use Rattle.ev_lookups.specs.declared.kind_keys.Key.{Key}
 
 -- the name of this kind
 abbrev pub named : Kind → List ℕ → Key

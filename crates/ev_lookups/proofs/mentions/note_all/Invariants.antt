@@ -3,7 +3,7 @@ use Rattle.std.specs.Prelude.{nat_le}
 use Rattle.std.specs.Str.{bytes_eq}
 use Rattle.indexmap.specs.IndexSet.{contains}
 use Rattle.ev_model.specs.Verdicts.{items_named}
-use Rattle.ev_mentions.proofs.mentions.note_all.Given as goal
+use Rattle.ev_lookups.proofs.mentions.note_all.Given as goal
 
 abbrev pub invariant-loop-item : goal.invariant-loop-item
 invariant-loop-item l = record {
