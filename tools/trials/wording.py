@@ -9,7 +9,7 @@ WORDS = [(r'\bstands? on\b', 'depends on'), (r'\bstands? for\b', 'represents'), 
          (r'\bnothing is promised\b', 'unspecified after an error'), (r'\bdrawn\b', 'allocated, taken'), (r'\bfronts?\b', 'prefix'),
          (r'\b(?:was|were|is|are) told\b', 'received'), (r'\bcame\b', 'was received'), (r'\btimeouts? (?:comes|come)\b', 'fires')]
 PAGES = ['CONTRIBUTING.md', 'docs/CLAIMS.md', 'docs/COST.md', 'docs/DECISIONS.md', 'docs/DEFINITIONS.md', 'docs/ENVOY.md', 'docs/FORMATS.md',
-         'docs/MACHINE.md', 'docs/MAP.md', 'docs/RECORDING.md', 'docs/RULES.md', 'examples/README.md']
+         'docs/MACHINE.md', 'docs/MAP.md', 'docs/PLAN.md', 'docs/RECORDING.md', 'docs/RULES.md', 'docs/TIMELINE.md', 'examples/README.md']
 MOST_WORDS = 36
 
 

@@ -11,7 +11,7 @@ use std::marker::Brand;
 
 impl<V: Stands> Gate<V> {
     /// A version that the value's history had at this step, without a turn and without waiting.
-    /// It is not below any that this pass has seen, and counts as one that it has seen. How new it is, no promise says.
+    /// It is not below any that this pass has seen, and counts as one that it has seen. How new it is, no clause says.
     pub fn newest(&self, pass: &mut Pass<V>) -> u64
         requires { pass_gate pass.old ≡ gate_id self.now }
         ensures gate { pass_gate pass.new ≡ gate_id self.now }

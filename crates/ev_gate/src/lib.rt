@@ -1,4 +1,4 @@
-//! A lock whose history can be told.
+//! A lock around a value that represents its history.
 //!
 //! A gate keeps one value and lets one seat at a time have it. A value represents a list of commits, each with the
 //! number of the seat that made it. Who has the value knows the whole list, and that its own commits in it are those

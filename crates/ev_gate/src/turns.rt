@@ -19,7 +19,7 @@ use std::thread::Threads;
 const LOOKS: u32 = 100;
 
 impl<V: Stands> Gate<V> {
-    /// Waits until it is this seat's turn. No promise says when that is.
+    /// Waits until it is this seat's turn. No clause says when that is.
     pub fn turn<R: Threads + Wait + Sync>(&self, rt: &R, pass: Pass<V>) -> Turn<'_, V>
         requires { pass_gate pass ≡ gate_id self.now }
         ensures gate { turn_gate result ≡ gate_id self.now }

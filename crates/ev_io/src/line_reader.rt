@@ -82,7 +82,7 @@ impl Lines {
     }
 
     /// The keys that are made of the lines given so far: tables of names that stand
-    /// in these lines hash by them. Which keys they are isn't promised.
+    /// in these lines hash by them. Which keys they are is unspecified.
     pub fn keys(&self) -> Keys {
         Keys::after(self.hasher)
     }

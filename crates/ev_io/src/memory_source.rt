@@ -100,7 +100,7 @@ impl Source for MemSource {
     }
 }
 
-// Copies the front of `from` to the front of `to`, as much as `most` and both of them allow.
+// Copies the first bytes of `from` to the beginning of `to`, as much as `most` and both of them allow.
 fn copy_front(from: &[u8], most: usize, to: &mut [u8]) -> usize
     ensures count { result ≡ min (length from.now) (min (length to.new) most) }
     ensures copied { take result to.new ≡ take result from.now }

@@ -18,7 +18,7 @@ pub trait Source {
     // how many faults there were; a counter that stops at its last value
     ghost faults: { Self → ℕ };
 
-    /// Puts the next bytes into the front of `buf` and says how many. 0 for a buffer that isn't
+    /// Puts the next bytes at the beginning of `buf` and says how many. 0 for a buffer that isn't
     /// empty is the end of input.
     ///
     /// # Errors

@@ -20,9 +20,8 @@ use std::alloc::{AllocError, Global};
 impl Holders {
     /// A worker settles: its connections move to the listeners of the last snapshot that keep their chains, and are
     /// closed on listeners whose drain timeout came where no chain stays; and it takes over the last snapshot. It looks
-    /// at those alone. Out of memory, all but the open connections stays as it was;
-    /// some of its own moved or are closed:
-    /// whoever holds this makes it anew.
+    /// at those alone. Out of memory, all but the open connections stays as it was; some of its own moved or are
+    /// closed: whoever holds this makes it anew.
     pub fn settle(&mut self, alloc: Global, worker: u32) -> Result<Settled, AllocError>
         requires known { worker < length self.old.pictures.held }
         ensures answer { IfOk result (λ settled. AnswersSettle worker settled.closed settled.moved settled.version self.old) }

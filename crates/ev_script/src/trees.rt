@@ -86,7 +86,7 @@ pub struct ScriptTrees {
     pub head: Value,
     /// The trees of the lines after it, in order.
     pub lines: Vec<LineTree>,
-    /// Keys of all lines, for tables of what they name. Which they are isn't promised.
+    /// Keys of all lines, for tables of what they name. Which they are is unspecified.
     pub keys: Keys,
 }
 

@@ -1,5 +1,5 @@
 //! Clusters that wait for their secrets: a script in which each cluster that names remote secrets waits for endpoints
-//! by a private name, which are sent when all of its secrets, and its own endpoints, have come.
+//! by a private name, which are sent when all of its secrets, and its own endpoints, were received.
 //!
 //! - A cluster names secrets by its transport socket alone, and only where that is the context of TLS towards
 //!   upstream hosts. A member of a wrong form, or in both spellings, names nothing, and the others still count.

@@ -46,8 +46,13 @@ impl Manager {
             (with_response kind verdicts.now mentions.now)) }
     {
         self.tell_removals(alloc, kind, mentions, steps)?;
-        let items = mentions.response().items.as_slice();
-        self.take_values(alloc, kind, items, verdicts, steps)?;
+        self.take_values(
+            alloc,
+            kind,
+            mentions.response().items.as_slice(),
+            verdicts,
+            steps,
+        )?;
         Ok(())
     }
 
