@@ -17,8 +17,8 @@ def run(check):
     for page in ['README.md'] + PAGES:
         text = by_hand(read(page))
         for word, plain in WORDS:
-            found = re.search(rf'.*{word}.*', text)
-            check(not found, f'{page}: {plain!r} is plainer in {found and found[0][:120]!r}')
+            found = next((line for line in text.splitlines() if re.search(word, line)), None)
+            check(found is None, f'{page}: {plain!r} is plainer in {found and found[:120]!r}')
         said = re.findall(r'\*\*picture\*\* is the snapshot of configuration that a worker serves from|\| picture \| the snapshot of configuration', text)
         check(page == 'CONTRIBUTING.md' or len(said) == bool(re.search(r'\bpictures?\b', text)), f'{page} says {len(said)} times what a picture is')
     for page in PAGES:
