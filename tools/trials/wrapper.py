@@ -28,9 +28,9 @@ USAGE = b'usage: warmgate replay | run | audit | soak SEED COUNT | tls | dns | c
 
 # (words, status, what standard output begins with, what standard error has)
 WORDS = [
-    (['--help'], 0, b'warmgate tells what a proxy answers', b''),
-    (['-h'], 0, b'warmgate tells what a proxy answers', b''),
-    (['replay', '--help'], 0, b'warmgate tells what a proxy answers', b''),
+    (['--help'], 0, b'warmgate says what a proxy answers', b''),
+    (['-h'], 0, b'warmgate says what a proxy answers', b''),
+    (['replay', '--help'], 0, b'warmgate says what a proxy answers', b''),
     (['--version'], 0, b'commit: ', b''),
     ([], 2, b'', USAGE + b'warmgate: a command is missing'),
     ([''], 2, b'', USAGE + b"warmgate: '' is no command"),
