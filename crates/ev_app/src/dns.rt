@@ -11,9 +11,9 @@ use crate::expansions::fault_of;
 use crate::made::Made;
 use crate::status::Status;
 use crate::trees::read_trees_of;
-use ev_dns::{DnsLines, answers_are_last, resolve};
+use ev_dns::{ResolvedOperation, answers_are_last, resolve};
 use ev_io::{ScriptFault, Source};
-use ev_script::ScriptTrees;
+use ev_script::{ScriptTrees, WithOperation};
 use std::alloc::Global;
 
 // Makes the text of the script that the source's bytes are, with resolutions,
@@ -26,7 +26,7 @@ pub(crate) fn make_dns<S: Source>(alloc: Global, source: &mut S) -> Result<Made,
     ensures same_count { (S.faults source.new ≡ S.faults source.old) ⊎ (result ≡ Err ScriptFault.Read) }
     ensures count { S.faults source.old ≤ S.faults source.new }
 {
-    let trees = read_trees_of(alloc, &DnsLines, source)?;
+    let trees = read_trees_of(alloc, &WithOperation(ResolvedOperation), source)?;
     dns_made(alloc, &trees)
 }
 

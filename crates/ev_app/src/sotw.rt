@@ -23,8 +23,8 @@ use ev_actors::Journaled;
 use ev_io::{MemSource, ScriptFault, Source};
 use ev_keys::Keys;
 use ev_model_laws::{replay_is_a_run_of_its_script, runs_have_the_laws};
-use ev_script::ScriptTrees;
-use ev_sotw::{SotwLines, render_sotw};
+use ev_script::{ScriptTrees, WithOperation};
+use ev_sotw::{StateResponse, render_sotw};
 use ev_sotw_delta::{Delta, DeltaError, same_world, to_delta};
 use ev_types::{Script, Text};
 use std::alloc::{AllocError, Global};
@@ -45,7 +45,7 @@ pub(crate) fn make_sotw<S: Source>(alloc: Global, source: &mut S) -> Result<Made
     ensures same_count { (S.faults source.new ≡ S.faults source.old) ⊎ (result ≡ Err ScriptFault.Read) }
     ensures count { S.faults source.old ≤ S.faults source.new }
 {
-    let trees = read_trees_of(alloc, &SotwLines, source)?;
+    let trees = read_trees_of(alloc, &WithOperation(StateResponse), source)?;
     sotw_made(alloc, trees)
 }
 

@@ -5,7 +5,8 @@ use Rattle.ev_types.specs.declared.events.Profile.{Profile}
 use Rattle.ev_tree.specs.Scalars.{list_in}
 use Rattle.ev_script.specs.Members.{name_of, member_of, member_or, is_op}
 use Rattle.ev_script.specs.LineForms.{with_only}
-use Rattle.ev_script.specs.Faults.{LineForms, plain_lines}
+use Rattle.ev_script.specs.Faults.{LineForms}
+use Rattle.ev_script.specs.OwnOperations.{lines_with}
 use Rattle.ev_dns.specs.declared.lines.Resolution.{Resolution}
 
 -- each tree as the name that it is, where all are names
@@ -37,12 +38,10 @@ resolution_in tree =
     if is_op (codes "resolved") tree then with_only (codes "name" ∷ codes "addresses" ∷ []) tree (resolution_of tree)
     else None
 
--- a line: a resolution names no worker, and all else is as in a script
-abbrev pub dns_line : Profile → ℕ → Data → Option (Option ℕ)
-dns_line profile at tree =
-    if is_op (codes "resolved") tree then option_map (λ resolution. None) (resolution_in tree)
-    else plain_lines.lines profile at tree
+-- a line with a resolution, in either profile: it names no worker
+abbrev pub resolved_line : Profile → Data → Option (Option ℕ)
+resolved_line profile tree = option_map (λ resolution. None) (resolution_in tree)
 
 -- the forms of the lines
 abbrev pub dns_lines : LineForms
-dns_lines = record { heads = plain_lines.heads; lines = dns_line }
+dns_lines = lines_with (codes "resolved") resolved_line

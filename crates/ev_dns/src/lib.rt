@@ -41,6 +41,6 @@ mod touching;
 mod waiting;
 
 pub use laws::answers_are_last;
-pub use lines::{DnsLines, Resolution, resolution_in, script_lines_are_written};
+pub use lines::{Resolution, ResolvedOperation, resolution_in, script_lines_are_written};
 pub use resolutions::expand;
 pub use resolving::resolve;

@@ -7,9 +7,7 @@ ghost use Rattle.ev_dns.specs.Resolving.{is_written};
 ghost use Rattle.ev_dns.specs.Lines.{dns_lines, given_addresses, addresses_at, resolution_of, resolution_in};
 
 use crate::names::read_names;
-use ev_script::{
-    FormedHead, FormedLine, Forms, HeadTree, LineTree, LineTrees, has_only, is_op, name_at,
-};
+use ev_script::{OwnOperation, has_only, is_op, name_at};
 use ev_types::{Name, Profile, Seq};
 use serde_json::Value;
 use std::alloc::{AllocError, Global};
@@ -23,51 +21,24 @@ pub struct Resolution {
     pub addresses: Option<Seq<Name>>,
 }
 
-/// The lines of a script with resolutions, each kept as its tree: all but the resolutions are as in a script.
+/// The operation of a line with a resolution of a host name; all other lines are as in a script.
 #[derive(Clone, Copy, Debug)]
-pub struct DnsLines;
+pub struct ResolvedOperation;
 
-impl Forms for DnsLines {
-    ghost use Rattle.ev_dns.specs.Lines.{dns_lines};
-    ghost use Rattle.ev_script.specs.Members.{tree_told};
-    ghost use Rattle.ev_script.specs.ReadTrees.{IsTreeHead};
+impl OwnOperation for ResolvedOperation {
+    ghost use Rattle.std.specs.Prelude.{codes};
+    ghost use Rattle.ev_dns.specs.Lines.{resolved_line};
 
-    type Head = HeadTree;
+    ghost word = { codes "resolved" };
 
-    type Kept = LineTree;
+    ghost lines = { resolved_line };
 
-    ghost forms = { dns_lines };
-
-    ghost keeps_head = { IsTreeHead };
-
-    ghost keeps = { λ profile at tree kept. tree_told kept ≡ tree };
-
-    fn read_head(
-        &self,
-        alloc: Global,
-        tree: Value,
-    ) -> Result<Option<FormedHead<HeadTree>>, AllocError> {
-        LineTrees.read_head(alloc, tree)
+    fn word(&self) -> &'static str {
+        "resolved"
     }
 
-    fn read(
-        &self,
-        alloc: Global,
-        profile: Profile,
-        at: u32,
-        text: &[u8],
-        tree: Value,
-    ) -> Result<Option<FormedLine<LineTree>>, AllocError> {
-        if !is_op("resolved", &tree) {
-            return LineTrees.read(alloc, profile, at, text, tree);
-        }
-        if resolution_in(alloc, &tree)?.is_none() {
-            return Ok(None);
-        }
-        Ok(Some(FormedLine {
-            kept: LineTree::new(alloc, text)?,
-            worker: None,
-        }))
+    fn is_line(&self, alloc: Global, _profile: Profile, tree: &Value) -> Result<bool, AllocError> {
+        Ok(resolution_in(alloc, tree)?.is_some())
     }
 }
 

@@ -11,6 +11,7 @@ pub mod Asks
 pub mod WorkerLines
 pub mod Lines
 pub mod Faults
+pub mod OwnOperations
 pub mod Script
 pub mod Content
 pub mod ReadLines

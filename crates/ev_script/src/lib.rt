@@ -69,6 +69,7 @@ mod line_tree;
 mod lines;
 mod main_lines;
 mod members;
+mod own_operations;
 mod peers;
 mod read_input;
 mod script;
@@ -86,6 +87,7 @@ pub use lines::read_line;
 pub use members::{
     flag_at, has_only, is_op, name_at, number_at, read_name, read_tree, text_or, word_at,
 };
+pub use own_operations::{OwnOperation, WithOperation};
 pub use read_input::{ReadLines, read_lines_with};
 pub use script::{AuditedScript, read_audited_script, read_script};
 pub use trees::{HeadTree, LineTrees, ScriptTrees, read_trees, read_trees_with};

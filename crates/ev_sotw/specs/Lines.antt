@@ -4,7 +4,8 @@ use Rattle.serde_json.specs.Data.{Data}
 use Rattle.ev_types.specs.declared.events.Profile.{Profile}
 use Rattle.ev_script.specs.Members.{member_of, is_op}
 use Rattle.ev_script.specs.LineForms.{with_only}
-use Rattle.ev_script.specs.Faults.{LineForms, plain_lines}
+use Rattle.ev_script.specs.Faults.{LineForms}
+use Rattle.ev_script.specs.OwnOperations.{lines_with}
 use Rattle.ev_sotw.specs.Discovery.{DiscoveryParts, discovery_of}
 
 -- the response of the state of the world that a line of a script in a profile brings, or none where it isn't such a
@@ -13,15 +14,13 @@ abbrev pub response_in : Profile → Data → Option DiscoveryParts
 response_in profile tree =
     if is_op (codes "response") tree then with_only (codes "message" ∷ []) tree (member_of (discovery_of profile) (codes "message") tree) else None
 
--- a line: a response names no worker, and all else is as in a script
-abbrev pub sotw_line : Profile → ℕ → Data → Option (Option ℕ)
-sotw_line profile at tree =
-    if is_op (codes "response") tree then option_map (λ response. None) (response_in profile tree)
-    else plain_lines.lines profile at tree
+-- a line with a response: it names no worker
+abbrev pub state_line : Profile → Data → Option (Option ℕ)
+state_line profile tree = option_map (λ response. None) (response_in profile tree)
 
 -- the forms of the lines
 abbrev pub sotw_lines : LineForms
-sotw_lines = record { heads = plain_lines.heads; lines = sotw_line }
+sotw_lines = lines_with (codes "response") state_line
 
 -- the version of a response, where there is one
 abbrev pub version_of : Option DiscoveryParts → List ℕ

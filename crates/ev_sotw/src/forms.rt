@@ -4,57 +4,29 @@ ghost use Rattle.ev_sotw.specs.Discovery.{seen};
 ghost use Rattle.ev_sotw.specs.Lines.{response_in, version_in};
 
 use crate::{Discovery, read_discovery};
-use ev_script::{FormedHead, FormedLine, Forms, HeadTree, LineTree, LineTrees, has_only, is_op};
+use ev_script::{OwnOperation, has_only, is_op};
 use ev_types::Profile;
 use serde_json::Value;
 use std::alloc::{AllocError, Global};
 
-/// The lines of a script of the state of the world, each kept as its tree:
-/// the message of a response is a response of the state of the world, and all else is as in a script.
+/// The operation of a response of the state of the world, whose message is one; all other lines are as in a script.
 #[derive(Clone, Copy, Debug)]
-pub struct SotwLines;
+pub struct StateResponse;
 
-impl Forms for SotwLines {
-    ghost use Rattle.ev_sotw.specs.Lines.{sotw_lines};
-    ghost use Rattle.ev_script.specs.Members.{tree_told};
-    ghost use Rattle.ev_script.specs.ReadTrees.{IsTreeHead};
+impl OwnOperation for StateResponse {
+    ghost use Rattle.std.specs.Prelude.{codes};
+    ghost use Rattle.ev_sotw.specs.Lines.{state_line};
 
-    type Head = HeadTree;
+    ghost word = { codes "response" };
 
-    type Kept = LineTree;
+    ghost lines = { state_line };
 
-    ghost forms = { sotw_lines };
-
-    ghost keeps_head = { IsTreeHead };
-
-    ghost keeps = { λ profile at tree kept. tree_told kept ≡ tree };
-
-    fn read_head(
-        &self,
-        alloc: Global,
-        tree: Value,
-    ) -> Result<Option<FormedHead<HeadTree>>, AllocError> {
-        LineTrees.read_head(alloc, tree)
+    fn word(&self) -> &'static str {
+        "response"
     }
 
-    fn read(
-        &self,
-        alloc: Global,
-        profile: Profile,
-        at: u32,
-        text: &[u8],
-        tree: Value,
-    ) -> Result<Option<FormedLine<LineTree>>, AllocError> {
-        if !is_op("response", &tree) {
-            return LineTrees.read(alloc, profile, at, text, tree);
-        }
-        if response_in(alloc, profile, &tree)?.is_none() {
-            return Ok(None);
-        }
-        Ok(Some(FormedLine {
-            kept: LineTree::new(alloc, text)?,
-            worker: None,
-        }))
+    fn is_line(&self, alloc: Global, profile: Profile, tree: &Value) -> Result<bool, AllocError> {
+        Ok(response_in(alloc, profile, tree)?.is_some())
     }
 }
 

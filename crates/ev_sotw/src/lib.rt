@@ -14,7 +14,7 @@
 //! Below the journal stand, from the bottom: sets of names in the order of their bytes (`NameSet`); responses of the
 //! state-of-the-world protocol, and the responses of the incremental one
 //! that say the same (`Discovery`); the lines of a script with such responses,
-//! and the lines of the incremental script that say the same (`SotwLines`, `NamesSoFar`).
+//! and the lines of the incremental script that say the same (`StateResponse`, `NamesSoFar`).
 //!
 //! # Choices
 //!
@@ -47,7 +47,7 @@ mod requests;
 mod state;
 
 pub use discovery::{Discovery, read_discovery};
-pub use forms::{SotwLines, response_in, version_in};
+pub use forms::{StateResponse, response_in, version_in};
 pub use known::TypeSoFar;
 pub use laws::deltas_are_read;
 pub use message::delta_message;
