@@ -78,7 +78,7 @@ pub record Reached : Type 0 where
   pub listener : ServedListener
   pub local_end : Peer
 
--- the listener that takes a connection which came to this one:
+-- the listener that takes a connection which was accepted at this one:
 -- where it hands over, the one where the connection is meant to go, if there is one
 abbrev pub taker_of : List ServedListener → Ask → ServedListener → ServedListener
 taker_of listeners ask listener = if listener.hands_over then unwrap_or (listener_for listeners (meant_of ask)) listener else listener

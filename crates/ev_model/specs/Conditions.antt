@@ -58,7 +58,7 @@ has_part (byte ∷ rest) part = begins_with (byte ∷ rest) part || has_part res
 -- the pattern takes the text
 abbrev pub is_pattern_met : Bool → List ℕ → StringPattern → Bool
 is_pattern_met ignore text (Exact other) = bytes_eq (in_case ignore text) (in_case ignore other)
-is_pattern_met ignore text (Prefix front) = begins_with (in_case ignore text) (in_case ignore front)
+is_pattern_met ignore text (Prefix prefix) = begins_with (in_case ignore text) (in_case ignore prefix)
 is_pattern_met ignore text (Suffix back) = ends_with (in_case ignore text) (in_case ignore back)
 is_pattern_met ignore text (Contains part) = has_part (in_case ignore text) (in_case ignore part)
 

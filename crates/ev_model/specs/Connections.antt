@@ -148,7 +148,7 @@ abbrev pub moved_on : Shown → ℕ → List OpenMember → List OpenMember
 moved_on shown worker opened =
     map (λ (m : OpenMember). if m.worker == worker then record m { listener = listener_after shown m } else m) opened
 
--- the connection is this worker's, the drain timeout of its listener came, and no listener that is shown has its chain
+-- the connection is this worker's, its listener's drain timeout has passed, and no listener that is shown has its chain
 abbrev pub is_closing : Shown → List ℕ → ℕ → OpenMember → Bool
 is_closing shown expired worker member =
     (member.worker == worker) && has_number member.listener expired && not (is_chain_shown member.origin shown)
@@ -162,7 +162,7 @@ abbrev pub left_open : Shown → List ℕ → ℕ → List OpenMember → List O
 left_open shown expired worker opened = filter (λ (m : OpenMember). not (is_closing shown expired worker m)) opened
 
 -- a worker settles on this picture: its connections move to where their chains stay,
--- and are closed on listeners whose drain timeout came where their chains don't stay
+-- and are closed on listeners whose drain timeout has passed where their chains don't stay
 abbrev pub settled : List ℕ → Picture → ℕ → List OpenMember → Worked
 settled expired picture worker opened = record {
   opened = moved_on picture.shown worker (left_open picture.shown expired worker opened);

@@ -78,7 +78,7 @@ is_dead_at Draining held = not held
 is_dead_at Dropped held = true
 
 -- nothing holds the generation any more, by the numbers that are shown, the connections,
--- and the numbers whose drain timeout came
+-- and the numbers whose drain timeout has passed
 abbrev pub is_dead_by : Format → List ℕ → List OpenMember → List ℕ → GenRow → Bool
 is_dead_by format shown opened expired row =
     is_dead_at row.status

@@ -110,7 +110,7 @@ tells_of_name kind name event answer = false
 abbrev pub is_timeout_of : Kind → List ℕ → TimeoutParts → Bool
 is_timeout_of kind name timeout = kind_same timeout.kind kind && unwrap_or (option_map (bytes_eq name) timeout.name) false
 
--- the name's fetch timeout came while it was awaited
+-- the name's fetch timeout passed while it was awaited
 abbrev pub times_out : Kind → List ℕ → Event → Answer → Bool
 times_out kind name (FetchTimeout timeout) (Moved requests) = is_timeout_of kind name timeout
 times_out kind name event answer = false

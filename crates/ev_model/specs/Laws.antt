@@ -301,7 +301,7 @@ pub record DrainsBetween (told : Told) (j k : ℕ) (name : List ℕ) : Type 0 wh
   pub event : entry.event ≡ DrainTimeout name
   pub done : entry.answer ≡ Done
 
--- the listener's drain timeout came before place k, when it was draining already
+-- the listener's drain timeout passed before place k, when it was draining already
 pub record HasWaited (told : Told) (number : ℕ) (name : List ℕ) (k : ℕ) : Type 0 where
   pub place : ℕ
   pub draining : StandsAt told place number Lds name Draining
@@ -327,7 +327,7 @@ pub record SettlesWith (told : Told) (k : ℕ) (member : OpenMember) (closed mov
 abbrev pub IsShownNow : World → ServedListener → Type 0
 IsShownNow world listener = Contains (last_picture world).shown.listeners listener
 
--- a settle closes a connection whose chain was found only where its listener's drain timeout came
+-- a settle closes a connection whose chain was found only where its listener's drain timeout had passed
 -- and no listener that the last picture shows has its chain
 abbrev pub ClosesDrained : Told → Type 0
 ClosesDrained told =

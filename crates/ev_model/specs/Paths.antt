@@ -6,7 +6,7 @@ use Rattle.ev_types.specs.declared.routes.PathMatch.TheVariants.{Prefix, Path, S
 
 -- the text begins with the prefix
 abbrev pub begins_with : List ℕ → List ℕ → Bool
-begins_with text front = bytes_eq (take (length front) text) front
+begins_with text prefix = bytes_eq (take (length prefix) text) prefix
 
 -- the text ends with the back
 abbrev pub ends_with : List ℕ → List ℕ → Bool
@@ -19,6 +19,7 @@ without_query path = take_while (λ byte. not (byte == 63)) path
 -- the path is taken by the match: by how it begins, by the whole of it, or up to a `/`,
 -- the query left aside in the last two
 abbrev pub is_path_taken : List ℕ → PathMatch → Bool
-is_path_taken path (Prefix front) = begins_with path front
+is_path_taken path (Prefix prefix) = begins_with path prefix
 is_path_taken path (Path whole) = bytes_eq (without_query path) whole
-is_path_taken path (Separated front) = bytes_eq (without_query path) front || begins_with (without_query path) (front ++ codes "/")
+is_path_taken path (Separated prefix) =
+    bytes_eq (without_query path) prefix || begins_with (without_query path) (prefix ++ codes "/")

@@ -24,7 +24,7 @@ has_live rows kind name = list_any (λ (row : GenRow). is_row_of kind name row &
 unfoldable pub has_come : List GenRow → Kind → List ℕ → Bool
 has_come rows kind name = has_active rows kind name || not (has_live rows kind name)
 
--- a first response came, and each of its names has come
+-- a first response was received, and so was each of its names
 abbrev pub all_have_come : (List ℕ → Bool) → Option (List (List ℕ)) → Bool
 all_have_come comes None = false
 all_have_come comes (Some names) = list_all comes names

@@ -86,7 +86,7 @@ connect_requests_by node watched asked versions =
 abbrev pub connect_requests : World → List Request
 connect_requests world = connect_requests_by world.node (watched_of world) (not (is_clusters world.phase)) world.versions
 
--- what is said of one refused resource: its outer name, as it came, and the rule
+-- what is said of one refused resource: its outer name, as it was received, and the rule
 abbrev pub refusal_text : List ℕ → ℕ → List ℕ
 refusal_text name rule = name ++ (codes ": V" ++ decimal rule)
 

@@ -60,7 +60,7 @@ is_version_left kind response kept = not (kind_same kept.kind kind && is_removed
 abbrev pub versions_left : Kind → ResponseParts → List KeptVersion → List KeptVersion
 versions_left kind response versions = filter (is_version_left kind response) versions
 
--- something more came for a name of this kind, when so many numbers were allocated
+-- something more was received for a name of this kind, when so many numbers were allocated
 abbrev pub arrived : ℕ → Kind → Arrival → List ℕ → Arrived
 arrived made kind arrival name = record { kind = kind; name = name; arrival = arrival; made = made }
 

@@ -58,7 +58,7 @@ abbrev pub health : List ℕ → Host → Bool → World → World × Answer
 health name host healthy world = health_of host healthy (rows_meant world.arrivals name host world.rows) world
 
 -- the generation of this number waits for the name within a limit:
--- it was neither told of it, nor has the wait timed out
+-- it has neither been received, nor has the wait timed out
 abbrev pub awaits : List Arrived → Kind → List ℕ → ℕ → Dependency → Bool
 awaits arrivals kind name number d =
     is_dependency kind name d && d.limited && not (has_word arrivals number d || has_timeout arrivals number d)
@@ -83,7 +83,7 @@ abbrev pub name_timeout_of : Kind → Option (List ℕ) → World → World × A
 name_timeout_of kind None world = (world, Ignored)
 name_timeout_of kind (Some name) world = name_timeout kind name world
 
--- the fetch timeout of clusters: ignored where a response came or they timed out before; else they are late
+-- the fetch timeout of clusters: ignored where a response was received or they timed out before; else they are late
 abbrev pub clusters_timeout : World → World × Answer
 clusters_timeout world =
     if is_some world.first_clusters || world.late_clusters then (world, Ignored) else moved world (record world { late_clusters = true })
@@ -154,7 +154,7 @@ with_end Rds name world = record world { arrivals = world.arrivals ++ arrived wo
 with_end Sds name world = world
 with_end Ecds name world = world
 
--- the version of the resource goes, and with it the mark that its life is bounded
+-- the version of the resource is removed, and with it the mark that its life is bounded
 abbrev pub forget_version : Kind → List ℕ → World → World
 forget_version kind name world = record world { versions = without_version kind name world.versions }
 

@@ -18,7 +18,7 @@ use Rattle.ev_model.specs.Warming.{is_ready_by, assignment_by}
 use Rattle.ev_model.specs.Rows.{is_row_of, with_statuses}
 use Rattle.ev_model.specs.Phase.{phase_after}
 
--- the row warms and is ready, by what came and the results
+-- the row warms and is ready, by what was received and the results
 abbrev pub is_due : List Arrived → List HealthResult → GenRow → Bool
 is_due arrivals results row = is_warming row.status && is_ready_by arrivals results row
 

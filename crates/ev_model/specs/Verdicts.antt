@@ -43,8 +43,8 @@ is_removed response name = is_among name response.removed && (not (nat_le 1 (len
 abbrev pub lives_left : Kind → ResponseParts → List Live → List Live
 lives_left kind response lives = filter (λ (live : Live). not (kind_same live.kind kind && is_removed response live.name)) lives
 
--- somebody hears a resource of this kind and name: of clusters and listeners all,
--- of endpoints and routes those that are watched
+-- somebody hears a resource of this kind and name: of clusters and listeners all, of the kinds that are asked for
+-- by name those that are watched
 abbrev pub is_heard : Kind → List Live → List ℕ → Bool
 is_heard kind lives name = not (is_by_name kind) || is_watched lives kind name
 

@@ -1,7 +1,7 @@
 -- The versions that are kept, one for each kind and name. Source:
 -- the xDS transport protocol, incremental variant: a client may state the versions that it holds when a stream begins,
 -- and a resource may have a time to live, which a heartbeat of the version that is held renews.
--- Whether a resource's life is bounded is a mark of its version: it goes with it.
+-- Whether a resource's life is bounded is a mark of its version: both are removed at once.
 use Rattle.std.specs.Prelude.{ℕ, Bool, true, not, ◌&&◌, if◌then◌else◌, List, [], ◌∷◌, filter, map}
 use Rattle.std.specs.List.{list_any}
 use Rattle.std.specs.Ordering.{nat_cmp, is_lt}

@@ -3,8 +3,8 @@
 -- for a first result of each host; a listener waits for its routes;
 -- a wait ends with a response, a refusal, a notice of absence, or the initial fetch timeout.
 -- An updated cluster waits until its endpoints are sent anew, though they may be as before:
--- of a fresh dependency only what came since the generation was made counts.
--- Each word looks at what came and at the health results; the same word of a world takes that world's.
+-- of a fresh dependency only what was received since the generation was made counts.
+-- Each word looks at what was received and at the health results; the same word of a world takes that world's.
 use Rattle.std.specs.Prelude.{ℕ, Bool, true, false, not, ◌&&◌, ◌||◌, ◌==◌, nat_le, List, [], filter, filter_map, map, Option, Some, None, unwrap_or}
 use Rattle.std.specs.List.{list_any, list_all, last_or}
 use Rattle.std.specs.Str.{bytes_eq}
@@ -24,7 +24,7 @@ use Rattle.ev_types.specs.declared.rows.GenRow.{GenRow}
 use Rattle.ev_model.specs.World.{World, Arrived, HealthResult}
 use Rattle.ev_model.specs.Watching.{Dependency, dependencies_of}
 
--- it came for the name of this kind
+-- it was received for the name of this kind
 abbrev pub is_for : Kind → List ℕ → Arrived → Bool
 is_for kind name a = kind_same a.kind kind && bytes_eq a.name name
 
@@ -32,7 +32,7 @@ is_for kind name a = kind_same a.kind kind && bytes_eq a.name name
 abbrev pub came_for : List Arrived → Kind → List ℕ → List Arrival
 came_for arrivals kind name = map (λ (a : Arrived). a.arrival) (filter (is_for kind name) arrivals)
 
--- the resource that came, where it was one, or what is held since its time to live ended
+-- the resource that was received, where it was one, or what is held since its time to live ended
 abbrev pub content_in : Arrival → Option Content
 content_in (Value content) = Some content
 content_in Absent = None
@@ -40,7 +40,7 @@ content_in Bad = None
 content_in TimedOut = None
 content_in (Ended content) = Some content
 
--- the value of a name by what came: its last resource, or what is held since that ended
+-- the value of a name by what was received: its last resource, or what is held since that ended
 abbrev pub value_by : List Arrived → Kind → List ℕ → Option Content
 value_by arrivals kind name = last_or None (filter_map content_in (came_for arrivals kind name))
 
@@ -56,7 +56,7 @@ is_word Bad = true
 is_word TimedOut = false
 is_word (Ended content) = false
 
--- the initial fetch timeout came
+-- the initial fetch timeout has passed
 abbrev pub is_timeout : Arrival → Bool
 is_timeout (Value content) = false
 is_timeout Absent = false
@@ -64,20 +64,20 @@ is_timeout Bad = false
 is_timeout TimedOut = true
 is_timeout (Ended content) = false
 
--- the name was reported, by what came
+-- the name was reported, by what was received
 abbrev pub is_told_by : List Arrived → Kind → List ℕ → Bool
 is_told_by arrivals kind name = list_any is_word (came_for arrivals kind name)
 
--- the name was told of
+-- something was received for the name
 abbrev pub is_told : World → Kind → List ℕ → Bool
 is_told world kind name = is_told_by world.arrivals kind name
 
--- how many numbers were allocated when the last of this sort came for the name, if one did
+-- how many numbers were allocated when the last of this sort was received for the name, if one was
 abbrev pub last_made : (Arrival → Bool) → List Arrived → Kind → List ℕ → Option ℕ
 last_made is arrivals kind name =
     last_or None (map (λ (a : Arrived). a.made) (filter (λ (a : Arrived). is_for kind name a && is a.arrival) arrivals))
 
--- how many were allocated when the name was last told of
+-- how many were allocated when something was last received for the name
 abbrev pub last_told : List Arrived → Kind → List ℕ → Option ℕ
 last_told arrivals kind name = last_made is_word arrivals kind name
 
@@ -85,13 +85,13 @@ last_told arrivals kind name = last_made is_word arrivals kind name
 abbrev pub last_timed : List Arrived → Kind → List ℕ → Option ℕ
 last_timed arrivals kind name = last_made is_timeout arrivals kind name
 
--- what came when so many numbers were allocated counts for the generation of this number;
+-- what was received when so many numbers were allocated counts for the generation of this number;
 -- of a fresh dependency only if that stood by then
 abbrev pub counts_for : ℕ → Dependency → Option ℕ → Bool
 counts_for number d None = false
 counts_for number d (Some made) = not d.fresh || nat_le number made
 
--- the generation of this number was told of what it depends on
+-- what the generation of this number depends on was received
 abbrev pub has_word : List Arrived → ℕ → Dependency → Bool
 has_word arrivals number d = counts_for number d (last_told arrivals d.kind d.name)
 
@@ -99,7 +99,7 @@ has_word arrivals number d = counts_for number d (last_told arrivals d.kind d.na
 abbrev pub has_timeout : List Arrived → ℕ → Dependency → Bool
 has_timeout arrivals number d = counts_for number d (last_timed arrivals d.kind d.name)
 
--- it was told of what it depends on, or timed out where the wait is limited
+-- what it depends on was received, or the wait has timed out where it is limited
 abbrev pub has_answer : List Arrived → ℕ → Dependency → Bool
 has_answer arrivals number d = has_word arrivals number d || (has_timeout arrivals number d && d.limited)
 
@@ -127,7 +127,7 @@ discovered arrivals (Static rows) = rows
 discovered arrivals (by_eds service limited fresh) = rows_in (value_by arrivals Eds service)
 discovered arrivals Elsewhere = []
 
--- the assignment of a content, by what came
+-- the assignment of a content, by what was received
 abbrev pub assignment_by : List Arrived → Content → List HostRowParts
 assignment_by arrivals (a_cluster cluster) = discovered arrivals cluster.discovery
 assignment_by arrivals (an_assignment rows) = []

@@ -27,7 +27,7 @@ use Rattle.ev_model.specs.Versions.{is_before}
 
 -- a resource of another type that a generation waits for, by kind and name,
 -- whether the wait ends at the initial fetch timeout, and whether it has to come anew:
--- what came before the generation was made doesn't end the wait
+-- what was received before the generation was made doesn't end the wait
 pub record Dependency : Type 0 where
   pub kind : Kind
   pub name : List ℕ
@@ -47,7 +47,7 @@ serve_dependencies (Inline table) = []
 serve_dependencies (Tcp target) = []
 serve_dependencies Other = []
 
--- it depends on what is referred to, of this kind; what came before the generation was made counts
+-- it depends on what is referred to, of this kind; what was received before the generation was made counts
 abbrev pub referred : Kind → List Reference → List Dependency
 referred kind references =
     map (λ (r : Reference). record { kind = kind; name = r.name; limited = r.limited; fresh = false }) references

@@ -57,7 +57,7 @@ pub record World : Type 0 where
   pub held : List ℕ
   -- the connections that are open
   pub opened : List OpenMember
-  -- the numbers of the listener rows whose drain timeout came
+  -- the numbers of the listener rows whose drain timeout has passed
   pub expired : List ℕ
   -- whether a stream is open
   pub stream : Bool

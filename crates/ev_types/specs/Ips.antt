@@ -32,13 +32,13 @@ width (V4 bits) = 32
 width (V6 bits) = 128
 
 -- the first n bits of an address
-abbrev pub front : ℕ → Ip → Ip
-front count (V4 bits) = V4 (bits / 2 ^ (32 - count))
-front count (V6 bits) = V6 (bits / 2 ^ (128 - count))
+abbrev pub first_bits : ℕ → Ip → Ip
+first_bits count (V4 bits) = V4 (bits / 2 ^ (32 - count))
+first_bits count (V6 bits) = V6 (bits / 2 ^ (128 - count))
 
 -- the range of the addresses that have the first n bits of this one
 abbrev pub range_about : Ip → ℕ → CidrRange
-range_about ip count = record { prefix_len = count; prefix = front count ip }
+range_about ip count = record { prefix_len = count; prefix = first_bits count ip }
 
 -- the range, where the address has this many bits
 abbrev pub range_within : Ip → ℕ → Option CidrRange

@@ -3,7 +3,7 @@ use Rattle.std.specs.Prelude.{ℕ, ◌≡◌, List, Option, is_some}
 use Rattle.ev_types.specs.declared.contents.Kind.{Kind}
 use Rattle.ev_types.specs.Kinds.{is_by_name}
 
--- which initial fetch timeout came
+-- which initial fetch timeout has passed
 pub record TimeoutParts : Type 0 where
   pub kind : Kind
   pub name : Option (List ℕ)

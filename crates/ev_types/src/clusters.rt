@@ -86,7 +86,7 @@ pub struct Cluster {
     /// The secrets that the transport sockets refer to which it chooses by a host's metadata,
     /// in order. `None` where it has no such socket. Source: Envoy's `transport_socket_matches`.
     pub secrets_by_match: Option<Seq<Reference>>,
-    /// The text of its body, by which a change of any field is told. It is empty where only the fields that are read
+    /// The text of its body, by which a change of any field is seen. It is empty where only the fields that are read
     /// count.
     pub body_text: Text,
 }

@@ -159,8 +159,8 @@ impl Eq for Content {
     ghost laws = { decided content_same content_decides };
 }
 
-/// The body of a resource: its content, or the least form rule that it breaks, or a heartbeat: no body at all, beside a
-/// time to live that is given anew.
+/// The body of a resource: its content, or the lowest-numbered rule that it breaks, or a heartbeat: no body at all,
+/// beside a time to live that is given anew.
 #[derive(Drop)]
 pub enum Body {
     /// What the resource says.
@@ -171,7 +171,7 @@ pub enum Body {
     Beat,
 }
 
-/// A resource of a response, with its outer name and its version as they came.
+/// A resource of a response, with its outer name and its version as they were received.
 /// Where the body is good or a heartbeat, the name has 1 to 512 bytes;
 /// a good body of a cluster or listener has it as its own.
 /// A heartbeat has a time to live.

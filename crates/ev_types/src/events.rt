@@ -74,11 +74,11 @@ pub enum Event {
         host: Host,
         healthy: bool,
     },
-    /// An initial fetch timeout came.
+    /// An initial fetch timeout has passed.
     FetchTimeout(FetchTimeout),
-    /// The drain timeout of a listener's old generations came.
+    /// The drain timeout of a listener's old generations has passed.
     DrainTimeout(Name),
-    /// The time to live of a resource came to its end.
+    /// The time to live of a resource has ended.
     TtlExpired {
         kind: Kind,
         name: Name,

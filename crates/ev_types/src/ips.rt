@@ -1,5 +1,5 @@
 ghost use Rattle.std.specs.Prelude.{◌≡◌, ◌≤◌, ◌<◌};
-ghost use Rattle.ev_types.specs.Ips.{ip_of, width, front, range_within};
+ghost use Rattle.ev_types.specs.Ips.{ip_of, width, first_bits, range_within};
 
 use std::net::IpAddr;
 use std::str::FromStr;
@@ -82,7 +82,7 @@ impl CidrRange {
 // The first bits of an address.
 fn first_bits(ip: Ip, length: u32) -> Ip
     requires { length ≤ width ip }
-    ensures { result ≡ front length ip }
+    ensures { result ≡ first_bits length ip }
 {
     match ip {
         Ip::V4(_) if length == 0 => Ip::V4(0),

@@ -62,7 +62,7 @@ pub struct FilterChain {
     pub secrets: Seq<Reference>,
     /// The extensions that its filters refer to, in order.
     pub extensions: Seq<Reference>,
-    /// The text of its own element of the listener, by which a change of any field of it is told.
+    /// The text of its own element of the listener, by which a change of any field of it is seen.
     /// It is empty where only the fields that are read count.
     pub body_text: Text,
 }
@@ -109,10 +109,10 @@ pub struct Listener {
     pub default_filter_chain: Option<FilterChain>,
     /// The extensions that its listener filters refer to, in order.
     pub extensions: Seq<Reference>,
-    /// The text of its body without its chains, by which it is told whether the chains alone changed.
+    /// The text of its body without its chains, by which it is seen whether the chains alone changed.
     /// It is empty where only the fields that are read count.
     pub frame_text: Text,
-    /// The text of its body, by which a change of any field is told. It is empty where only the fields that are read
+    /// The text of its body, by which a change of any field is seen. It is empty where only the fields that are read
     /// count.
     pub body_text: Text,
 }

@@ -121,7 +121,7 @@ pub struct KeptVersion {
     pub kind: Kind,
     pub name: Name,
     pub version: Text,
-    /// Whether the resource's life is bounded: it came with a time to live that has not ended.
+    /// Whether the resource's life is bounded: it was received with a time to live that has not ended.
     pub bounded: bool,
 }
 

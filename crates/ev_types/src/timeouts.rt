@@ -2,8 +2,8 @@ use crate::{Kind, Name, TryCopy};
 use std::alloc::{AllocError, Global};
 use std::marker::Model;
 
-/// Which initial fetch timeout came. It has a name exactly where the kind is asked for by name: all clusters and all
-/// listeners are awaited together.
+/// Which initial fetch timeout has passed. It has a name exactly where the kind is asked for by name: all clusters and
+/// all listeners are awaited together.
 #[derive(Drop)]
 pub struct FetchTimeout {
     pub kind: Kind,
