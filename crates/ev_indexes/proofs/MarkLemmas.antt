@@ -1,6 +1,6 @@
 -- Marks of rows, and what each change of results or of marks does to them.
 use native.Mathlib.Omega.{arith}
-use Rattle.std.proofs.Common.{◌≡◌, ◌∙◌, ◌⊎◌, inl, inr, ℕ, zero, suc, ◌<◌, ◌≤◌, Bool, true, false, true≢false, cond, ◌&&◌, ◌||◌, nat_eq, List, [], ◌∷◌, Option, None, Some, IfSome, option_map, unwrap_or, slice_set, filter, map, length, refl, sym, ap, subst}
+use Rattle.std.proofs.Common.{◌≡◌, ◌∙◌, ℕ, suc, ◌<◌, ◌≤◌, Bool, true, false, true≢false, cond, ◌&&◌, ◌||◌, nat_eq, List, [], ◌∷◌, Option, None, Some, IfSome, option_map, unwrap_or, slice_set, filter, map, length, refl, sym, ap, subst}
 use Rattle.std.specs.List.{list_any}
 use Rattle.std.specs.Map.{lookup, set_value}
 use Rattle.std.specs.Option.{option_map_or}

@@ -1,7 +1,8 @@
 -- Look-ups of results in maps of maps, and what each change of a map does to them.
 use native.Mathlib.Omega.{arith}
-use Rattle.std.proofs.Common.{◌≡◌, ◌≢◌, ◌∙◌, ℕ, Bool, true, false, cond, not, ◌&&◌, ◌||◌, nat_eq, List, [], ◌∷◌, Option, None, Some, option_map, unwrap_or, refl, take, get_or, length, ◌<◌, ◌+◌, sym, ap}
+use Rattle.std.proofs.Common.{◌≡◌, ◌≢◌, ◌∙◌, ℕ, Bool, true, false, cond, Result, Ok, Err, not, ◌&&◌, ◌||◌, nat_eq, List, [], ◌∷◌, Option, None, Some, option_map, unwrap_or, refl, take, get_or, length, ◌<◌, ◌+◌, sym, ap}
 use Rattle.std.specs.HashMap.{HashMap}
+use Rattle.std.specs.Result.{OnOk, OnErr}
 use Rattle.std.specs.Map.{lookup, set_value}
 use Rattle.std.proofs.lemmas.Bool.{eqb-true}
 use Rattle.std.proofs.lemmas.Option.{none-some}
@@ -174,3 +175,8 @@ has_host-more h rows i d within =
     by true b = refl
     by false true = refl
     by false false = refl
+
+-- what follows from what is so of a value and of an error
+pub either_way : {V E P Q R : Type 0} (r : Result V E) → OnOk r P → OnErr r Q → (P → R) → (Q → R) → R
+either_way (Ok v) p q f g = f p
+either_way (Err e) p q f g = g q

@@ -1,5 +1,5 @@
 -- What holds of each of some rows.
-use Rattle.std.proofs.Common.{◌≡◌, ◌∙◌, ℕ, Bool, true, false, cond, ◌||◌, nat_eq, List, [], ◌∷◌, Some, filter, refl, subst}
+use Rattle.std.proofs.Common.{◌≡◌, ℕ, Bool, true, false, cond, ◌||◌, nat_eq, List, [], ◌∷◌, Some, filter, refl, subst}
 use Rattle.std.specs.List.{list_any, AllByRecursion}
 use Rattle.ev_types.specs.declared.rows.GenRow.{GenRow}
 use Rattle.ev_indexes.specs.Tables.{row_in, numbers_of}

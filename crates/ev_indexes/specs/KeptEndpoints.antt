@@ -1,7 +1,7 @@
 -- What is kept of hosts: health results by number and host, and of some numbers the rows whose hosts
 -- that may be chosen are marked.
 -- Source: cluster manager warming of Envoy's documentation (a first result of each host is awaited).
-use Rattle.std.specs.Prelude.{◌≡◌, ◌⊎◌, ℕ, Bool, true, not, ◌&&◌, ◌||◌, nat_eq, if◌then◌else◌, List, Option, Some, None, filter, option_map}
+use Rattle.std.specs.Prelude.{◌≡◌, ◌⊎◌, ℕ, Bool, true, not, ◌&&◌, nat_eq, if◌then◌else◌, List, Option, Some, None, filter, option_map}
 use Rattle.std.specs.Map.{lookup}
 use Rattle.ev_types.specs.SameHosts.{host_same, has_host}
 use Rattle.ev_types.specs.Hosts.{HostRowParts}

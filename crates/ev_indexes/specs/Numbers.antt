@@ -17,7 +17,7 @@ abbrev pub is_first_up_to : ℕ → List ℕ → Bool
 is_first_up_to made [] = false
 is_first_up_to made (number ∷ numbers) = nat_le number made
 
--- this many at the front were left out, and the others rise where they are known to
+-- this many at the beginning were left out, and the others rise where they are known to
 pub record AreStored (gone : ℕ) (rise : Bool) (numbers : List ℕ) : Type 0 where
   pub within : gone ≤ length numbers
   pub rising : rise ≡ true → Rise (drop gone numbers)

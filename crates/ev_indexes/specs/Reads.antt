@@ -1,4 +1,4 @@
--- What is read of a state, by searches of its rows: the machine's words, where what came is looked up.
+-- What is read of a state, by searches of its rows: the machine's words, where what was received is looked up.
 use Rattle.std.specs.Prelude.{ℕ, Bool, false, not, ◌&&◌, ◌||◌, if◌then◌else◌, List, [], ◌∷◌, ◌++◌, Option, Some, None, is_some, filter, map, option_map, unwrap_or}
 use Rattle.std.specs.List.{list_all, list_any, flat_map}
 use Rattle.ev_types.specs.Hosts.{HostRowParts}
@@ -60,7 +60,7 @@ abbrev pub names_watched : Kind → List GenRow → List (List ℕ)
 names_watched kind rows = sorted_names (names_needed kind rows)
 
 -- the generation of this number waits for the name within a limit:
--- by what is known of it, it was neither told of it, nor has the wait timed out
+-- by what is known of it, nothing was received for it, nor has the wait timed out
 abbrev pub awaits_in : Key → Watch → ℕ → Dependency → Bool
 awaits_in key watch number d =
     is_on key d && d.limited && not (counts_for number d watch.told || counts_for number d watch.timed)
@@ -158,7 +158,7 @@ listener_in watches row a_secret = []
 listener_in watches row an_extension = []
 
 -- a live row of the world waits for the name of this kind within a limit:
--- it was neither told of it, nor has the wait timed out
+-- nothing was received for it, nor has the wait timed out
 abbrev pub is_awaited_at : World → Kind → List ℕ → Bool
 is_awaited_at world kind name = is_awaited world.arrivals world.rows kind name
 

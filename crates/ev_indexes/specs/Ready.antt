@@ -1,5 +1,5 @@
 -- Which rows are due, by what is known of names and by the results that are kept:
--- the machine's words, where what came is looked up. Source: cluster manager warming of Envoy's documentation.
+-- the machine's words, where what was received is looked up. Source: cluster manager warming of Envoy's documentation.
 use Rattle.std.specs.Prelude.{◌≡◌, ℕ, if◌then◌else◌, Bool, false, not, ◌&&◌, ◌||◌, List, [], Option, Some, None, is_some}
 use Rattle.std.specs.List.{list_all}
 use Rattle.ev_types.specs.Hosts.{HostRowParts}
@@ -21,7 +21,7 @@ use Rattle.ev_indexes.specs.Due.{is_one_of}
 use Rattle.ev_indexes.specs.Needs.{key_of}
 use Rattle.ev_indexes.specs.Watched.{WatchesKept, watch_in}
 
--- the generation of this number was told of what it depends on
+-- what the generation of this number depends on was received
 abbrev pub has_word_in : WatchesKept → ℕ → Dependency → Bool
 has_word_in watches number d = counts_for number d (watch_in watches (key_of d)).told
 
@@ -29,7 +29,7 @@ has_word_in watches number d = counts_for number d (watch_in watches (key_of d))
 abbrev pub has_timeout_in : WatchesKept → ℕ → Dependency → Bool
 has_timeout_in watches number d = counts_for number d (watch_in watches (key_of d)).timed
 
--- it was told of what it depends on, or timed out where the wait is limited
+-- what it depends on was received, or the wait has timed out where it is limited
 abbrev pub has_answer_in : WatchesKept → ℕ → Dependency → Bool
 has_answer_in watches number d = has_word_in watches number d || (has_timeout_in watches number d && d.limited)
 

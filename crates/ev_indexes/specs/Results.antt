@@ -1,6 +1,6 @@
 -- Health results that are kept by number and host. Source:
 -- cluster manager warming of Envoy's documentation (a first result of each host is awaited).
-use Rattle.std.specs.Prelude.{◌≡◌, ◌≢◌, ℕ, Bool, false, not, ◌&&◌, ◌||◌, nat_eq, if◌then◌else◌, List, [], ◌∷◌, ◌++◌, Option, Some, None, map, unwrap_or}
+use Rattle.std.specs.Prelude.{◌≡◌, ◌≢◌, ℕ, Bool, false, not, ◌&&◌, ◌||◌, nat_eq, if◌then◌else◌, List, [], Option, Some, None, map, unwrap_or}
 use Rattle.std.specs.Map.{lookup}
 use Rattle.std.specs.HashMap.{HashMap, get}
 use Rattle.ev_types.specs.SameHosts.{host_same, has_host}
@@ -35,6 +35,10 @@ HasNoEmpty kept = (number : ℕ) → lookup (nat_eq number) kept ≢ Some []
 -- the host has this result, and of each other host the map has what it had
 abbrev pub Keeps : {S : Type 0} → HashMap Host Bool S → HashMap Host Bool S → Host → Bool → Type 0
 Keeps old new host healthy = (h : Host) → get host_same new h ≡ (if host_same host h then Some healthy else get host_same old h)
+
+-- the number has these results, and each other number what it had
+abbrev pub HasHosts : {S T : Type 0} → HashMap ℕ (HashMap Host Bool S) T → HashMap ℕ (HashMap Host Bool S) T → ℕ → HashMap Host Bool S → Type 0
+HasHosts old new number hosts = (n : ℕ) → get nat_eq new n ≡ (if nat_eq number n then Some hosts else get nat_eq old n)
 
 -- of the hosts among these rows the map has what it had, and of no other
 abbrev pub KeepsAmong : {S : Type 0} → HashMap Host Bool S → HashMap Host Bool S → List HostRowParts → Type 0

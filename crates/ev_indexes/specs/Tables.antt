@@ -1,7 +1,11 @@
 -- The table of generations, seen as the list of its rows. This project's own: a generation is found by its number.
 use Rattle.std.specs.Prelude.{◌≡◌, ℕ, Bool, not, ◌==◌, ◌<◌, nat_eq, if◌then◌else◌, List, Option, None, filter, find, map}
 use Rattle.std.specs.List.{IsDistinct}
+use Rattle.ev_types.specs.declared.contents.Content.{Content}
+use Rattle.ev_types.specs.declared.contents.Kind.{Kind}
+use Rattle.ev_types.specs.declared.origins.KeptChain.{KeptChain}
 use Rattle.ev_types.specs.declared.rows.RowStatus.{RowStatus}
+use Rattle.ev_types.specs.declared.rows.RowStatus.TheVariants.{Warming}
 use Rattle.ev_types.specs.declared.rows.GenRow.{GenRow}
 use Rattle.ev_model.specs.Rows.{with_statuses}
 
@@ -9,6 +13,11 @@ use Rattle.ev_model.specs.Rows.{with_statuses}
 pub record GenerationsParts : Type 0 where
   pub rows : List GenRow
   pub made : ℕ
+
+-- a row that warms
+abbrev pub warming_row : Kind → ℕ → List ℕ → Content → List KeptChain → GenRow
+warming_row kind number name content kept =
+    record { kind = kind; number = number; name = name; content = content; status = Warming; kept = kept }
 
 -- the row has this number
 abbrev pub is_number : ℕ → GenRow → Bool

@@ -1,7 +1,7 @@
 //! By address the live generations that hold it. An address whose last holder retired has no entry,
 //! so there are no more entries than live listeners.
 
-ghost use Rattle.std.specs.Prelude.{◌≡◌, if◌then◌else◌, ◌++◌, [], ◌∷◌, None, IfOk, OnOk, OnErr};
+ghost use Rattle.std.specs.Prelude.{◌≡◌, if◌then◌else◌, ◌++◌, [], ◌∷◌, None, Some, IfOk, OnOk, OnErr};
 ghost use Rattle.std.specs.Map.{lookup};
 ghost use Rattle.std.specs.Option.{option_copied};
 ghost use Rattle.indexmap.specs.IndexMap.{get};
@@ -105,9 +105,24 @@ fn enter_number(
     if let Some(numbers) = map.get_mut(address) {
         return numbers.push(number);
     }
+    enter_first(map, alloc, address, number)
+}
+
+// A number alone is at an address. Out of memory, the numbers stay as they were.
+fn enter_first(
+    map: &mut Numbers,
+    alloc: Global,
+    address: &SocketAddress,
+    number: Gen,
+) -> Result<(), AllocError>
+    ensures entered { OnOk result ((a : declared.SocketAddress) → get socket_same map.new a
+        ≡ (if socket_same address.now a then Some (number ∷ []) else get socket_same map.old a)) }
+    ensures err { OnErr result ((a : declared.SocketAddress) → get socket_same map.new a ≡ get socket_same map.old a) }
+{
+    let address = address.copy(alloc)?;
     let mut numbers = Seq::new(alloc);
     numbers.push(number)?;
-    let Ok(_) = map.insert(address.copy(alloc)?, numbers) else {
+    let Ok(_) = map.insert(address, numbers) else {
         return Err(AllocError);
     };
     Ok(())

@@ -1,6 +1,6 @@
 //! Numbers of the generations that depend on a name. They are lent as a slice,
 //! so they stand one after another and not in a tree, and one is found by halves.
-//! The first leaves its place empty, so that generations that retire in the order in which they came cost no move;
+//! The first leaves its place empty, so that generations that retire in the order in which they were made cost no move;
 //! the rest moves up after another. That numbers come in rising order is no condition of `put`,
 //! so that each clause holds of every list: each list keeps whether it is known to rise, and is walked where it isn't,
 //! which never comes of numbers in the order in which they are allocated.
@@ -14,13 +14,13 @@ use ev_types::Gen;
 use std::alloc::{AllocError, Global};
 use std::marker::Model;
 
-/// Numbers of generations in the order in which they came.
+/// Numbers of generations in the order in which they were made.
 /// As long as each is above those before it, which is so of numbers in the order in which they are allocated,
 /// one is found among them by binary search.
 #[derive(Drop)]
 pub struct Numbers {
     numbers: Vec<Gen>,
-    // So many at the front were left out.
+    // So many at the beginning were left out.
     gone: usize,
     // Whether each of the others is known to be above those before it.
     rise: bool,
@@ -154,7 +154,7 @@ fn is_first_up_to(numbers: &[Gen], made: u32) -> bool
     }
 }
 
-// The first leaves its place empty. Once more than half of the places are, the rest moves to the front.
+// The first leaves its place empty. Once more than half of the places are, the rest moves to the beginning.
 fn leave_first(numbers: &mut Vec<Gen>, gone: &mut usize)
     requires { gone.old < length numbers.old.items }
     ensures within { gone.new ≤ length numbers.new.items }
@@ -166,7 +166,7 @@ fn leave_first(numbers: &mut Vec<Gen>, gone: &mut usize)
     }
 }
 
-// The rest moves to the front.
+// The rest moves to the beginning.
 fn cut(numbers: &mut Vec<Gen>, gone: &mut usize)
     requires { gone.old ≤ length numbers.old.items }
     ensures gone { gone.new ≡ 0 }

@@ -60,7 +60,7 @@ impl State {
     }
 
     /// Whether the fetch timeout of the name of this kind is due:
-    /// a live generation waits for it within a limit, was not told of it, and its wait didn't time out.
+    /// a live generation waits for it within a limit, nothing was received for it, and its wait didn't time out.
     /// Look-ups are counted: at most one for each generation that waits for the name within a limit.
     pub fn timeout_due<L: Ledger>(&self, kind: Kind, name: &Name, steps: &mut Steps<L>) -> bool
         requires indexed { IsIndexed self.now }
@@ -127,7 +127,7 @@ fn is_awaited<L: Ledger>(
     false
 }
 
-// Whether a row is live and waits for a name within a limit: it was neither told of it, nor has its wait timed out.
+// Whether a row is live and waits for a name within a limit: nothing was received for it, nor has its wait timed out.
 fn is_waiting(kind: Kind, name: &Name, watch: &Watch, row: &GenRow) -> bool
     ensures { result ≡ is_waiting_in (named kind name.now) watch.now row.now }
 {
@@ -148,7 +148,7 @@ fn awaits_one(kind: Kind, name: &Name, watch: &Watch, number: Gen, content: &Con
     false
 }
 
-// Whether a dependency is on the name, its wait is limited, and it was neither told nor timed out.
+// Whether a dependency is on the name, its wait is limited, and nothing was received for it, nor did it time out.
 fn awaits(kind: Kind, name: &Name, watch: &Watch, number: Gen, need: &Need<'_>) -> bool
     ensures { result ≡ awaits_in (named kind name.now) watch.now number need.now }
 {

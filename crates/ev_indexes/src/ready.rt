@@ -24,7 +24,7 @@ pub(crate) fn counts_for(number: Gen, need: &Need<'_>, made: Option<u32>) -> boo
     }
 }
 
-// Whether the generation of this number was told of what it depends on, or its wait timed out where it is limited.
+// Whether what the generation of this number depends on was received, or its wait timed out where it is limited.
 fn has_answer(watches: &Watches, number: Gen, need: &Need<'_>) -> bool
     ensures { result ≡ has_answer_in watches.now number need.now }
 {

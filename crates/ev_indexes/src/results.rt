@@ -1,7 +1,7 @@
 ghost use Rattle.std.specs.Prelude.{◌≡◌, [], nat_eq, ◌&&◌, ◌||◌, not, false, None, Some, IfOk, unwrap_or, is_some, length, OnOk, OnErr};
 ghost use Rattle.std.specs.List.{list_all};
 ghost use Rattle.ev_types.specs.Hosts.{HostRowParts};
-ghost use Rattle.ev_indexes.specs.Results.{hosts_among, result_among, results_of, NotesAmong, ForgetsAmong, TrimsAmong, Keeps, KeepsAmong, is_eligible_among};
+ghost use Rattle.ev_indexes.specs.Results.{hosts_among, result_among, results_of, NotesAmong, ForgetsAmong, TrimsAmong, HasHosts, Keeps, KeepsAmong, is_eligible_among};
 
 use ev_keys::Keys;
 use ev_types::{Assignment, Gen, Host, HostRow, TryCopy};
@@ -55,19 +55,11 @@ impl Results {
         let host = host.copy(alloc)?;
         let at = number.number();
         if let Some(hosts) = self.results.get_mut(&at) {
-            let Ok(_) = hosts.insert(host, healthy) else {
-                return Err(AllocError);
-            };
-            return Ok(());
+            return put(hosts, host, healthy);
         }
         let mut hosts = IndexMap::with_hasher(alloc, self.keys);
-        let Ok(_) = hosts.insert(host, healthy) else {
-            return Err(AllocError);
-        };
-        let Ok(_) = self.results.insert(at, hosts) else {
-            return Err(AllocError);
-        };
-        Ok(())
+        put(&mut hosts, host, healthy)?;
+        put_hosts(&mut self.results, at, hosts)
     }
 
     /// The last result of a host for a generation.
@@ -137,10 +129,7 @@ impl Results {
             self.results.swap_remove(&at);
             return Ok(());
         }
-        let Ok(_) = self.results.insert(at, kept) else {
-            return Err(AllocError);
-        };
-        Ok(())
+        put_hosts(&mut self.results, at, kept)
     }
 }
 
@@ -157,9 +146,25 @@ fn standing(alloc: Global, hosts: &Hosts, rows: &[HostRow]) -> Result<Hosts, All
     Ok(kept)
 }
 
-// Keeps one more result.
+// The results of a generation in place of earlier ones. Out of memory, all stays as it was.
+fn put_hosts(
+    results: &mut IndexMap<u32, Hosts>,
+    number: u32,
+    hosts: Hosts,
+) -> Result<(), AllocError>
+    ensures ok { OnOk result (HasHosts results.old results.new number hosts) }
+    ensures err { OnErr result (results.new.entries ≡ results.old.entries) }
+{
+    let Ok(_) = results.insert(number, hosts) else {
+        return Err(AllocError);
+    };
+    Ok(())
+}
+
+// Keeps one more result. Out of memory, all stays as it was.
 fn put(hosts: &mut Hosts, host: Host, healthy: bool) -> Result<(), AllocError>
-    ensures { OnOk result (Keeps hosts.old hosts.new host healthy) }
+    ensures ok { OnOk result (Keeps hosts.old hosts.new host healthy) }
+    ensures err { OnErr result (hosts.new.entries ≡ hosts.old.entries) }
 {
     let Ok(_) = hosts.insert(host, healthy) else {
         return Err(AllocError);

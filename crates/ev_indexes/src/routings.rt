@@ -1,6 +1,7 @@
 //! What a picture shows of listeners.
 
-ghost use Rattle.std.specs.Prelude.{◌≡◌, Some, map, option_map, IfOk};
+ghost use Rattle.std.specs.Prelude.{◌≡◌, [], ◌∷◌, Some, map, option_map, IfOk};
+ghost use Rattle.ev_types.specs.declared.contents.Content.TheVariants.{Listener as a_listener};
 ghost use Rattle.ev_types.specs.declared.contents.Kind.TheVariants.{Rds};
 ghost use Rattle.ev_lookups.specs.Keys.{named};
 ghost use Rattle.ev_model.specs.Origins.{placed_default, placed_from};
@@ -17,8 +18,8 @@ use crate::shown::lacks_secret;
 use crate::{State, Watches};
 use ev_model::{Routing, ServedChain, ServedListener};
 use ev_types::{
-    ChainPlace, Content, FilterChain, Gen, GenRow, Kind, Name, RouteTable, Seq, Serve, Shared,
-    TryCopy,
+    ChainPlace, Content, FilterChain, Gen, GenRow, Kind, Listener, Name, RouteTable, Seq, Serve,
+    Shared, TryCopy,
 };
 use std::alloc::{AllocError, Global};
 
@@ -63,9 +64,31 @@ fn listener(
     let Content::Listener(listener) = &row.content else {
         return Ok(None);
     };
-    let listener = listener.get();
     let kept = kept_places(alloc, row.kept.as_slice())?;
-    Ok(Some(ServedListener {
+    let served = with_chains(alloc, watches, row, &kept, listener.get())?;
+    Ok(Some(served))
+}
+
+// A listener of a generation with its chains.
+fn with_chains(
+    alloc: Global,
+    watches: &Watches,
+    row: &GenRow,
+    kept: &KeptPlaces,
+    listener: &Listener,
+) -> Result<ServedListener, AllocError>
+    requires kept { AreKept row.now.kept kept.now }
+    ensures { IfOk result (λ served. served ∷ [] ≡ listener_in watches.now row.now (a_listener listener.now)) }
+{
+    let filter_chains = chains(alloc, watches, row, kept, listener.filter_chains.as_slice())?;
+    let default_filter_chain = default_chain(
+        alloc,
+        watches,
+        row,
+        kept,
+        &listener.default_filter_chain,
+    )?;
+    Ok(ServedListener {
         number: row.number,
         name: row.name.copy(alloc)?,
         address: listener.address.host.copy(alloc)?,
@@ -73,21 +96,9 @@ fn listener(
         udp: listener.address.udp,
         restores: listener.restores,
         hands_over: listener.hands_over,
-        filter_chains: chains(
-            alloc,
-            watches,
-            row,
-            &kept,
-            listener.filter_chains.as_slice(),
-        )?,
-        default_filter_chain: default_chain(
-            alloc,
-            watches,
-            row,
-            &kept,
-            &listener.default_filter_chain,
-        )?,
-    }))
+        filter_chains,
+        default_filter_chain,
+    })
 }
 
 // These chains of a generation, each with where its connections go.

@@ -6,7 +6,7 @@ ghost use Rattle.std.specs.Option.{option_copied};
 ghost use Rattle.ev_types.specs.declared.rows.GenRow as declared;
 ghost use Rattle.ev_types.specs.declared.rows.RowStatus.TheVariants.{Active, Draining, Dropped};
 ghost use Rattle.ev_model.specs.Rows.{new_row};
-ghost use Rattle.ev_indexes.specs.Tables.{IsTable, row_in, with_status, without_row};
+ghost use Rattle.ev_indexes.specs.Tables.{IsTable, row_in, warming_row, with_status, without_row};
 
 use crate::Steps;
 use ev_types::{Content, Gen, GenRow, KeptChain, Kind, Name, RowStatus, Seq};
@@ -84,14 +84,7 @@ impl Generations {
         ensures err { OnErr result (self.new ≡ self.old) }
     {
         let number = self.made + 1;
-        let row = GenRow {
-            kind,
-            number: Gen::new(number),
-            name,
-            content,
-            status: RowStatus::Warming,
-            kept,
-        };
+        let row = warming_row(kind, Gen::new(number), name, content, kept);
         let Ok(_) = self.rows.insert(number, row) else {
             return Err(AllocError);
         };
@@ -172,5 +165,25 @@ impl Generations {
         ensures table { IsTable self.now }
     {
         self.rows.values()
+    }
+}
+
+// A row that warms.
+fn warming_row(
+    kind: Kind,
+    number: Gen,
+    name: Name,
+    content: Content,
+    kept: Seq<KeptChain>,
+) -> GenRow
+    ensures { result ≡ warming_row kind number name content kept }
+{
+    GenRow {
+        kind,
+        number,
+        name,
+        content,
+        status: RowStatus::Warming,
+        kept,
     }
 }

@@ -2,10 +2,12 @@
 //! Values are kept beside the marks of their names, for all kinds alike:
 //! a content is shared, so there is one place for all.
 
-ghost use Rattle.std.specs.Prelude.{◌≡◌, ◌≢◌, ◌++◌, [], None, Decides, IsSome, OnOk, OnErr};
+ghost use Rattle.std.specs.Prelude.{◌≡◌, if◌then◌else◌, ◌≢◌, ◌++◌, [], None, Decides, IsSome, IfOk, OnOk, OnErr};
 ghost use Rattle.std.specs.Map.{lookup};
 ghost use Rattle.std.specs.Option.{option_copied};
+ghost use Rattle.indexmap.specs.IndexMap.{get};
 ghost use Rattle.ev_lookups.specs.Keys.{key_same, named};
+ghost use Rattle.ev_lookups.specs.declared.kind_keys.Key as declared;
 ghost use Rattle.ev_indexes.specs.Kept.{Sets};
 ghost use Rattle.ev_indexes.specs.Due.{has_number};
 ghost use Rattle.ev_indexes.specs.Watched.{Turns, unwatched, has_watcher, watchers_of, watched_too, watched_less, with_arrival};
@@ -21,7 +23,7 @@ use std::marker::Model;
 
 /// What is known of a name that is watched: the generations that wait for it without a limit,
 /// and those that wait for it at most until the initial fetch timeout; one may stand in both.
-/// How many numbers were allocated when the name was last told of, and when its wait last timed out:
+/// How many numbers were allocated when something was last received for the name, and when its wait last timed out:
 /// that answers the generations up to the last of these numbers, and none that has to be told anew.
 /// And its last value.
 #[derive(Drop)]
@@ -140,9 +142,8 @@ impl Watches {
         requires { lookup (key_same (named kind name.now)) self.old ≡ None }
         ensures { OnOk result (Turns (watched_too number limited) self.old self.new (named kind name.now)) }
     {
-        let mut watch = nothing(alloc);
-        add(&mut watch, number, limited)?;
         let name = name.copy(alloc)?;
+        let watch = first_watch(alloc, number, limited)?;
         let Ok(_) = self.watches.insert(Key { kind, name }, watch) else {
             return Err(AllocError);
         };
@@ -159,7 +160,7 @@ impl Watches {
         };
         leave(watch, number);
         if is_nothing(watch) {
-            self.watches.swap_remove(&key);
+            take_out(&mut self.watches, &key);
         }
     }
 
@@ -185,8 +186,26 @@ impl Watches {
     pub fn forget(&mut self, kind: Kind, name: &Name)
         ensures { Sets unwatched self.old self.new (named kind name.now) unwatched }
     {
-        self.watches.swap_remove(&key(kind, name));
+        take_out(&mut self.watches, &key(kind, name));
     }
+}
+
+// Takes out the entry of a name.
+fn take_out(watches: &mut IndexMap<Key, Watch, Keys>, key: &KeyText<'_>)
+    ensures { (other : declared.Key) → get key_same watches.new other
+        ≡ (if key_same key.now other then None else get key_same watches.old other) }
+{
+    watches.swap_remove(key);
+}
+
+// What is known of a name once a first generation depends on it.
+fn first_watch(alloc: Global, number: Gen, limited: bool) -> Result<Watch, AllocError>
+    ensures watch { IfOk result (λ watch. watch ≡ watched_too number limited unwatched) }
+    ensures some { IfOk result (λ watch. watch ≢ unwatched) }
+{
+    let mut watch = nothing(alloc);
+    add(&mut watch, number, limited)?;
+    Ok(watch)
 }
 
 // Nothing is known.

@@ -8,6 +8,7 @@ use Rattle.ev_types.specs.declared.filter_chains.FilterChainMatch.{FilterChainMa
 use Rattle.ev_types.specs.declared.listeners.FilterChain.{FilterChain}
 use Rattle.ev_types.specs.declared.listeners.Serve.{Serve}
 use Rattle.ev_types.specs.declared.listeners.Serve.TheVariants.{Other as other_serve}
+use Rattle.ev_types.specs.declared.references.Reference.{Reference}
 use Rattle.ev_tree.specs.declared.broken.BrokenRules.{BrokenRules}
 use Rattle.ev_tree.specs.declared.outcome.Found.{Found}
 use Rattle.ev_tree.specs.declared.outcome.Found.TheVariants.{Absent, Wrong, Given}
@@ -135,14 +136,18 @@ api_broken listener = either_broken (config_broken Envoy (api_kind_of listener) 
 unfoldable pub api_serve_of : Data → Serve
 api_serve_of listener = serve_or_other (config_serve Envoy (api_kind_of listener) (api_config_of listener))
 
-abbrev pub api_chain_of : Data → FilterChain
-api_chain_of listener = record {
+-- its one chain, by the manager's configuration, what it serves and the extensions that it asks for
+abbrev pub api_chain : Data → Serve → List Reference → FilterChain
+api_chain config serve extensions = record {
   criteria = no_criteria;
-  serve = api_serve_of listener;
+  serve = serve;
   secrets = [];
-  extensions = (api_extensions listener).list;
-  body_text = plain_text (api_config_of listener);
+  extensions = extensions;
+  body_text = plain_text config;
 }
+
+abbrev pub api_chain_of : Data → FilterChain
+api_chain_of listener = api_chain (api_config_of listener) (api_serve_of listener) (api_extensions listener).list
 
 -- ---- all chains of a listener
 

@@ -1,7 +1,7 @@
-ghost use Rattle.std.specs.Prelude.{◌≡◌, IfOk, map};
+ghost use Rattle.std.specs.Prelude.{◌≡◌, ◌||◌, IfOk, map};
 ghost use Rattle.std.specs.Str.{str_to_ascii_lowercase};
 ghost use Rattle.serde_json.specs.View.{view};
-ghost use Rattle.ev_tree.specs.Forms.{tree_of, text_in};
+ghost use Rattle.ev_tree.specs.Forms.{is_wrong, tree_of, text_in};
 ghost use Rattle.ev_listener_json.specs.ChainMatches.{destination_in, is_no_destination, lower_text_in, filled_text, filter_chain_match_of, filter_chain_match_broken};
 
 use crate::cidr_ranges::inspect_ranges;
@@ -28,24 +28,24 @@ pub fn inspect_filter_chain_match(
     let protocols = member::texts(alloc, tree, "application_protocols")?;
     let below = inspect_ranges(alloc, member::elements(ranges))?;
     let sources = inspect_sources(alloc, tree)?;
-    let server_names = copy_in_lowercase(alloc, member::elements(names))?;
+    let texts = copy_asked_texts(
+        alloc,
+        member::elements(names),
+        member::text_or_empty(transport),
+        member::elements(protocols),
+    )?;
     let own = BrokenRules {
-        v6: port.is_wrong()
-            | is_no_destination(port)
-            | ranges.is_wrong()
-            | names.is_wrong()
-            | transport.is_wrong()
-            | protocols.is_wrong(),
-        v27: has_no_name(server_names.as_slice()),
+        v6: has_wrong_form(port, ranges, names, transport, protocols),
+        v27: has_no_name(texts.server_names.as_slice()),
         ..BrokenRules::none()
     };
     Ok(Inspection {
         value: FilterChainMatch {
             destination_port: destination_in(port),
             prefix_ranges: Seq::from_vec(below.value),
-            server_names: Seq::from_vec(server_names),
-            transport_protocol: filled_text(alloc, member::text_or_empty(transport))?,
-            application_protocols: Seq::from_vec(copy_texts(alloc, member::elements(protocols))?),
+            server_names: Seq::from_vec(texts.server_names),
+            transport_protocol: texts.transport_protocol,
+            application_protocols: Seq::from_vec(texts.application_protocols),
             direct_source_prefix_ranges: sources.value.direct_ranges,
             source_type: sources.value.source_type,
             source_prefix_ranges: sources.value.ranges,
@@ -53,6 +53,54 @@ pub fn inspect_filter_chain_match(
         },
         broken: below.broken.or(sources.broken.or(own)),
     })
+}
+
+// The texts that a match asks for.
+#[derive(Drop)]
+struct AskedTexts {
+    server_names: Vec<Text>,
+    transport_protocol: Option<Text>,
+    application_protocols: Vec<Text>,
+}
+
+// Copies the texts that a match asks for, by its members.
+fn copy_asked_texts(
+    alloc: Global,
+    names: &[Value],
+    transport: &str,
+    protocols: &[Value],
+) -> Result<AskedTexts, AllocError>
+    ensures names { IfOk result (λ texts. texts.server_names.items ≡ map lower_text_in (map view names.now)) }
+    ensures transport { IfOk result (λ texts. texts.transport_protocol ≡ filled_text transport.now) }
+    ensures protocols { IfOk result (λ texts. texts.application_protocols.items ≡ map text_in (map view protocols.now)) }
+{
+    let transport_protocol = filled_text(alloc, transport)?;
+    let server_names = copy_in_lowercase(alloc, names)?;
+    let application_protocols = copy_texts(alloc, protocols)?;
+    Ok(AskedTexts {
+        server_names,
+        transport_protocol,
+        application_protocols,
+    })
+}
+
+// Whether one of the members has a wrong form, or the port is none.
+fn has_wrong_form(
+    port: Found<u32>,
+    ranges: Found<&[Value]>,
+    names: Found<&[Value]>,
+    transport: Found<&str>,
+    protocols: Found<&[Value]>,
+) -> bool
+    ensures { result ≡ (is_wrong port || is_no_destination port || is_wrong ranges.entry || is_wrong names.entry
+        || is_wrong transport.entry || is_wrong protocols.entry) }
+{
+    port.is_wrong()
+        | is_no_destination(port)
+        | ranges.is_wrong()
+        | names.is_wrong()
+        | transport.is_wrong()
+        | protocols.is_wrong()
 }
 
 // The port, where one is given that is one.

@@ -4,7 +4,7 @@ ghost use Rattle.serde_json.specs.View.{view};
 ghost use Rattle.ev_tree.specs.Broken.{any_broken};
 ghost use Rattle.ev_tree.specs.Floats.{plain_text};
 ghost use Rattle.ev_tree.specs.Forms.{found_map, tree_of};
-ghost use Rattle.ev_listener_json.specs.Chains.{no_criteria, plain_chain, served_by, serve_or_other, filters_broken, served_broken, chain_with, envoy_chain_of, envoy_chain_broken, has_api, is_manager, api_chain_of, api_broken, chains_of, default_chain, default_broken, given_default_of, given_chains_broken, envoy_chains_broken, envoy_chains_of, envoy_default_of};
+ghost use Rattle.ev_listener_json.specs.Chains.{no_criteria, plain_chain, served_by, serve_or_other, filters_broken, served_broken, chain_with, envoy_chain_of, envoy_chain_broken, has_api, is_manager, api_chain, api_chain_of, api_broken, chains_of, default_chain, default_broken, given_default_of, given_chains_broken, envoy_chains_broken, envoy_chains_of, envoy_default_of};
 
 use crate::chain_extensions::{find_chain_extensions, find_kind_extensions};
 use crate::chain_matches::inspect_filter_chain_match;
@@ -12,7 +12,7 @@ use crate::collisions::has_collision;
 use crate::filters::{FilterKind, choose_kind, inspect_config, inspect_filters};
 use ev_secret_json::find_transport_secrets;
 use ev_tree::{BrokenRules, Found, Inspection, body_text, member, more_than_one};
-use ev_types::{FilterChain, FilterChainMatch, Profile, Seq, Serve, Shared, Text};
+use ev_types::{FilterChain, FilterChainMatch, Profile, Reference, Seq, Serve, Shared, Text};
 use serde_json::Value;
 use std::alloc::{AllocError, Global};
 
@@ -96,19 +96,33 @@ fn inspect_api(alloc: Global, listener: &Value) -> Result<ChainsFound, AllocErro
         v17: !is_manager(kind),
         ..BrokenRules::none()
     };
+    Ok(ChainsFound {
+        broken: below.broken.or(extensions.broken.or(own)),
+        chains: make_api_chains(alloc, config, serve_or_other(below.value), extensions.list)?,
+        default: None,
+    })
+}
+
+// The one chain of an API listener.
+fn make_api_chains(
+    alloc: Global,
+    config: Option<&Value>,
+    serve: Serve,
+    extensions: Seq<Reference>,
+) -> Result<Vec<FilterChain>, AllocError>
+    ensures { IfOk result (λ chains. chains.items ≡ api_chain (tree_of config.entry) serve extensions ∷ []) }
+{
+    let body_text = part_text(alloc, config)?;
+    let criteria = Shared::new(alloc, no_criteria(alloc))?;
     let mut chains = Vec::new(alloc);
     chains.push(FilterChain {
-        criteria: Shared::new(alloc, no_criteria(alloc))?,
-        serve: serve_or_other(below.value),
+        criteria,
+        serve,
         secrets: Seq::new(alloc),
-        extensions: extensions.list,
-        body_text: part_text(alloc, config)?,
+        extensions,
+        body_text,
     })?;
-    Ok(ChainsFound {
-        chains,
-        default: None,
-        broken: below.broken.or(extensions.broken.or(own)),
-    })
+    Ok(chains)
 }
 
 // The text of a part of a listener that may be missing.
@@ -190,17 +204,19 @@ fn inspect_with(
     ensures value { IfOk result (λ found. found.value ≡ chain_with criteria (view chain.now)) }
     ensures broken { IfOk result (λ found. found.broken ≡ served_broken (view chain.now)) }
 {
+    let criteria = Shared::new(alloc, criteria)?;
+    let body_text = body_text(alloc, Profile::Envoy, chain)?;
     let served = inspect_served(alloc, chain)?;
     let secrets = find_transport_secrets(alloc, Some(chain))?;
     let extensions = find_chain_extensions(alloc, chain)?;
     Ok(Inspection {
         broken: served.broken.or(secrets.broken.or(extensions.broken)),
         value: FilterChain {
-            criteria: Shared::new(alloc, criteria)?,
+            criteria,
             serve: served.value,
             secrets: secrets.list,
             extensions: extensions.list,
-            body_text: body_text(alloc, Profile::Envoy, chain)?,
+            body_text,
         },
     })
 }

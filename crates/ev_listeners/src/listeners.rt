@@ -154,13 +154,27 @@ impl Listeners {
     pub fn without(self, alloc: Global, number: Gen) -> Result<Listeners, AllocError>
         ensures { IfOk result (λ listeners. listeners ≡ without_number (λ (l : ServedListener). l.number) number self) }
     {
-        let Some(listener) = self.rows.numbered(number) else {
-            return Ok(self);
+        let listener = match self.rows.numbered(number) {
+            Some(listener) => listener.share()?,
+            None => return Ok(self),
         };
-        let listener = listener.share()?;
+        self.without_listener(alloc, number, &listener)
+    }
+
+    // The listeners without that of this number, which is this one.
+    fn without_listener(
+        self,
+        alloc: Global,
+        number: Gen,
+        listener: &Shared<RoutedListener>,
+    ) -> Result<Listeners, AllocError>
+        requires order { IsInOrder (λ (l : ServedListener). l.number) (λ (l : ServedListener). l.name) self }
+        requires row { Some listener.now ≡ numbered (λ (l : ServedListener). l.number) self number }
+        ensures { IfOk result (λ listeners. listeners ≡ without_number (λ (l : ServedListener). l.number) number self) }
+    {
         let mut groups = self.groups;
         let mut origins = self.origins;
-        leave(alloc, &mut groups, &mut origins, &listener)?;
+        leave(alloc, &mut groups, &mut origins, listener)?;
         let rows = self.rows.without(number)?;
         Ok(Listeners {
             rows,

@@ -6,7 +6,7 @@ ghost use Rattle.ev_managers.specs.Moved.{TellsPromoted};
 
 use ev_indexes::{Steps, put_all};
 use ev_types::{Gen, Seq};
-use ev_warming::Manager;
+use ev_warming::{Manager, Promoted};
 use std::alloc::{AllocError, Global};
 use std::sync::ledger::Ledger;
 
@@ -39,6 +39,18 @@ impl Moved {
         put_all(&mut changed, retired.as_slice())?;
         Ok(Moved { retired, changed })
     }
+
+    // Also those that came to serve, which changed, and those that served before, which retired and changed.
+    fn put(&mut self, promoted: &Promoted) -> Result<(), AllocError>
+        ensures retired { OnOk result (self.new.retired ≡ self.old.retired ++ promoted.now.drained) }
+        ensures changed { OnOk result (self.new.changed
+            ≡ (self.old.changed ++ promoted.now.served) ++ promoted.now.drained) }
+    {
+        put_all(&mut self.retired, promoted.drained.as_slice())?;
+        put_all(&mut self.changed, promoted.served.as_slice())?;
+        put_all(&mut self.changed, promoted.drained.as_slice())?;
+        Ok(())
+    }
 }
 
 /// Each generation of a manager that is due serves, and the one that served its name before it drains; both are
@@ -56,8 +68,6 @@ pub(crate) fn promote<L: Ledger>(
     ensures stands { OnOk result (Follows manager.old.state manager.new.state promoted) }
 {
     let promoted = manager.promote(alloc, steps)?;
-    put_all(&mut moved.retired, promoted.drained.as_slice())?;
-    put_all(&mut moved.changed, promoted.served.as_slice())?;
-    put_all(&mut moved.changed, promoted.drained.as_slice())?;
+    moved.put(&promoted)?;
     Ok(())
 }

@@ -1,5 +1,6 @@
 ghost use Rattle.std.specs.Prelude.{◌≡◌, ◌++◌, false, true, IfOk, OnOk, option_to_list};
 ghost use Rattle.ev_types.specs.Kinds.{is_by_name};
+ghost use Rattle.ev_types.specs.declared.rows.Arrival.TheVariants.{Ended};
 ghost use Rattle.ev_model.specs.Signals.{with_end};
 ghost use Rattle.ev_warming.specs.Arrivals.{with_arrived};
 ghost use Rattle.ev_managers.specs.Managers.{AreManagersKept, HaveSameRows, is_watched_in, last_value, Follow, FollowEnd};
@@ -94,8 +95,26 @@ impl Managers {
         let Some(value) = last_value(alloc, kind)? else {
             return Ok(());
         };
-        self.arrive(alloc, kind, name, &Arrival::Ended(value), steps)?;
+        self.arrive_last(alloc, kind, name, value, steps)?;
         Ok(())
+    }
+
+    // A watched name has come to its end with this value.
+    fn arrive_last<L: Ledger>(
+        &mut self,
+        alloc: Global,
+        kind: Kind,
+        name: &Name,
+        value: Content,
+        steps: &mut Steps<L>,
+    ) -> Result<(), AllocError>
+        requires kept { AreManagersKept self.old }
+        requires watched { is_watched_in self.old kind name.now ≡ true }
+        ensures kept { OnOk result (AreManagersKept self.new) }
+        ensures rows { OnOk result (HaveSameRows self.old self.new) }
+        ensures stands { OnOk result (Follow self.old self.new (with_arrived kind (Ended value) name.now)) }
+    {
+        self.arrive(alloc, kind, name, &Arrival::Ended(value), steps)
     }
 }
 

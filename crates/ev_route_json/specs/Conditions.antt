@@ -31,6 +31,7 @@ use Rattle.ev_tree.specs.Broken.{none_broken, either_broken, any_broken, broken_
 use Rattle.ev_tree.specs.Counts.{exactly_one, more_than_one}
 use Rattle.ev_route_json.specs.declared.header_matchers.MatcherKind.{MatcherKind}
 use Rattle.ev_route_json.specs.declared.header_matchers.MatcherKind.TheVariants.{OfHeader, OfQuery}
+use Rattle.ev_route_json.specs.declared.string_matchers.Patterns.{Patterns}
 use Rattle.ev_route_json.specs.Targets.{is_empty_text}
 use Rattle.ev_route_json.specs.Matches.{path_of, match_broken, is_false, separated_is_bad}
 
@@ -132,6 +133,28 @@ unfoldable pub test_parts_broken : Data → BrokenRules
 test_parts_broken header =
     either_broken (broken_where (is_given (object_of (codes "string_match") header)) (string_matcher_broken (string_match_of header)))
     (range_broken (range_match_of header))
+
+-- What the tests of a header break themselves, by what was found of each. V21: more than one test, or an empty pattern
+-- but `exact_match`.
+abbrev pub tests_broken : {A B E : Type 0} → Patterns → Found Bool → Found A → Found B → Found E → BrokenRules
+tests_broken patterns present string regex range = record none_broken {
+  v6 =
+      is_wrong patterns.exact
+      || is_wrong patterns.prefix
+      || is_wrong patterns.suffix
+      || is_wrong patterns.contains
+      || is_wrong present
+      || is_wrong string
+      || is_wrong regex
+      || is_wrong range;
+  v21 =
+      more_than_one (
+      is_given patterns.exact ∷ is_given patterns.prefix ∷ is_given patterns.suffix ∷ is_given patterns.contains ∷ is_given present ∷ is_given string
+      ∷ is_given regex ∷ is_given range ∷ [])
+      || is_empty_text (found_map deref patterns.prefix)
+      || is_empty_text (found_map deref patterns.suffix)
+      || is_empty_text (found_map deref patterns.contains);
+}
 
 -- What the tests of a header break: what their parts break, and what they break themselves. V21: more than one test, or
 -- an empty pattern but `exact_match`.

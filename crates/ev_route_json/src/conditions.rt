@@ -3,6 +3,7 @@ ghost use Rattle.serde_json.specs.View.{view};
 ghost use Rattle.ev_tree.specs.Forms.{tree_of, found_map};
 ghost use Rattle.ev_tree.specs.Broken.{any_broken};
 ghost use Rattle.ev_route_json.specs.Conditions.{condition_of, condition_broken, has_elements, is_open, open_wrong, with_condition, conditions_with, conditions_of, conditions_broken, specifier_with, path_specifier_of, path_specifier_broken, route_match_of, route_match_broken, own_match_of, match_in, match_broken_in};
+ghost use Rattle.ev_types.specs.declared.matchers.RouteCondition.TheVariants.{Grpc};
 ghost use Rattle.ev_route_json.specs.Matches.{match_broken};
 
 use crate::header_matchers::MatcherKind;
@@ -50,19 +51,17 @@ fn has_elements(found: Found<&[Value]>) -> bool
     !member::elements(found).is_empty()
 }
 
-// These conditions, and after them the one where it is given.
-fn with_condition(
+// These conditions, and after them that it is a gRPC request, where that is asked.
+fn with_grpc(
     conditions: Vec<RouteCondition>,
     asked: bool,
-    condition: RouteCondition,
 ) -> Result<Vec<RouteCondition>, AllocError>
-    ensures { IfOk result (λ made. made.items ≡ with_condition conditions.items asked condition) }
+    ensures { IfOk result (λ made. made.items ≡ with_condition conditions.items asked Grpc) }
 {
-    if !asked {
-        return Ok(conditions);
-    }
     let mut more = conditions;
-    more.push(condition)?;
+    if asked {
+        more.push(RouteCondition::Grpc)?;
+    }
     Ok(more)
 }
 
@@ -74,8 +73,11 @@ fn conditions_with(
 ) -> Result<Vec<RouteCondition>, AllocError>
     ensures { IfOk result (λ made. made.items ≡ conditions_with matched.items grpc undecided) }
 {
-    let decided = with_condition(matched, grpc, RouteCondition::Grpc)?;
-    with_condition(decided, undecided, RouteCondition::Open)
+    let mut all = with_grpc(matched, grpc)?;
+    if undecided {
+        all.push(RouteCondition::Open)?;
+    }
+    Ok(all)
 }
 
 // Inspects what a match asks beside the path.
@@ -158,13 +160,16 @@ fn inspect_path_specifier(
     let connect = member::object(alloc, tree, "connect_matcher")?;
     let policy = member::object(alloc, tree, "path_match_policy")?;
     let sensitive = member::boolean(alloc, tree, "case_sensitive")?;
+    let by_regex = regex.is_given();
+    let connects = connect.is_given();
+    let by_policy = policy.is_given();
     let kinds = [
         prefix.is_given(),
         path.is_given(),
         separated.is_given(),
-        regex.is_given(),
-        connect.is_given(),
-        policy.is_given(),
+        by_regex,
+        connects,
+        by_policy,
     ];
     let broken = BrokenRules {
         v6: prefix.is_wrong()
@@ -177,10 +182,9 @@ fn inspect_path_specifier(
         v21: !exactly_one(&kinds) | separated_is_bad(separated),
         ..BrokenRules::none()
     };
-    let undecided = regex.is_given() | policy.is_given();
     let made = make_path(alloc, prefix, path, separated)?;
     Ok(Inspection {
-        value: specifier_with(connect.is_given(), undecided, is_false(sensitive), made),
+        value: specifier_with(connects, by_regex | by_policy, is_false(sensitive), made),
         broken,
     })
 }

@@ -1,15 +1,16 @@
-ghost use Rattle.std.specs.Prelude.{◌≡◌, IfOk};
+ghost use Rattle.std.specs.Prelude.{◌≡◌, false, None, IfOk};
 ghost use Rattle.std.specs.Str.{str_to_ascii_lowercase};
 ghost use Rattle.serde_json.specs.View.{view};
 ghost use Rattle.ev_tree.specs.Forms.{tree_of};
-ghost use Rattle.ev_route_json.specs.Conditions.{text_test, header_test_with, header_test_of, header_test_broken, range_of, range_broken, turned_over, header_matcher_of, header_matcher_broken};
+ghost use Rattle.ev_types.specs.declared.matchers.HeaderTest.TheVariants.{Range};
+ghost use Rattle.ev_route_json.specs.Conditions.{text_test, header_test_with, tests_broken, header_test_of, header_test_broken, range_of, range_broken, turned_over, header_matcher_of, header_matcher_broken};
 
 use crate::matches::is_false;
 use crate::parts::Inspect;
 use crate::query_matchers::inspect_query_matcher;
-use crate::string_matchers::{inspect_string_matcher, make_pattern};
+use crate::string_matchers::{Patterns, find_patterns, inspect_string_matcher, make_pattern};
 use crate::targets::is_empty_text;
-use ev_tree::{BrokenRules, Inspection, member, more_than_one};
+use ev_tree::{BrokenRules, Found, Inspection, member, more_than_one};
 use ev_types::{HeaderMatcher, HeaderTest, RouteCondition, StringMatcher, StringPattern, Text};
 use serde_json::Value;
 use std::alloc::{AllocError, Global};
@@ -60,27 +61,50 @@ fn header_test_with(
     by_string: bool,
     matcher: Option<StringMatcher>,
     by_range: bool,
-    range: HeaderTest,
+    range: Numbers,
     by_regex: bool,
 ) -> HeaderTest
-    ensures { result ≡ header_test_with pattern by_string matcher by_range range by_regex }
+    ensures { result ≡ header_test_with pattern by_string matcher by_range (Range range.start range.end) by_regex }
 {
     match pattern {
         Some(pattern) => HeaderTest::Text(StringMatcher {
             pattern,
             ignore_case: false,
         }),
-        None => {
-            if by_string {
-                text_test(matcher)
-            } else if by_range {
-                range
-            } else if by_regex {
-                HeaderTest::Open
-            } else {
-                HeaderTest::Present
-            }
+        None => patternless_test(by_string, matcher, by_range, range, by_regex),
+    }
+}
+
+// The same where no pattern is given.
+fn patternless_test(
+    by_string: bool,
+    matcher: Option<StringMatcher>,
+    by_range: bool,
+    range: Numbers,
+    by_regex: bool,
+) -> HeaderTest
+    ensures { result ≡ header_test_with None by_string matcher by_range (Range range.start range.end) by_regex }
+{
+    if by_string {
+        text_test(matcher)
+    } else {
+        textless_test(by_range, range, by_regex)
+    }
+}
+
+// The same where no string matcher is given either.
+fn textless_test(by_range: bool, range: Numbers, by_regex: bool) -> HeaderTest
+    ensures { result ≡ header_test_with None false None by_range (Range range.start range.end) by_regex }
+{
+    if by_range {
+        HeaderTest::Range {
+            start: range.start,
+            end: range.end,
         }
+    } else if by_regex {
+        HeaderTest::Open
+    } else {
+        HeaderTest::Present
     }
 }
 
@@ -94,18 +118,25 @@ fn text_test(matcher: Option<StringMatcher>) -> HeaderTest
     }
 }
 
+// A range of numbers: from its start, up to and without its end.
+#[derive(Clone, Copy)]
+struct Numbers {
+    start: i64,
+    end: i64,
+    // The rules that it breaks.
+    broken: BrokenRules,
+}
+
 // Inspects a range of numbers, which may be missing.
-fn inspect_range(alloc: Global, tree: Option<&Value>) -> Result<Inspection<HeaderTest>, AllocError>
-    ensures value { IfOk result (λ found. found.value ≡ range_of (tree_of tree.entry)) }
+fn inspect_range(alloc: Global, tree: Option<&Value>) -> Result<Numbers, AllocError>
+    ensures value { IfOk result (λ found. Range found.start found.end ≡ range_of (tree_of tree.entry)) }
     ensures broken { IfOk result (λ found. found.broken ≡ range_broken (tree_of tree.entry)) }
 {
     let start = member::number64(alloc, tree, "start")?;
     let end = member::number64(alloc, tree, "end")?;
-    Ok(Inspection {
-        value: HeaderTest::Range {
-            start: start.given_or(0),
-            end: end.given_or(0),
-        },
+    Ok(Numbers {
+        start: start.given_or(0),
+        end: end.given_or(0),
         broken: BrokenRules {
             v6: start.is_wrong() | end.is_wrong(),
             ..BrokenRules::none()
@@ -129,56 +160,75 @@ fn lower(alloc: Global, text: &str) -> Result<Text, AllocError>
     Text::new(alloc, lower.as_str())
 }
 
-// Inspects what is asked of a header's value.
-fn inspect_header_test(alloc: Global, header: &Value) -> Result<Inspection<HeaderTest>, AllocError>
-    ensures value { IfOk result (λ found. found.value ≡ header_test_of (view header.now)) }
-    ensures broken { IfOk result (λ found. found.broken ≡ header_test_broken (view header.now)) }
+// The rules that the tests of a header break themselves, by what is found of each.
+fn judge_tests(
+    patterns: Patterns<'_>,
+    present: Found<bool>,
+    string: Found<&Value>,
+    regex: Found<&Value>,
+    range: Found<&Value>,
+) -> BrokenRules
+    ensures { result ≡ tests_broken patterns.entry present string.entry regex.entry range.entry }
 {
-    let exact = member::text(alloc, Some(header), "exact_match")?;
-    let prefix = member::text(alloc, Some(header), "prefix_match")?;
-    let suffix = member::text(alloc, Some(header), "suffix_match")?;
-    let contains = member::text(alloc, Some(header), "contains_match")?;
-    let present = member::boolean(alloc, Some(header), "present_match")?;
-    let string = member::object(alloc, Some(header), "string_match")?;
-    let regex = member::object(alloc, Some(header), "safe_regex_match")?;
-    let range = member::object(alloc, Some(header), "range_match")?;
-    let matcher = inspect_string_matcher(alloc, member::inner(string))?;
-    let numbers = inspect_range(alloc, member::inner(range))?;
     let tests = [
-        exact.is_given(),
-        prefix.is_given(),
-        suffix.is_given(),
-        contains.is_given(),
+        patterns.exact.is_given(),
+        patterns.prefix.is_given(),
+        patterns.suffix.is_given(),
+        patterns.contains.is_given(),
         present.is_given(),
         string.is_given(),
         regex.is_given(),
         range.is_given(),
     ];
-    let own = BrokenRules {
-        v6: exact.is_wrong()
-            | prefix.is_wrong()
-            | suffix.is_wrong()
-            | contains.is_wrong()
+    BrokenRules {
+        v6: patterns.exact.is_wrong()
+            | patterns.prefix.is_wrong()
+            | patterns.suffix.is_wrong()
+            | patterns.contains.is_wrong()
             | present.is_wrong()
             | string.is_wrong()
             | regex.is_wrong()
             | range.is_wrong(),
         v21: more_than_one(&tests)
-            | is_empty_text(prefix)
-            | is_empty_text(suffix)
-            | is_empty_text(contains),
+            | is_empty_text(patterns.prefix)
+            | is_empty_text(patterns.suffix)
+            | is_empty_text(patterns.contains),
         ..BrokenRules::none()
-    };
-    let pattern = make_pattern(alloc, exact, prefix, suffix, contains)?;
-    let parts = matcher.broken.only_if(string.is_given()).or(numbers.broken);
+    }
+}
+
+// Inspects what is asked of a header's value.
+fn inspect_header_test(alloc: Global, header: &Value) -> Result<Inspection<HeaderTest>, AllocError>
+    ensures value { IfOk result (λ found. found.value ≡ header_test_of (view header.now)) }
+    ensures broken { IfOk result (λ found. found.broken ≡ header_test_broken (view header.now)) }
+{
+    let object = Some(header);
+    let patterns = find_patterns(
+        alloc,
+        object,
+        "exact_match",
+        "prefix_match",
+        "suffix_match",
+        "contains_match",
+    )?;
+    let present = member::boolean(alloc, object, "present_match")?;
+    let string = member::object(alloc, object, "string_match")?;
+    let regex = member::object(alloc, object, "safe_regex_match")?;
+    let range = member::object(alloc, object, "range_match")?;
+    let matcher = inspect_string_matcher(alloc, member::inner(string))?;
+    let numbers = inspect_range(alloc, member::inner(range))?;
+    let pattern = make_pattern(alloc, patterns)?;
+    let by_string = string.is_given();
+    let parts = matcher.broken.only_if(by_string).or(numbers.broken);
+    let own = judge_tests(patterns, present, string, regex, range);
     Ok(Inspection {
         broken: parts.or(own),
         value: header_test_with(
             pattern,
-            string.is_given(),
+            by_string,
             matcher.value,
             range.is_given(),
-            numbers.value,
+            numbers,
             regex.is_given(),
         ),
     })
@@ -196,8 +246,9 @@ fn inspect_header_matcher(
     let present = member::boolean(alloc, Some(header), "present_match")?;
     let invert = member::boolean(alloc, Some(header), "invert_match")?;
     let as_empty = member::boolean(alloc, Some(header), "treat_missing_header_as_empty")?;
-    let test = inspect_header_test(alloc, header)?;
     let text = member::text_or_empty(name);
+    let lowered = lower(alloc, text)?;
+    let test = inspect_header_test(alloc, header)?;
     let own = BrokenRules {
         v6: name.is_wrong() | invert.is_wrong() | as_empty.is_wrong(),
         v21: text.is_empty(),
@@ -206,7 +257,7 @@ fn inspect_header_matcher(
     Ok(Inspection {
         broken: test.broken.or(own),
         value: HeaderMatcher {
-            name: lower(alloc, text)?,
+            name: lowered,
             test: test.value,
             invert_match: turned_over(is_false(present), invert.given_or(false)),
             treat_missing_header_as_empty: as_empty.given_or(false),

@@ -40,8 +40,9 @@ pub(crate) fn inspect_query_matcher(
     let name = member::text(alloc, Some(parameter), "name")?;
     let string = member::object(alloc, Some(parameter), "string_match")?;
     let present = member::boolean(alloc, Some(parameter), "present_match")?;
-    let matcher = inspect_string_matcher(alloc, member::inner(string))?;
     let text = member::text_or_empty(name);
+    let copied = Text::new(alloc, text)?;
+    let matcher = inspect_string_matcher(alloc, member::inner(string))?;
     let own = BrokenRules {
         v6: name.is_wrong() | string.is_wrong() | present.is_wrong(),
         v21: text.is_empty() | more_than_one(&[string.is_given(), present.is_given()]),
@@ -50,7 +51,7 @@ pub(crate) fn inspect_query_matcher(
     Ok(Inspection {
         broken: matcher.broken.only_if(string.is_given()).or(own),
         value: QueryParameterMatcher {
-            name: Text::new(alloc, text)?,
+            name: copied,
             test: query_test_with(string.is_given(), matcher.value, present.given_or(true)),
         },
     })

@@ -63,11 +63,11 @@ fn inspect_action(
             | filter.is_wrong()
             | stay.is_wrong()
             | given_status.is_wrong(),
-        v22: given.are_bad(profile) | (direct.is_given() & !is_status(status)),
+        v22: given.are_bad(profile) | (given.direct & !is_status(status)),
         ..BrokenRules::none()
     };
     Ok(Inspection {
-        broken: target.broken.only_if(forward.is_given()).or(own),
+        broken: target.broken.only_if(given.forward).or(own),
         value: make_action(given, target.value, status),
     })
 }

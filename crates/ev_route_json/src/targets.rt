@@ -206,13 +206,16 @@ fn inspect_envoy_target(
     let elements = member::elements(entries);
     let clusters = inspect_all::<Profile, WeightedCluster>(alloc, Profile::Envoy, elements)?;
     let by_header = is_any_by_header(alloc, elements)?;
-    let other = header.is_given() | plugin.is_given() | inline.is_given();
+    let weights_given = weighted.is_given();
+    let header_given = header.is_given();
+    let plugin_given = plugin.is_given();
+    let inline_given = inline.is_given();
     let given = [
         cluster.is_given(),
-        weighted.is_given(),
-        header.is_given(),
-        plugin.is_given(),
-        inline.is_given(),
+        weights_given,
+        header_given,
+        plugin_given,
+        inline_given,
     ];
     let own = BrokenRules {
         v6: cluster.is_wrong()
@@ -223,12 +226,15 @@ fn inspect_envoy_target(
             | inline.is_wrong(),
         v22: !exactly_one(&given),
         v23: is_empty_text(cluster),
-        v24: weighted.is_given() & !has_weight(clusters.value.as_slice()),
+        v24: weights_given & !has_weight(clusters.value.as_slice()),
         ..BrokenRules::none()
     };
     let target = make_target(alloc, clusters.value, member::text_or_empty(cluster))?;
     Ok(Inspection {
-        value: envoy_target_with(other | by_header, target),
+        value: envoy_target_with(
+            header_given | plugin_given | inline_given | by_header,
+            target,
+        ),
         broken: clusters.broken.or(own),
     })
 }

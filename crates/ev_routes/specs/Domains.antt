@@ -45,6 +45,10 @@ has_length n there = slice_index_or there n false
 abbrev pub KeepsLengths : List Bool → List Bool → Type 0
 KeepsLengths before after = (n : ℕ) → has_length n before ≡ true → has_length n after ≡ true
 
+-- the lengths of before are there, and of a text that has the form how many bytes are beside its star
+abbrev pub GainsLength : (List ℕ → Bool) → List ℕ → List Bool → List Bool → Type 0
+GainsLength is_form text before after = KeepsLengths before after × (is_form text ≡ true → has_length (length text - 1) after ≡ true)
+
 -- the first domain that passes the test, with this many bytes beside its star
 abbrev pub find_beside : ℕ → (HostDomain → Bool) → List HostDomain → Option HostDomain
 find_beside n fits domains = find (λ (d : HostDomain). (length d.domain == n + 1) && fits d) domains

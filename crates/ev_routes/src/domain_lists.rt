@@ -1,4 +1,4 @@
-ghost use Rattle.std.specs.Prelude.{◌≡◌, ◌<◌, [], ◌∷◌, ◌++◌, IfOk, length};
+ghost use Rattle.std.specs.Prelude.{◌≡◌, ◌<◌, [], ◌∷◌, ◌++◌, IfOk, length, map};
 ghost use Rattle.std.specs.Str.{str_to_ascii_lowercase};
 ghost use Rattle.ev_model.specs.Choice.{domains_of};
 ghost use Rattle.ev_routes.specs.Domains.{domains_in, host_at, lower_domain};
@@ -47,10 +47,34 @@ fn with_host(
     requires { place < length table.now.hosts }
     ensures { IfOk result (λ new. new ≡ domains ++ domains_of (record { hosts = host_at table.now.hosts place ∷ [] })) }
 {
+    let host = shared_host(alloc, keys, table, place)?;
+    with_domains(alloc, domains, &host)
+}
+
+// The virtual host at this place, for each of its domains to share.
+fn shared_host(
+    alloc: Global,
+    keys: Keys,
+    table: &Shared<RouteTable>,
+    place: usize,
+) -> Result<Shared<RoutedHost>, AllocError>
+    requires { place < length table.now.hosts }
+    ensures { IfOk result (λ host. host ≡ host_at table.now.hosts place) }
+{
+    Shared::new(alloc, RoutedHost::new(alloc, keys, table, place)?)
+}
+
+// The domains with those of this virtual host.
+fn with_domains(
+    alloc: Global,
+    domains: Domains,
+    host: &Shared<RoutedHost>,
+) -> Result<Domains, AllocError>
+    ensures { IfOk result (λ new. new ≡ domains ++ map (λ text. lower_domain text host.now) host.now.domains) }
+{
     let mut domains = domains;
-    let host = Shared::new(alloc, RoutedHost::new(alloc, keys, table, place)?)?;
     for domain in host.get().host().domains.as_slice() {
-        domains = domains.with(lower_domain(alloc, domain, &host)?)?;
+        domains = domains.with(lower_domain(alloc, domain, host)?)?;
     }
     Ok(domains)
 }

@@ -3,8 +3,8 @@ ghost use Rattle.std.specs.Option.{option_copied};
 ghost use Rattle.std.specs.Str.{bytes_eq, str_to_ascii_lowercase};
 ghost use Rattle.indexmap.specs.IndexMap.{get};
 ghost use Rattle.ev_model.specs.Paths.{begins_with};
-ghost use Rattle.ev_model.specs.Choice.{by_prefix, by_suffix, domain_for, has_prefix, has_suffix};
-ghost use Rattle.ev_routes.specs.Domains.{GainsText, KeepsLengths, find_beside, has_length, pattern_for};
+ghost use Rattle.ev_model.specs.Choice.{by_prefix, by_suffix, domain_for, has_prefix, has_suffix, is_prefix_form, is_suffix_form};
+ghost use Rattle.ev_routes.specs.Domains.{GainsLength, GainsText, KeepsLengths, find_beside, has_length, pattern_for};
 
 use crate::domains::{Domain, is_prefix_form, is_suffix_form};
 use crate::host_texts::{DomainText, HostText};
@@ -64,10 +64,7 @@ impl Domains {
         let mut by_text = self.by_text;
         let mut suffixes = self.suffixes;
         let mut prefixes = self.prefixes;
-        enter_text(&mut by_text, &domain)?;
-        let text = domain.text();
-        enter_form(&mut suffixes, is_suffix_form(text), text.len())?;
-        enter_form(&mut prefixes, is_prefix_form(text), text.len())?;
+        enter_domain(&mut by_text, &mut suffixes, &mut prefixes, &domain)?;
         list.push(domain)?;
         Ok(Domains {
             list,
@@ -158,6 +155,24 @@ impl Domains {
         let (head, _) = host.split_at(beside);
         self.by_text.get(&PrefixText::new(head))
     }
+}
+
+// Enters a domain into the tables beside the list.
+fn enter_domain(
+    by_text: &mut IndexMap<DomainText, Domain, Keys>,
+    suffixes: &mut Lengths,
+    prefixes: &mut Lengths,
+    domain: &Domain,
+) -> Result<(), AllocError>
+    ensures text { OnOk result (GainsText domain.now (get bytes_eq by_text.old) (get bytes_eq by_text.new)) }
+    ensures suffixes { OnOk result (GainsLength is_suffix_form domain.now.domain suffixes.old suffixes.new) }
+    ensures prefixes { OnOk result (GainsLength is_prefix_form domain.now.domain prefixes.old prefixes.new) }
+{
+    enter_text(by_text, domain)?;
+    let text = domain.text();
+    enter_form(suffixes, is_suffix_form(text), text.len())?;
+    enter_form(prefixes, is_prefix_form(text), text.len())?;
+    Ok(())
 }
 
 // Enters how many bytes a domain has beside its star, where it is of the form.

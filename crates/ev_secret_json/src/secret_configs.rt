@@ -42,8 +42,7 @@ pub(crate) fn find_secret_in(
 {
     let config = member::object(alloc, object, name)?;
     let below = find_config_secret(alloc, member::inner(config))?;
-    let both = join_references(below, wrong_form(alloc, config.is_wrong()))?;
-    Ok(both)
+    join_references(below, wrong_form(alloc, config.is_wrong()))
 }
 
 /// The secrets that the elements of a member configure, in order.
@@ -56,8 +55,7 @@ pub(crate) fn find_secrets_in(
 {
     let configs = member::objects(alloc, object, name)?;
     let below = find_each(alloc, member::elements(configs))?;
-    let both = join_references(below, wrong_form(alloc, configs.is_wrong()))?;
-    Ok(both)
+    join_references(below, wrong_form(alloc, configs.is_wrong()))
 }
 
 // The secrets that these configurations ask for, in order.

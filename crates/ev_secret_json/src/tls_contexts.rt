@@ -20,8 +20,7 @@ fn find_common_secrets(alloc: Global, context: Option<&Value>) -> Result<Referen
     let in_combined = find_secret_in(alloc, inner, "validation_context_sds_secret_config")?;
     let last = join_references(in_combined, wrong_form(alloc, combined.is_wrong()))?;
     let behind = join_references(validation, last)?;
-    let all = join_references(certificates, behind)?;
-    Ok(all)
+    join_references(certificates, behind)
 }
 
 /// The secrets of an upstream TLS context: those of its common context.
@@ -33,8 +32,7 @@ pub(crate) fn find_upstream_secrets(
 {
     let common = member::object(alloc, context, "common_tls_context")?;
     let below = find_common_secrets(alloc, member::inner(common))?;
-    let both = join_references(below, wrong_form(alloc, common.is_wrong()))?;
-    Ok(both)
+    join_references(below, wrong_form(alloc, common.is_wrong()))
 }
 
 /// The secrets of a downstream TLS context: those of its common context, then the keys of its session tickets.
@@ -46,6 +44,5 @@ pub(crate) fn find_downstream_secrets(
 {
     let common = find_upstream_secrets(alloc, context)?;
     let keys = find_secret_in(alloc, context, "session_ticket_keys_sds_secret_config")?;
-    let both = join_references(common, keys)?;
-    Ok(both)
+    join_references(common, keys)
 }

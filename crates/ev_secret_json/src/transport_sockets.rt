@@ -62,8 +62,7 @@ fn find_quic_upstream(alloc: Global, config: Option<&Value>) -> Result<Reference
 {
     let context = member::object(alloc, config, "upstream_tls_context")?;
     let below = find_upstream_secrets(alloc, member::inner(context))?;
-    let both = join_references(below, wrong_form(alloc, context.is_wrong()))?;
-    Ok(both)
+    join_references(below, wrong_form(alloc, context.is_wrong()))
 }
 
 // The secrets of a QUIC transport with a listener's peers.
@@ -72,8 +71,7 @@ fn find_quic_downstream(alloc: Global, config: Option<&Value>) -> Result<Referen
 {
     let context = member::object(alloc, config, "downstream_tls_context")?;
     let below = find_downstream_secrets(alloc, member::inner(context))?;
-    let both = join_references(below, wrong_form(alloc, context.is_wrong()))?;
-    Ok(both)
+    join_references(below, wrong_form(alloc, context.is_wrong()))
 }
 
 // The secrets of a transport socket of this kind and configuration, not of one that it holds.
@@ -101,11 +99,10 @@ fn find_plain_secrets(alloc: Global, socket: Option<&Value>) -> Result<Reference
     let inner = member::inner(config);
     let name = member::text(alloc, inner, "@type")?;
     let below = find_config_secrets(alloc, choose_socket(name), inner)?;
-    let both = join_references(
+    join_references(
         below,
         wrong_form(alloc, config.is_wrong() | name.is_wrong()),
-    )?;
-    Ok(both)
+    )
 }
 
 // The secrets of the transport socket that another one holds, by its configuration.
@@ -114,8 +111,7 @@ fn find_held_secrets(alloc: Global, config: Option<&Value>) -> Result<References
 {
     let socket = member::object(alloc, config, "transport_socket")?;
     let below = find_plain_secrets(alloc, member::inner(socket))?;
-    let both = join_references(below, wrong_form(alloc, socket.is_wrong()))?;
-    Ok(both)
+    join_references(below, wrong_form(alloc, socket.is_wrong()))
 }
 
 // The secrets of the transport socket that one of this kind holds: TLS and QUIC hold none.
@@ -144,8 +140,7 @@ fn find_socket_secrets(alloc: Global, socket: Option<&Value>) -> Result<Referenc
     let inner = member::inner(config);
     let name = member::text(alloc, inner, "@type")?;
     let held = find_held_by(alloc, choose_socket(name), inner)?;
-    let both = join_references(own, held)?;
-    Ok(both)
+    join_references(own, held)
 }
 
 /// The secrets of an object's transport socket: of a cluster, of one of its matches, or of a filter chain.
@@ -157,6 +152,5 @@ pub fn find_transport_secrets(
 {
     let socket = member::object(alloc, object, "transport_socket")?;
     let below = find_socket_secrets(alloc, member::inner(socket))?;
-    let both = join_references(below, wrong_form(alloc, socket.is_wrong()))?;
-    Ok(both)
+    join_references(below, wrong_form(alloc, socket.is_wrong()))
 }

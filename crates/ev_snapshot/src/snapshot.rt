@@ -78,13 +78,26 @@ impl Snapshot {
         ensures picture { IfOk result (λ next. next ≡ picture_after changes.now self.now) }
         ensures ordered { IsOrdered self.now.shown }
     {
-        let mut parts = parts_with(alloc, &self.parts.clusters, &self.parts.listeners, changes)?;
+        let parts = parts_with(alloc, &self.parts.clusters, &self.parts.listeners, changes)?;
         if keep_all(&self.parts.clusters, &self.parts.listeners, &parts, changes) {
             return Ok(None);
         }
         let version = version_after(self.version)?;
+        let next = Snapshot::with_parts(alloc, version, parts)?;
+        Ok(Some(next))
+    }
+
+    // The snapshot of this version that shows these clusters and listeners.
+    fn with_parts(alloc: Global, version: u64, parts: Parts) -> Result<Snapshot, AllocError>
+        requires { IsOrdered (record { clusters = parts.clusters; listeners = parts.listeners }) }
+        ensures { IfOk result (λ next. next ≡ record {
+          version = version;
+          shown = record { clusters = parts.clusters; listeners = parts.listeners };
+        }) }
+    {
+        let mut parts = parts;
         parts.settle(alloc)?;
-        Ok(Some(Snapshot { version, parts }))
+        Ok(Snapshot { version, parts })
     }
 
     /// The version of the picture.

@@ -6,7 +6,7 @@ ghost use Rattle.ev_model.specs.Live.{lives_of};
 ghost use Rattle.ev_model.specs.Verdicts.{verdicts_of};
 ghost use Rattle.ev_model.specs.Rows.{with_removals, add_items, made_names, with_first};
 ghost use Rattle.ev_model.specs.Requests.{Watched, requests_by, reply_of};
-ghost use Rattle.ev_model.specs.Step.{respond};
+ghost use Rattle.ev_model.specs.Step.{answered, respond};
 ghost use Rattle.ev_model.specs.Watching.{kinds_before, kinds_behind};
 ghost use Rattle.ev_managers.specs.Managers.{AreManagersKept};
 ghost use Rattle.ev_subscription.specs.Asked.{changes_of};
@@ -43,9 +43,29 @@ impl State {
             return Ok((Answer::Ignored, Moved::none(alloc)));
         };
         let mentions = Mentions::of(alloc, response)?;
-        let verdicts = self.judge(alloc, &mentions)?;
+        self.take(alloc, kind, response, &mentions, steps)
+    }
+
+    // Takes a response of this kind, of which it is known what it mentions, and answers it.
+    fn take<L: Ledger>(
+        &mut self,
+        alloc: Global,
+        kind: Kind,
+        response: &Response,
+        mentions: &Mentions<'_>,
+        steps: &mut Steps<L>,
+    ) -> Result<(Answer, Moved), AllocError>
+        ghost here: { World }
+        requires at { ManagesAt self.old here }
+        requires mentions { mentions.now ≡ response.now }
+        requires typed { mentions.now.kind ≡ Some kind }
+        requires room { 0 < length mentions.now.items → here.made + length mentions.now.items < 2 ^ 32 }
+        ensures { IfOk result (λ told. IsStep self.new told.0 told.1 here
+            (answered kind response.now (verdicts_of (lives_of here) here.versions response.now) here)) }
+    {
+        let verdicts = self.judge(alloc, mentions)?;
         let made = self.made();
-        let mut moved = self.enter(alloc, kind, verdicts.as_slice(), &mentions, steps)?;
+        let mut moved = self.enter(alloc, kind, verdicts.as_slice(), mentions, steps)?;
         let asked = self.tidy(alloc, made, &mut moved, steps)?;
         let answer = self.reply(alloc, kind, response, verdicts, asked)?;
         Ok((answer, moved))

@@ -4,7 +4,7 @@ use Rattle.std.specs.List.{flat_map}
 use Rattle.ev_types.specs.declared.contents.Kind.{Kind}
 use Rattle.ev_types.specs.declared.contents.Request.{Request}
 use Rattle.ev_types.specs.declared.rows.KeptVersion.{KeptVersion}
-use Rattle.ev_model.specs.Requests.{Watched, clusters_request, connect_requests_by, names_request, other_than, requests_by, whole_request}
+use Rattle.ev_model.specs.Requests.{Watched, clusters_request, connect_requests_by, listeners_asked, names_request, other_than, requests_by, whole_request}
 use Rattle.ev_model.specs.Watching.{kinds_before, kinds_behind}
 use Rattle.ev_model.specs.World.{World}
 use Rattle.ev_subscription.specs.Subscriptions.{SubscriptionParts, HasVersions, InWorlds}
@@ -56,6 +56,12 @@ changes_of kinds before after = map (change_of before after) kinds
 -- what a change asks for
 abbrev pub change_request : NameChange → List Request
 change_request change = names_request change.kind change.begun change.ended []
+
+-- in every world that the subscription represents, the new requests ask after the old ones for these changes, and
+-- between them for all listeners, where they are asked for
+abbrev pub AsksMore : List NameChange → List NameChange → Bool → SubscriptionParts → List Request → List Request → Type 0
+AsksMore first last asked subscription old new = InWorlds subscription (λ world. new
+    ≡ old ++ (flat_map change_request first ++ (listeners_asked asked world.versions ++ flat_map change_request last)))
 
 -- in every world that the subscription represents, these are the requests of an event that changes what is watched
 -- so: of the kinds before listeners, and of those behind them

@@ -16,14 +16,16 @@ pub fn reply_of(
     requires { length verdicts.now ≡ length response.now.items }
     ensures { IfOk result (λ reply. reply ≡ reply_of kind response.now verdicts.now) }
 {
+    let nonce = response.nonce.copy(alloc)?;
+    let error = message_of(alloc, verdicts, response.items.as_slice())?;
     Ok(Request {
         kind,
         node: None,
         subscribe: Seq::new(alloc),
         unsubscribe: Seq::new(alloc),
         versions: Seq::new(alloc),
-        nonce: Some(response.nonce.copy(alloc)?),
-        error: message_of(alloc, verdicts, response.items.as_slice())?,
+        nonce: Some(nonce),
+        error,
     })
 }
 

@@ -2,7 +2,7 @@ ghost use Rattle.std.specs.Prelude.{◌≡◌, ◌++◌, [], Some, None, IfOk, O
 ghost use Rattle.std.specs.List.{flat_map};
 ghost use Rattle.ev_model.specs.Requests.{clusters_request, listeners_request};
 ghost use Rattle.ev_subscription.specs.Subscriptions.{InWorlds};
-ghost use Rattle.ev_subscription.specs.Asked.{AsksChanges, AsksFirst, AsksWhole, AsksWholes, bare_request, change_request, clusters_request_in};
+ghost use Rattle.ev_subscription.specs.Asked.{AsksChanges, AsksFirst, AsksMore, AsksWhole, AsksWholes, bare_request, change_request, clusters_request_in};
 
 use crate::changes::{NameChange, WatchedNames};
 use crate::subscription::Subscription;
@@ -50,22 +50,46 @@ impl Subscription {
             requests.push(reply)?;
         }
         if self.is_open() {
-            push_changes(alloc, before.as_slice(), &mut requests)?;
-            if asked {
-                requests.push(self.listeners_request(alloc)?)?;
-            }
-            push_changes(alloc, behind.as_slice(), &mut requests)?;
+            self.push_asked(
+                alloc,
+                before.as_slice(),
+                behind.as_slice(),
+                asked,
+                &mut requests,
+            )?;
         }
         Ok(requests)
+    }
+
+    // These changes of the watched names are asked for, and between them all listeners, where they are asked for.
+    fn push_asked(
+        &self,
+        alloc: Global,
+        before: &[NameChange],
+        behind: &[NameChange],
+        asked: bool,
+        requests: &mut Seq<Request>,
+    ) -> Result<(), AllocError>
+        ensures { OnOk result (AsksMore before.now behind.now asked self.now requests.old requests.new) }
+    {
+        push_changes(alloc, before, requests)?;
+        if asked {
+            requests.push(self.listeners_request(alloc)?)?;
+        }
+        push_changes(alloc, behind, requests)?;
+        Ok(())
     }
 
     // The first request of a stream: all clusters are asked for, and the node is named.
     fn clusters_request(&self, alloc: Global) -> Result<Request, AllocError>
         ensures { IfOk result (λ request. InWorlds self.now (λ world. request ≡ clusters_request_in world)) }
     {
-        let mut request = request_of(alloc, Kind::Cds, self.versions(alloc, Kind::Cds)?);
-        request.node = Some(self.node().copy(alloc)?);
-        Ok(request)
+        let versions = self.versions(alloc, Kind::Cds)?;
+        let node = self.node().copy(alloc)?;
+        Ok(Request {
+            node: Some(node),
+            ..request_of(alloc, Kind::Cds, versions)
+        })
     }
 
     // All listeners are asked for.
@@ -103,9 +127,12 @@ impl Subscription {
             return Ok(());
         }
         let kind = watched.kind;
-        let mut request = request_of(alloc, kind, self.versions(alloc, kind)?);
-        request.subscribe = watched.names.copy(alloc)?;
-        requests.push(request)
+        let versions = self.versions(alloc, kind)?;
+        let subscribe = watched.names.copy(alloc)?;
+        requests.push(Request {
+            subscribe,
+            ..request_of(alloc, kind, versions)
+        })
     }
 }
 
@@ -149,8 +176,15 @@ fn push_change(
     if change.begun.len() == 0 && change.ended.len() == 0 {
         return Ok(());
     }
-    let mut request = request_of(alloc, change.kind, Seq::new(alloc));
-    request.subscribe = change.begun.copy(alloc)?;
-    request.unsubscribe = change.ended.copy(alloc)?;
-    requests.push(request)
+    let subscribe = change.begun.copy(alloc)?;
+    let unsubscribe = change.ended.copy(alloc)?;
+    requests.push(Request {
+        kind: change.kind,
+        node: None,
+        subscribe,
+        unsubscribe,
+        versions: Seq::new(alloc),
+        nonce: None,
+        error: None,
+    })
 }

@@ -128,6 +128,10 @@ made_by Unasked name body made = made
 made_by Renewed name body made = made
 made_by (Refused rule) name body made = made
 
+-- what the response made once the verdict on this resource is known
+abbrev pub made_with : Answers → Kind → ResponseParts → MadeKept → ItemParts → MadeKept
+made_with answers kind response made item = made_by (judged answers kind response made item) item.name item.body made
+
 -- the verdicts on these resources, one after another
 abbrev pub all_judged : Answers → Kind → ResponseParts → MadeKept → List ItemParts → List Verdict
 all_judged answers kind response made [] = []

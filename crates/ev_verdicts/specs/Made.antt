@@ -23,3 +23,8 @@ AddsName old new name address = new.entries ≡ old.entries ++ (name, address) �
 -- and at each other the names that it had
 abbrev pub AddsAt : {S : Type 0} → IndexMap SocketAddress (List (List ℕ)) S → IndexMap SocketAddress (List (List ℕ)) S → List ℕ → Option SocketAddress → Type 0
 AddsAt old new name address = (a : SocketAddress) → names_in new a ≡ names_in old a ++ (if shares_address address (Some a) then name ∷ [] else [])
+
+-- at the address the new table has the name alone, and at each other what it had
+abbrev pub StartsAt : {S : Type 0} → IndexMap SocketAddress (List (List ℕ)) S → IndexMap SocketAddress (List (List ℕ)) S → List ℕ → SocketAddress → Type 0
+StartsAt old new name address =
+    (a : SocketAddress) → get socket_same new a ≡ (if socket_same address a then Some (name ∷ []) else get socket_same old a)

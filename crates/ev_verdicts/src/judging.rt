@@ -1,9 +1,9 @@
-ghost use Rattle.std.specs.Prelude.{◌≡◌, ◌&&◌, IfOk, IsSome, Some, length, if◌then◌else◌};
+ghost use Rattle.std.specs.Prelude.{◌≡◌, ◌&&◌, [], ◌∷◌, ◌++◌, IfOk, OnOk, IsSome, Some, length, if◌then◌else◌};
 ghost use Rattle.ev_types.specs.declared.contents.Kind.{Kind};
 ghost use Rattle.ev_types.specs.declared.contents.Kind.TheVariants.{Lds};
 ghost use Rattle.ev_types.specs.declared.events.Verdict.TheVariants.{Renewed, Unasked};
 ghost use Rattle.ev_model.specs.Verdicts.{against, changes_chains, listener_verdict, returns_to, serving_verdict, update_verdict, value_verdict};
-ghost use Rattle.ev_verdicts.specs.Judged.{judged, good_by, is_held, made_by, stays, AreVerdicts, response_judged, judged_first, by_its_body, is_taken_for, has_another};
+ghost use Rattle.ev_verdicts.specs.Judged.{judged, good_by, is_held, made_by, made_with, stays, AreVerdicts, response_judged, judged_first, by_its_body, is_taken_for, has_another};
 
 use crate::addresses::address_of;
 use crate::known::Known;
@@ -63,11 +63,28 @@ fn judge_items<K: Known>(
     let mut made = Made::new(alloc, keys_of(items));
     let mut verdicts = Vec::new(alloc);
     for item in items {
-        let verdict = judge(alloc, kind, known, mentions, &made, item)?;
-        made = note(alloc, made, &verdict, item)?;
-        verdicts.push(verdict)?;
+        made = judge_next(alloc, kind, known, mentions, made, item, &mut verdicts)?;
     }
     Ok(Seq::from_vec(verdicts))
+}
+
+// Puts the verdict on the next resource after the others, and gives what the response made with it.
+fn judge_next<'a, K: Known>(
+    alloc: Global,
+    kind: Kind,
+    known: &K,
+    mentions: &Mentions<'_>,
+    made: Made<'a>,
+    item: &'a Item,
+    verdicts: &mut Vec<Verdict>,
+) -> Result<Made<'a>, AllocError>
+    ensures verdict { OnOk result (verdicts.new.items
+        ≡ verdicts.old.items ++ judged (K.answers known.now) kind mentions.now made.entry item.now ∷ []) }
+    ensures made { IfOk result (λ new. new ≡ made_with (K.answers known.now) kind mentions.now made.entry item.now) }
+{
+    let verdict = judge(alloc, kind, known, mentions, &made, item)?;
+    verdicts.push(verdict)?;
+    note(alloc, made, &verdict, item)
 }
 
 // The keys of the names and the addresses of these resources.

@@ -1,7 +1,7 @@
-ghost use Rattle.std.specs.Prelude.{◌≡◌, [], Some, false, option_map, IfOk};
+ghost use Rattle.std.specs.Prelude.{◌≡◌, [], Some, false, option_map, IfOk, OnOk};
 ghost use Rattle.ev_types.specs.declared.hosts.SocketAddress.{SocketAddress};
 ghost use Rattle.ev_verdicts.specs.Judged.{has_other, is_made, names_at, with_made};
-ghost use Rattle.ev_verdicts.specs.Made.{AddsName, AddsAt};
+ghost use Rattle.ev_verdicts.specs.Made.{AddsName, AddsAt, StartsAt};
 
 use crate::keys::AddressKey;
 use ev_keys::Keys;
@@ -76,9 +76,10 @@ impl<'a> Made<'a> {
         if self.has(name) {
             return Ok(self);
         }
-        let by_address = with_address(alloc, self.by_address, name, address)?;
-        let names = with_name(self.names, name, address)?;
-        Ok(Made { names, by_address })
+        let mut made = self;
+        put_at(alloc, &mut made.by_address, name, address)?;
+        put_name(&mut made.names, name, address)?;
+        Ok(made)
     }
 }
 
@@ -89,20 +90,19 @@ fn has_other(names: &[NameKey<'_>], name: &str) -> bool
     names.iter().any(|other| other.as_str() != name)
 }
 
-// The table by name with one more at the end, with its address.
-fn with_name<'a>(
-    table: Names<'a>,
+// Puts one more name at the end, with its address.
+fn put_name<'a>(
+    table: &mut Names<'a>,
     name: &'a str,
     address: Option<&'a SocketAddress>,
-) -> Result<Names<'a>, AllocError>
-    requires absent { is_made table.entries name.now ≡ false }
-    ensures { IfOk result (λ new. AddsName table.entry new name.now (option_map (λ a. a.now) address.entry)) }
+) -> Result<(), AllocError>
+    requires absent { is_made table.old.entries name.now ≡ false }
+    ensures { OnOk result (AddsName table.old table.new name.now (option_map (λ a. a.now) address.entry)) }
 {
-    let mut table = table;
     let Ok(_) = table.insert(NameKey::new(name), key_of(address)) else {
         return Err(AllocError);
     };
-    Ok(table)
+    Ok(())
 }
 
 // The key of an address, where there is one.
@@ -115,39 +115,49 @@ fn key_of(address: Option<&SocketAddress>) -> Option<AddressKey<'_>>
     }
 }
 
-// The table by address with one more name, where it has an address.
-fn with_address<'a>(
+// Puts one more name at the address, where there is one.
+fn put_at<'a>(
     alloc: Global,
-    table: Addresses<'a>,
+    table: &mut Addresses<'a>,
     name: &'a str,
     address: Option<&'a SocketAddress>,
-) -> Result<Addresses<'a>, AllocError>
-    ensures { IfOk result (λ new. AddsAt table.entry new name.now (option_map (λ a. a.now) address.entry)) }
+) -> Result<(), AllocError>
+    ensures { OnOk result (AddsAt table.old table.new name.now (option_map (λ a. a.now) address.entry)) }
 {
     match address {
-        Some(address) => with_name_at(alloc, table, name, address),
-        None => Ok(table),
+        Some(address) => put_name_at(alloc, table, name, address),
+        None => Ok(()),
     }
 }
 
-// The table by address with one more name at an address.
-fn with_name_at<'a>(
+// Puts one more name at an address.
+fn put_name_at<'a>(
     alloc: Global,
-    table: Addresses<'a>,
+    table: &mut Addresses<'a>,
     name: &'a str,
     address: &'a SocketAddress,
-) -> Result<Addresses<'a>, AllocError>
-    ensures { IfOk result (λ new. AddsAt table.entry new name.now (Some address.now)) }
+) -> Result<(), AllocError>
+    ensures { OnOk result (AddsAt table.old table.new name.now (Some address.now)) }
 {
-    let mut table = table;
     if let Some(names) = table.get_mut(&AddressKey::new(address)) {
-        names.push(NameKey::new(name))?;
-        return Ok(table);
+        return names.push(NameKey::new(name));
     }
+    put_first_name_at(alloc, table, name, address)
+}
+
+// Puts a name at an address, in place of those that were there.
+fn put_first_name_at<'a>(
+    alloc: Global,
+    table: &mut Addresses<'a>,
+    name: &'a str,
+    address: &'a SocketAddress,
+) -> Result<(), AllocError>
+    ensures { OnOk result (StartsAt table.old table.new name.now address.now) }
+{
     let mut names = Seq::new(alloc);
     names.push(NameKey::new(name))?;
     let Ok(_) = table.insert(AddressKey::new(address), names) else {
         return Err(AllocError);
     };
-    Ok(table)
+    Ok(())
 }

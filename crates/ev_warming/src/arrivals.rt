@@ -4,18 +4,19 @@ ghost use Rattle.std.specs.Prelude.{◌≡◌, true, Some, length, OnOk};
 ghost use Rattle.std.specs.List.{list_any};
 ghost use Rattle.ev_types.specs.Kinds.{is_by_name};
 ghost use Rattle.ev_types.specs.declared.events.Verdict.TheVariants.{Kept};
+ghost use Rattle.ev_types.specs.declared.rows.Arrival.TheVariants.{Value as a_value};
 ghost use Rattle.ev_model.specs.Verdicts.{is_among};
 ghost use Rattle.ev_model.specs.Rows.{add_item, add_items};
 ghost use Rattle.ev_lookups.specs.Keys.{named};
 ghost use Rattle.ev_indexes.specs.Indexes.{depends_on};
 ghost use Rattle.ev_warming.specs.Managers.{IsKept};
-ghost use Rattle.ev_warming.specs.Arrivals.{IsOnValue, AreOnValues};
+ghost use Rattle.ev_warming.specs.Arrivals.{IsOnValue, AreOnValues, with_arrived};
 ghost use Rattle.ev_warming.specs.Worlds.{Follows, with_name_absent, with_names_absent, with_removals_told, with_response, with_told};
 
 use crate::Manager;
 use ev_indexes::Steps;
 use ev_lookups::Mentions;
-use ev_types::{Arrival, Body, Item, Kind, Name, NameError, Text, TryCopy, Verdict};
+use ev_types::{Arrival, Body, Content, Item, Kind, Name, NameError, Text, TryCopy, Verdict};
 use std::alloc::{AllocError, Global};
 use std::sync::ledger::Ledger;
 
@@ -229,7 +230,26 @@ impl Manager {
             return Ok(());
         };
         let name = item.resource_name(alloc)?;
+        self.arrive_value(alloc, kind, &name, content, steps)
+    }
+
+    // A value arrives for a watched name.
+    fn arrive_value<L: Ledger>(
+        &mut self,
+        alloc: Global,
+        kind: Kind,
+        name: &Name,
+        content: &Content,
+        steps: &mut Steps<L>,
+    ) -> Result<(), AllocError>
+        requires kept { IsKept self.old }
+        requires watched { list_any (depends_on (named kind name.now)) self.old.state.table.rows ≡ true }
+        ensures kept { OnOk result (IsKept self.new) }
+        ensures table { OnOk result (self.new.state.table ≡ self.old.state.table) }
+        ensures stands { OnOk result (Follows self.old.state self.new.state
+            (with_arrived kind (a_value content.now) name.now)) }
+    {
         let arrival = Arrival::Value(content.copy(alloc)?);
-        self.arrive(alloc, kind, &name, &arrival, steps)
+        self.arrive(alloc, kind, name, &arrival, steps)
     }
 }

@@ -66,11 +66,25 @@ fn kept_between(
     ensures { IfOk result (λ kept. kept ≡ filter_map (kept_as row.now (placed before.now)) (placed update.now)) }
 {
     let places = kept_places(alloc, row.kept.as_slice())?;
-    let origins = origins(alloc, row, &places, before.filter_chains.as_slice())?;
+    kept_with_places(alloc, row, &places, before, update)
+}
+
+// The same, with where the chains began that the generation kept itself.
+fn kept_with_places(
+    alloc: Global,
+    row: &GenRow,
+    places: &KeptPlaces,
+    before: &Listener,
+    update: &Listener,
+) -> Result<Seq<KeptChain>, AllocError>
+    requires kept { AreKept row.now.kept places.now }
+    ensures { IfOk result (λ kept. kept ≡ filter_map (kept_as row.now (placed before.now)) (placed update.now)) }
+{
+    let origins = origins(alloc, row, places, before.filter_chains.as_slice())?;
     let mut kept = kept_matched(alloc, &origins, update.filter_chains.as_slice())?;
     push_default(
         row,
-        &places,
+        places,
         &before.default_filter_chain,
         &update.default_filter_chain,
         &mut kept,

@@ -15,7 +15,7 @@ loop-row-preserved c = λ h.
     let more = has_host-more h rows k row c.loop-row-test.true in
     elim c.match-get.branch [
       | in-Some+in_ok-copy+in_ok-put w ↦
-          (λ i. get host_same (w.kept-is i) h) ∙ w.in_ok-put.ensures h
+          (λ i. get host_same (w.kept-is i) h) ∙ w.in_ok-put.ensures.ok h
           ∙ (λ i. cond (host_same ((w.in_ok-copy.ensures.equal ∙ own) i) h) (Some w.in-Some.healthy.now) (get host_same c.loop-row.kept h))
           ∙ standing_kept (has_host h (take k rows)) (host_same (get_or rows k row).host h) (get host_same c.args.hosts.now h) (get host_same c.loop-row.kept h) w.in-Some.healthy.now
           (c.loop-row.invariant h)

@@ -1,12 +1,11 @@
-use Rattle.std.proofs.Common.{◌∙◌, ap, ◌++◌, ◌∷◌, [], codes}
+use Rattle.std.proofs.Common.{◌∙◌, ap, ◌∷◌, [], codes}
 use Rattle.ev_types.specs.declared.events.Profile.TheVariants.{Envoy}
 use Rattle.ev_tree.specs.Forms.{is_wrong, inside, text_of, object_of}
 use Rattle.ev_tree.specs.Broken.{either_broken}
-use Rattle.ev_tree.specs.Floats.{plain_text}
 use Rattle.ev_tree.proofs.Outcomes.{or_same, not_same}
 use Rattle.ev_listener_json.specs.Filters.{kind_in, config_serve, config_broken}
 use Rattle.ev_listener_json.specs.ChainExtensions.{kind_extensions}
-use Rattle.ev_listener_json.specs.Chains.{serve_or_other, is_manager, api_outer_of, api_config_of, api_kind_of, api_serve_of, api_extensions, api_broken}
+use Rattle.ev_listener_json.specs.Chains.{serve_or_other, is_manager, api_chain, api_outer_of, api_config_of, api_kind_of, api_serve_of, api_extensions, api_broken}
 use Rattle.ev_listener_json.proofs.envoy_chains.inspect_api.Goals as goal
 
 pub returns-clause-chains : goal.returns-clause-chains
@@ -17,13 +16,7 @@ returns-clause-chains c =
     let kind = c.choose_kind-kind.ensures ∙ ap kind_in (c.in_ok-name.ensures.value ∙ ap (text_of (codes "@type")) config) in
     let serve = c.serve_or_other.ensures ∙ ap serve_or_other (c.in_ok-below.ensures.value ∙ (λ i. config_serve Envoy (kind i) (config i))) in
     let extensions = c.in_ok-extensions.ensures ∙ (λ i. kind_extensions (kind i) (config i)) in
-    c.in_ok-push.ensures.items ∙ (λ i. c.new-chains.ensures.items i ++ (record {
-      criteria = (c.in_ok-new.ensures.value ∙ c.no_criteria.ensures) i;
-      serve = serve i;
-      secrets = c.new-2.ensures.empty i;
-      extensions = (extensions i).list;
-      body_text = (c.in_ok-part_text.ensures ∙ ap plain_text config) i;
-    }) ∷ [])
+    c.in_ok-make_api_chains.ensures ∙ (λ i. api_chain (config i) (serve i) (extensions i).list ∷ [])
 
 pub returns-clause-broken : goal.returns-clause-broken
 unfolding api_outer_of api_config_of api_kind_of api_extensions api_broken

@@ -6,7 +6,7 @@ use Rattle.ev_listener_json.proofs.envoy_chains.inspect_with.Goals as goal
 pub returns-clause-value : goal.returns-clause-value
 unfolding chain_with
 returns-clause-value c = λ i. record {
-  criteria = c.in_ok-new.ensures.value i;
+  criteria = c.in_ok-criteria.ensures.value i;
   serve = c.in_ok-served.ensures.value i;
   secrets = (c.in_ok-secrets.ensures i).list;
   extensions = (c.in_ok-extensions.ensures i).list;

@@ -9,8 +9,8 @@ use Rattle.ev_route_json.proofs.conditions.inspect_path_specifier.Goals as goal
 pub returns-clause-value : goal.returns-clause-value
 unfolding path_specifier_of path_of
 returns-clause-value c =
-    let connects = c.is_given-9.ensures ∙ c.in_ok-connect.ensures.given in
-    let undecided = or_same (c.is_given-7.ensures ∙ c.in_ok-regex.ensures.given) (c.is_given-8.ensures ∙ c.in_ok-policy.ensures.given) in
+    let connects = c.is_given-connects.ensures ∙ c.in_ok-connect.ensures.given in
+    let undecided = or_same (c.is_given-by_regex.ensures ∙ c.in_ok-regex.ensures.given) (c.is_given-by_policy.ensures ∙ c.in_ok-policy.ensures.given) in
     let folds = c.is_false.ensures ∙ ap is_false c.in_ok-sensitive.ensures in
     let path = c.in_ok-made.ensures ∙ (λ j. path_with (c.in_ok-prefix.ensures.value j) (c.in_ok-path.ensures.value j) (c.in_ok-separated.ensures.value j)) in
     c.specifier_with.ensures ∙ (λ i. specifier_with (connects i) (undecided i) (folds i) (path i))
@@ -29,6 +29,6 @@ returns-clause-broken c = λ i. record (c.none.ensures i) {
   v21 = or_same
       (not_same (c.exactly_one.ensures ∙ (λ j. exactly_one (
       (c.is_given.ensures ∙ c.in_ok-prefix.ensures.given) j ∷ (c.is_given-2.ensures ∙ c.in_ok-path.ensures.given) j ∷ (c.is_given-3.ensures ∙ c.in_ok-separated.ensures.given) j
-      ∷ (c.is_given-4.ensures ∙ c.in_ok-regex.ensures.given) j ∷ (c.is_given-5.ensures ∙ c.in_ok-connect.ensures.given) j ∷ (c.is_given-6.ensures ∙ c.in_ok-policy.ensures.given) j ∷ []))))
+      ∷ (c.is_given-by_regex.ensures ∙ c.in_ok-regex.ensures.given) j ∷ (c.is_given-connects.ensures ∙ c.in_ok-connect.ensures.given) j ∷ (c.is_given-by_policy.ensures ∙ c.in_ok-policy.ensures.given) j ∷ []))))
       (c.separated_is_bad.ensures ∙ ap separated_is_bad c.in_ok-separated.ensures.value) i;
 }

@@ -14,7 +14,7 @@ returns-clause-value c =
     let absent = c.is_false.ensures ∙ ap is_false c.in_ok-present.ensures in
     let invert = c.given_or.ensures ∙ ap (given_or false) c.in_ok-invert.ensures in
     λ i. record {
-      name = (c.in_ok-lower.ensures ∙ ap str_to_ascii_lowercase text) i;
+      name = (c.in_ok-lowered.ensures ∙ ap str_to_ascii_lowercase text) i;
       test = c.in_ok-test.ensures.value i;
       invert_match = (c.turned_over.ensures ∙ (λ j. turned_over (absent j) (invert j))) i;
       treat_missing_header_as_empty = (c.given_or-2.ensures ∙ ap (given_or false) c.in_ok-as_empty.ensures) i;

@@ -14,7 +14,7 @@ returns-clause-value c =
     let matcher = c.in_ok-matcher.ensures.value ∙ ap string_matcher_of (c.inner.ensures ∙ ap inside c.in_ok-string.ensures.value) in
     let there = c.given_or.ensures ∙ ap (given_or true) c.in_ok-present.ensures in
     λ i. record {
-      name = (c.in_ok-new.ensures.bytes ∙ text) i;
+      name = (c.in_ok-copied.ensures.bytes ∙ text) i;
       test = (c.query_test_with.ensures ∙ (λ j. query_test_with (by_string j) (matcher j) (there j))) i;
     }
 

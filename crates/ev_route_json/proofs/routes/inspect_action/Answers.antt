@@ -38,7 +38,7 @@ returns-clause-broken c =
     let forward = c.inner-2.ensures ∙ ap inside c.in_ok-forward.ensures.value in
     let direct = c.inner.ensures ∙ ap inside c.in_ok-direct.ensures.value in
     let status = c.given_or-status.ensures ∙ ap (given_or 0) (c.in_ok-given_status.ensures ∙ ap (number_of (codes "status")) direct) in
-    let forwards = c.is_given-7.ensures ∙ c.in_ok-forward.ensures.given in
+    let forwards = c.is_given.ensures ∙ c.in_ok-forward.ensures.given in
     let target = c.only_if.ensures ∙ (λ i. broken_where (forwards i) ((c.in_ok-target.ensures.broken ∙ ap (target_broken_in c.args.profile) forward) i)) in
     c.or.ensures ∙ (λ i. either_broken (target i) (record (c.none.ensures i) {
       v6 = or_same (or_same (or_same (or_same (or_same
@@ -52,5 +52,5 @@ returns-clause-broken c =
           (c.are_bad.ensures ∙ bad_same c.args.profile _ (view c.args.route.now)
           (c.is_given.ensures ∙ c.in_ok-forward.ensures.given) (c.is_given-2.ensures ∙ c.in_ok-redirect.ensures.given) (c.is_given-3.ensures ∙ c.in_ok-direct.ensures.given)
           (c.is_given-4.ensures ∙ c.in_ok-filter.ensures.given) (c.is_given-5.ensures ∙ c.in_ok-stay.ensures.given))
-          (and_same (c.is_given-6.ensures ∙ c.in_ok-direct.ensures.given) (not_same (c.is_status.ensures ∙ ap is_status status))) i;
+          (and_same (c.is_given-3.ensures ∙ c.in_ok-direct.ensures.given) (not_same (c.is_status.ensures ∙ ap is_status status))) i;
     }))

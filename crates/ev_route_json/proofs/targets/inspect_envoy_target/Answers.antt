@@ -16,9 +16,9 @@ returns-clause-value c =
     let text = c.text_or_empty.ensures ∙ ap (given_or []) c.in_ok-cluster.ensures.value in
     let target = c.in_ok-target.ensures ∙ (λ j. target_with (clusters j) (text j)) in
     let elsewhere = or_same (or_same (or_same
-    (c.is_given.ensures ∙ c.in_ok-header.ensures.given)
-    (c.is_given-2.ensures ∙ c.in_ok-plugin.ensures.given))
-    (c.is_given-3.ensures ∙ c.in_ok-inline.ensures.given))
+    (c.is_given-header_given.ensures ∙ c.in_ok-header.ensures.given)
+    (c.is_given-plugin_given.ensures ∙ c.in_ok-plugin.ensures.given))
+    (c.is_given-inline_given.ensures ∙ c.in_ok-inline.ensures.given))
     (c.in_ok-by_header.ensures ∙ ap (list_any is_by_header) entries) in
     c.envoy_target_with.ensures ∙ (λ i. envoy_target_with (elsewhere i) (target i))
 
@@ -38,14 +38,14 @@ returns-clause-broken c =
           (c.is_wrong-5.ensures ∙ c.in_ok-plugin.ensures.wrong))
           (c.is_wrong-6.ensures ∙ c.in_ok-inline.ensures.wrong) i;
       v22 = not_same (c.exactly_one.ensures ∙ (λ j. exactly_one (
-          (c.is_given-4.ensures ∙ c.in_ok-cluster.ensures.given) j
-          ∷ (c.is_given-5.ensures ∙ c.in_ok-weighted.ensures.given) j
-          ∷ (c.is_given-6.ensures ∙ c.in_ok-header.ensures.given) j
-          ∷ (c.is_given-7.ensures ∙ c.in_ok-plugin.ensures.given) j
-          ∷ (c.is_given-8.ensures ∙ c.in_ok-inline.ensures.given) j
+          (c.is_given.ensures ∙ c.in_ok-cluster.ensures.given) j
+          ∷ (c.is_given-weights_given.ensures ∙ c.in_ok-weighted.ensures.given) j
+          ∷ (c.is_given-header_given.ensures ∙ c.in_ok-header.ensures.given) j
+          ∷ (c.is_given-plugin_given.ensures ∙ c.in_ok-plugin.ensures.given) j
+          ∷ (c.is_given-inline_given.ensures ∙ c.in_ok-inline.ensures.given) j
           ∷ []))) i;
       v23 = (c.is_empty_text.ensures ∙ ap is_empty_text c.in_ok-cluster.ensures.value) i;
       v24 = and_same
-          (c.is_given-9.ensures ∙ c.in_ok-weighted.ensures.given)
+          (c.is_given-weights_given.ensures ∙ c.in_ok-weighted.ensures.given)
           (not_same (c.has_weight.ensures ∙ ap has_weight (c.as_slice.ensures.value ∙ clusters))) i;
     }))

@@ -1,4 +1,5 @@
 use Rattle.std.proofs.Common.{◌∙◌, ap, codes}
+use Rattle.std.proofs.lemmas.Result.{IfOk-weaker}
 use Rattle.ev_tree.specs.Forms.{inside}
 use Rattle.ev_secret_json.specs.References.{wrong_form, joined}
 use Rattle.ev_secret_json.specs.SecretConfigs.{secret_in}
@@ -12,4 +13,4 @@ returns c =
     let wrong = c.wrong_form.ensures ∙ ap wrong_form (c.is_wrong.ensures ∙ c.in_ok-combined.ensures.wrong) in
     let last = c.in_ok-last.ensures ∙ (λ i. joined (combined i) (wrong i)) in
     let behind = c.in_ok-behind.ensures ∙ (λ i. joined (c.in_ok-validation.ensures i) (last i)) in
-    c.in_ok-all.ensures ∙ (λ i. joined (c.in_ok-certificates.ensures i) (behind i))
+    IfOk-weaker c.join_references-3.result _ _ (λ _ is. is ∙ (λ i. joined (c.in_ok-certificates.ensures i) (behind i))) c.join_references-3.ensures

@@ -1,4 +1,5 @@
 use Rattle.std.proofs.Common.{◌∙◌, ap, codes}
+use Rattle.std.proofs.lemmas.Result.{IfOk-weaker}
 use Rattle.ev_tree.specs.Forms.{is_wrong, inside, text_of}
 use Rattle.ev_tree.proofs.Outcomes.{or_same}
 use Rattle.ev_secret_json.specs.References.{wrong_form, joined}
@@ -14,4 +15,4 @@ returns c =
     let wrong = c.wrong_form.ensures ∙ ap wrong_form (or_same
     (c.is_wrong.ensures ∙ c.in_ok-config.ensures.wrong)
     (c.is_wrong-2.ensures ∙ c.in_ok-name.ensures.wrong ∙ ap (λ t. is_wrong (text_of (codes "@type") t)) config)) in
-    c.in_ok-both.ensures ∙ (λ i. joined (below i) (wrong i))
+    IfOk-weaker c.join_references.result _ _ (λ _ is. is ∙ (λ i. joined (below i) (wrong i))) c.join_references.ensures

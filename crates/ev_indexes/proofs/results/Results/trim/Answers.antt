@@ -1,10 +1,11 @@
-use Rattle.std.proofs.Common.{◌≡◌, ◌∙◌, sym, ap, length, true≢false, Some, None, cond, nat_eq, not, ◌&&◌, Option, Bool, true, false, refl}
+use Rattle.std.proofs.Common.{◌≡◌, ◌∙◌, sym, ap, subst, length, true≢false, Some, None, cond, nat_eq, not, ◌&&◌, Option, Bool, true, false, refl}
 use Rattle.std.specs.Option.{option_copied}
 use Rattle.std.proofs.lemmas.Option.{none-some}
 use Rattle.ev_types.specs.SameHosts.{has_host}
 use Rattle.ev_types.specs.declared.hosts.Host.{Host}
-use Rattle.ev_indexes.specs.Results.{result_among, results_of}
-use Rattle.ev_indexes.proofs.ResultLemmas.{found, inner, none_found, some_as, still_no_empty, trims_by, trims_nothing}
+use Rattle.ev_indexes.specs.Results.{HasNoEmpty, result_among, results_of}
+use Rattle.std.proofs.lemmas.Result.{on_ok_weaker}
+use Rattle.ev_indexes.proofs.ResultLemmas.{either_way, found, inner, none_found, some_as, still_no_empty, trims_by, trims_nothing}
 use Rattle.ev_indexes.proofs.results.Results.trim.Goals as goal
 
 flipped : (b : Bool) (r : Option Bool) → cond b r None ≡ cond (not b) None r
@@ -17,10 +18,12 @@ returns-clause-ok c =
     let m = c.in-Some.hosts.now in
     let w = c.in_ok-kept.kept in
     let same : (h : Host) → inner (Some m) h ≡ result_among (results_of es) c.number-at.result h = λ h. sym (found es c.number-at.result (Some m) (sym c.in-Some.ensures.value) h) in
-    λ n h.
-    trims_by es c.insert.new.self.entries c.number-at.result (Some w) (λ q. c.in-Ok.ensures.updates.0 q) c.args.rows.now
+    on_ok_weaker c.put_hosts.result
+    (λ has. λ n h.
+    trims_by es c.put_hosts.new.results.entries c.number-at.result (Some w) has c.args.rows.now
     (λ k. c.in_ok-kept.ensures k ∙ (λ i. cond (has_host k (c.rows.ensures.rows i)) (inner (Some m) k) None) ∙ flipped (has_host k c.args.rows.now) (inner (Some m) k) ∙ ap (λ r. cond (not (has_host k c.args.rows.now)) None r) (same k)) n h
-    ∙ (λ i. cond (nat_eq (c.number-at.ensures.number i) n && not (has_host h c.args.rows.now)) None (result_among (c.self.view_is i) n h))
+    ∙ (λ i. cond (nat_eq (c.number-at.ensures.number i) n && not (has_host h c.args.rows.now)) None (result_among (c.self.view_is i) n h)))
+    c.put_hosts.ensures.ok
 
 pub returns-in_default-clause-ok : goal.returns-in_default-clause-ok
 returns-in_default-clause-ok c = λ n h.
@@ -48,5 +51,7 @@ invariant_of-self c =
 pub invariant_of-self-2 : goal.invariant_of-self-2
 invariant_of-self-2 c =
     let w = c.in_ok-kept.kept in
-    still_no_empty c.self.inside.results.entries c.insert.new.self.entries c.number-at.result (Some w) (λ q. c.in-Ok.ensures.updates.0 q)
-    (λ m e. some_as w m e (λ empty. true≢false (sym (c.is_empty.ensures.1 (ap length empty)) ∙ c.if-is_empty.false))) c.self.invariant
+    either_way c.put_hosts.result c.put_hosts.ensures.ok c.put_hosts.ensures.err
+    (λ has. still_no_empty c.self.inside.results.entries c.put_hosts.new.results.entries c.number-at.result (Some w) has
+    (λ m e. some_as w m e (λ empty. true≢false (sym (c.is_empty.ensures.1 (ap length empty)) ∙ c.if-is_empty.false))) c.self.invariant)
+    (λ same. subst HasNoEmpty (sym (ap results_of same)) c.self.invariant)

@@ -1,4 +1,4 @@
-use Rattle.std.proofs.Common.{◌≡◌, ◌∷◌, ◌∙◌, [], List, ℕ, Option, Some, ap, sym}
+use Rattle.std.proofs.Common.{◌∷◌, ◌∙◌, [], List, ℕ, Option, Some, ap, sym}
 use Rattle.std.specs.Str.{bytes_eq, str_to_ascii_lowercase}
 use Rattle.ev_types.specs.FilterChains.{nat_same, transports, ports}
 use Rattle.ev_types.specs.Ips.{ranges_about}

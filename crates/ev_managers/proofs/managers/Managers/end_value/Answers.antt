@@ -10,8 +10,8 @@ returns-then-not-is_watched-clause-stands g c = λ world stand watched.
     ap (is_watched_in c.args.self.now c.args.kind) (sym c.as_str.ensures.bytes) ∙ sym c.is_watched.ensures.rows ∙ c.if-not-is_watched.true in
     absurd (false≢true (sym none ∙ watched c.requires.by_name))
 
-pub arrive-requires-clause-watched : goal.arrive-requires-clause-watched
-arrive-requires-clause-watched g c =
+pub arrive_last-requires-clause-watched : goal.arrive_last-requires-clause-watched
+arrive_last-requires-clause-watched g c =
     ap (is_watched_in c.args.self.now c.args.kind) (sym c.as_str.ensures.bytes) ∙ sym c.is_watched.ensures.rows ∙ c.if-not-is_watched.false
 
 pub returns-in_default-clause-stands : goal.returns-in_default-clause-stands
@@ -20,6 +20,6 @@ returns-in_default-clause-stands g c = λ world stand watched.
 
 pub returns-clause-stands : goal.returns-clause-stands
 returns-clause-stands g c = λ world stand watched.
-    subst (StandFor c.arrive.new.self)
+    subst (StandFor c.arrive_last.new.self)
     (value-end c.args.kind c.args.name.now world c.in-Some.value (sym c.in_ok-value.ensures ∙ c.in-Some.is))
-    (c.in_ok-arrive.ensures.stands world stand)
+    (c.in_ok-arrive_last.ensures.stands world stand)

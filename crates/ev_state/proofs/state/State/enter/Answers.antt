@@ -1,7 +1,6 @@
 use Rattle.std.proofs.Common.{ℕ, List, ◌++◌, ◌∙◌, refl, sym, subst}
 use Rattle.ev_types.specs.Items.{ResponseParts}
 use Rattle.ev_model.specs.Rows.{with_removals, add_items, made_names, with_first}
-use Rattle.ev_managers.specs.Managers.{StandFor, MayBeGiven}
 use Rattle.ev_state.specs.InitTargets.{HaveBooted}
 use Rattle.ev_model.specs.World.{World}
 use Rattle.ev_state.specs.Changed.{dependents_of}

@@ -1,33 +1,18 @@
-use Rattle.std.proofs.Common.{◌≡◌, ℕ, zero, suc, ◌+◌, ◌<◌, List, length, Option, Some, ap, sym, subst, ◌∙◌, arith}
+use Rattle.std.proofs.Common.{◌≡◌, ◌+◌, ◌<◌, length, Option, Some, Result, Ok, Err, IfOk, ap, sym, subst, ◌∙◌}
 use Rattle.ev_types.specs.Items.{ResponseParts}
 use Rattle.ev_types.specs.declared.contents.Kind.{Kind}
-use Rattle.ev_types.specs.declared.events.Verdict.{Verdict}
-use Rattle.ev_types.specs.declared.events.Answer.{Answer}
-use Rattle.ev_types.specs.declared.events.Answer.TheVariants.{Ignored, Replied}
-use Rattle.ev_model.specs.World.{World}
-use Rattle.ev_model.specs.Live.{lives_of}
-use Rattle.ev_model.specs.Verdicts.{verdicts_of}
-use Rattle.ev_model.specs.Rows.{with_removals, add_items, made_names, with_first}
-use Rattle.ev_model.specs.Step.{responded, answered, respond_by}
-use Rattle.ev_model.specs.Requests.{Watched, requests_by, requests_of, reply_of}
-use Rattle.ev_model.specs.Watching.{kinds_before, kinds_behind, watched_of}
-use Rattle.ev_managers.specs.Managers.{AreForgotten, AreManagersKept}
-use Rattle.ev_subscription.specs.Asked.{changes_of}
-use Rattle.ev_subscription.specs.Subscriptions.{HasVersions}
-use Rattle.ev_managers.specs.declared.moved.Moved.{Moved}
-use Rattle.ev_state.specs.declared.state.State.{State}
-use Rattle.ev_state.specs.declared.asked.Asked.{Asked}
-use Rattle.ev_state.specs.Moves.{IsOver}
+use Rattle.ev_types.specs.declared.events.Answer.TheVariants.{Ignored}
+use Rattle.ev_model.specs.Step.{respond_by}
 use Rattle.ev_state.specs.States.{IsStep}
 use Rattle.ev_state.proofs.StepLemmas.{where_true}
 use Rattle.ev_state.proofs.state.State.respond.Goals as goal
 
-room_for : (made n : ℕ) → made < 4294967296 → (0 < n → made + n < 4294967296) → made + n < 4294967296
-room_for made zero below room = omega (arith, below)
-room_for made (suc n) below room = room (omega arith)
+if_ok : {V E : Type 0} {P Q : V → Type 0} (r : Result V E) → ((v : V) → P v → Q v) → IfOk r P → IfOk r Q
+if_ok (Ok v) so p = so v p
+if_ok (Err e) so p = p
 
-pub enter-requires : goal.enter-requires
-enter-requires g c κs within =
+pub take-requires : goal.take-requires
+take-requires g c κs within =
     let at = c.requires.1.0 in
     let kind = c.in-Some-true.kind in
     let own : c.args.response.now.kind ≡ Some kind = (λ i. (sym c.response.view_is i).kind) ∙ c.in-Some-true.is-0 in
@@ -36,65 +21,23 @@ enter-requires g c κs within =
       (
         at,
         (
-          typed,
+          c.in_ok-mentions.ensures,
           (
-            room_for g.here.made (length c.in_ok-mentions.mentions.items) (subst (λ n. n < 4294967296) (c.made-made.ensures g.here at) c.made-made.type_inv)
-                (subst (λ (r : ResponseParts). 0 < length r.items → g.here.made + length r.items < 4294967296) (sym c.in_ok-mentions.ensures) c.requires.1.1),
-            (
-              ap length c.as_slice.ensures.elements ∙ c.in_ok-verdicts.ensures.one_each,
-              c.as_slice.ensures.elements ∙ c.in_ok-verdicts.ensures.judged kind g.here at typed,
-            ),
+            typed,
+            subst (λ (r : ResponseParts). 0 < length r.items → g.here.made + length r.items < 4294967296) (sym c.in_ok-mentions.ensures) c.requires.1.1,
           ),
         ),
       ),
     )
 
-pub reply-requires : goal.reply-requires
-reply-requires g c = record {
-  one_each = c.in_ok-verdicts.ensures.one_each ∙ ap (λ (r : ResponseParts). length r.items) c.in_ok-mentions.ensures;
-}
-
-replies : (s : State) (told : Answer) (verdicts given : List Verdict) (kind : Kind) (mentioned response : ResponseParts) (asked : Asked) (these : Moved) (here : World)
-    → AreManagersKept s.managers → AreForgotten s.managers
-    → mentioned ≡ response → given ≡ verdicts → given ≡ verdicts_of (lives_of here) here.versions response
-    → IsOver s asked these here (responded kind mentioned given here)
-    → ((world : World) (before after : Watched) → HasVersions s.subscription world
-    → asked.before ≡ changes_of kinds_before before after → asked.behind ≡ changes_of kinds_behind before after
-    → told ≡ Replied (requests_by world.stream before after asked.left world.versions (Some (reply_of kind response verdicts))) verdicts)
-    → IsStep s told these here (answered kind response (verdicts_of (lives_of here) here.versions response) here)
-replies s told verdicts given kind mentioned response asked these here kept forgotten same are judged over answers =
-    let after : World = responded kind mentioned given here in
-    let replied : reply_of kind response verdicts ≡ reply_of kind mentioned given = (λ i. reply_of kind (sym same i) (sym are i)) in
-    let sent : requests_by after.stream (watched_of here) (watched_of after) asked.left after.versions (Some (reply_of kind response verdicts)) ≡ requests_of here after (Some (reply_of kind mentioned given)) =
-    (λ i. requests_by after.stream (watched_of here) (watched_of after) (over.left i) after.versions (Some (replied i))) in
-    let base : IsStep s told these here (answered kind mentioned given here) = record {
-      kept = kept;
-      forgotten = forgotten;
-      follows = over.follows;
-      later = over.later;
-      answer = answers after (watched_of here) (watched_of after) over.follows.stands.subscription over.changed_before over.changed_behind
-          ∙ (λ i. Replied (sent i) (sym are i));
-      moved = over.moved;
-    } in
-    subst (λ (vs : List Verdict). IsStep s told these here (answered kind response vs here)) judged
-    (subst (λ (r : ResponseParts). IsStep s told these here (answered kind r given here)) same base)
-
 pub returns : goal.returns
 returns g c =
-    let s = c.tidy.new.self in
     let kind = c.in-Some-true.kind in
     let response = c.args.response.now in
-    let mentions = c.in_ok-mentions.mentions in
-    let given = c.as_slice.result.now in
     let at = c.requires.1.0 in
     let own : response.kind ≡ Some kind = (λ i. (sym c.response.view_is i).kind) ∙ c.in-Some-true.is-0 in
-    let typed : mentions.kind ≡ Some kind = ap (λ (r : ResponseParts). r.kind) c.in_ok-mentions.ensures ∙ own in
-    let over = c.in_ok-asked.ensures.over g.here (with_first kind (made_names given mentions.items) (add_items kind given mentions.items (with_removals kind mentions g.here)))
-    c.in_ok-moved.ensures.follows (c.made-made.ensures g.here at) c.in_ok-moved.ensures.moved in
-    where_true s c.in_ok-answer.answer c.tidy.new.moved g.here g.here.stream (respond_by response.kind response g.here) (g.here, Ignored)
+    if_ok c.take.result (λ told step.
+    where_true c.take.new.self told.0 told.1 g.here g.here.stream (respond_by response.kind response g.here) (g.here, Ignored)
     (sym at.follows.stands.subscription.stream ∙ sym c.in-Some-true.ensures)
-    (subst (λ (k : Option Kind). IsStep s c.in_ok-answer.answer c.tidy.new.moved g.here (respond_by k response g.here)) (sym own)
-    (replies s c.in_ok-answer.answer c.in_ok-verdicts.verdicts given kind mentions response c.in_ok-asked.asked c.tidy.new.moved g.here
-    c.in_ok-asked.ensures.kept c.in_ok-asked.ensures.forgotten c.in_ok-mentions.ensures c.as_slice.ensures.elements
-    (c.as_slice.ensures.elements ∙ c.in_ok-verdicts.ensures.judged kind g.here at typed ∙ ap (verdicts_of (lives_of g.here) g.here.versions) c.in_ok-mentions.ensures)
-    over c.in_ok-answer.ensures))
+    (subst (λ (k : Option Kind). IsStep c.take.new.self told.0 told.1 g.here (respond_by k response g.here)) (sym own) step))
+    c.take.ensures

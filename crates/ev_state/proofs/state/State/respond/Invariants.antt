@@ -1,4 +1,4 @@
 use Rattle.ev_state.proofs.state.State.respond.Given as goal
 
-abbrev pub ghost-enter : goal.ghost-enter
-ghost-enter g a = g.here
+abbrev pub ghost-take : goal.ghost-take
+ghost-take g a = g.here

@@ -1,4 +1,4 @@
-use Rattle.std.proofs.Common.{◌≡◌, ◌∙◌, ◌<◌, ◌≤◌, ◌&&◌, ℕ, List, [], length, get_or, sym, subst}
+use Rattle.std.proofs.Common.{◌∙◌, ◌<◌, ◌≤◌, ◌&&◌, ℕ, List, length, get_or, sym, subst}
 use Rattle.ev_model.specs.Verdicts.{is_among}
 use Rattle.std.proofs.lemmas.List.{take_all}
 use Rattle.std.specs.List.{list_any}
@@ -9,7 +9,7 @@ use Rattle.ev_indexes.specs.Worlds.{HasRows}
 use Rattle.ev_warming.specs.Changes.{is_unlisted}
 use Rattle.ev_warming.specs.Arrivals.{told_where}
 use Rattle.ev_warming.proofs.ForgottenLemmas.{watched-same}
-use Rattle.ev_warming.proofs.AbsenceLemmas.{with_absent, absent-more, absent-none}
+use Rattle.ev_warming.proofs.AbsenceLemmas.{with_absent, absent-more}
 use Rattle.ev_warming.proofs.ResponseLemmas.{listed-at}
 use Rattle.ev_warming.proofs.manager.Manager.tell_absences.Goals as goal
 
