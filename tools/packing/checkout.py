@@ -9,7 +9,7 @@ from . import TOP, said
 from .archive import owner
 
 TAKEN = ('README.md', 'CONTRIBUTING.md', 'warmgate', 'docs/', 'examples/', 'tools/')
-FOR_CONTRIBUTORS = ('tools/check', 'tools/fail', 'tools/gate_minutes', 'tools/over_sources', 'tools/package', 'tools/packing/', 'tools/pages',
+FOR_CONTRIBUTORS = ('tools/check', 'tools/dearest', 'tools/fail', 'tools/gate_minutes', 'tools/over_sources', 'tools/package', 'tools/packing/', 'tools/pages',
                     'tools/refuse', 'tools/threads', 'tools/trials/')
 PASSED = re.compile(r'\d+ passed, 0 failed')
 

@@ -146,7 +146,7 @@ class Findings:
 
     @functools.cache
     def after_timeouts(self):
-        """The numbers of the probes that get another answer once the timeouts came."""
+        """The numbers of the probes that get another answer once the timeouts have passed."""
         last, ended = self.last_push(), next((stage for stage in self.stages if stage.name == TIMEOUTS), None)
         return self.other_answers(last, ended) if ended else []
 
@@ -174,7 +174,7 @@ class Findings:
     def drain(self, row, conns, stage, stays):
         is_gone = row.name in self.push.removed['lds']
         how = 'is removed' if is_gone else 'has filter chains that are removed' if stays else 'is replaced whole'
-        how += ' once the fetch timeout came' if stage.name == TIMEOUTS else ''
+        how += ' once the fetch timeout has passed' if stage.name == TIMEOUTS else ''
         is_are = 'is' if len(conns) == 1 else 'are'
         chains = collections.Counter(f'{self.journey.chain_of(conn)} (port {self.journey.transition.asks[conn - 1]["port"]})' for conn in conns)
         details = ([] if is_gone else self.chain_details(row)) + [f'{count} of {chain}' for chain, count in chains.items()]

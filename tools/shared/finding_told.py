@@ -24,12 +24,12 @@ RULES = {
     'reap': 'destroyed is, in ascending order, what was dropped, and what drains and is in no picture in use and on no open connection',
     'accept': 'the picture that the worker holds chooses; a number that is open at this worker is in use',
     'close': 'a connection closes where it is open at this worker',
-    'settle': 'the worker takes the last picture, and closes its connections on listeners whose drain timeout came, in ascending order',
+    'settle': 'the worker takes the last picture, and closes its connections on listeners whose drain timeout has passed, in ascending order',
 }
 # The same of scripts of the profile envoy, where that is something else.
 RULES_OF_ENVOY = {
     'settle': 'the worker takes the last picture. Its connections on listeners that this doesn\'t show go on where it shows their filter chain; it '
-              'closes those on listeners whose drain timeout came and whose filter chain it doesn\'t show, and both stand in ascending order',
+              'closes those on listeners whose drain timeout has passed and whose filter chain it doesn\'t show, and both stand in ascending order',
     'accept': 'the picture that the worker holds chooses, and the answer has the place of the filter chain that was found; a number that is open at '
               'this worker is in use',
 }
@@ -190,7 +190,7 @@ class Told:
 
     def settled(self, found, wanted):
         """Connections that move, or are closed, in one of two answers alone."""
-        for name, words in (('moved', 'goes on: the last picture shows its filter chain'), ('closed', 'is closed: its listener\'s drain timeout came')):
+        for name, words in (('moved', 'goes on: the last picture shows its filter chain'), ('closed', 'is closed: its listener\'s drain timeout has passed')):
             for conn in sorted(set(found.get(name, ())) ^ set(wanted.get(name, ()))):
                 yield f'connection {conn} {words if conn in wanted.get(name, ()) else f"isn{chr(39)}t {name}"}'
 

@@ -171,7 +171,7 @@ class Machine:
     """The managers and what workers hold. `step` applies an entry; `changes`, `touched` and `watch_changes` say what it changed.
 
     `told` and `timed` have for each name the greatest number that was drawn when the control plane spoke of it last, and when its fetch
-    timeout came last; `how` says how it spoke. By the profile envoy endpoints answer the generations that stand by then, and no later one."""
+    timeout was received last; `how` says how it spoke. By the profile envoy endpoints answer the generations that stand by then, and no later one."""
 
     def __init__(self, workers, format, profile=OWN):
         self.format, self.rows, self.next, self.phase, self.open = format, {}, 1, 'clusters', False
@@ -261,7 +261,7 @@ class Machine:
             why = self.refused_words(*refusal)
         else:
             removed = self.guards.endpoints_of(name) if self.guards and name in self.guards.of else f'{WORDS[name[0]]} {quoted(name[1])} were removed'
-            why = removed if name in self.how else 'their fetch timeout came'
+            why = removed if name in self.how else 'their fetch timeout has passed'
         return why
 
     def refused_words(self, verdict, whose):
@@ -271,7 +271,7 @@ class Machine:
     def why_absent(self, name):
         """Why a secret or an extension that was waited for isn't there, in words."""
         how = self.how.get(name)
-        return self.refused_words(*how) if isinstance(how, tuple) else 'it was removed' if how == 'removed' else 'its fetch timeout came'
+        return self.refused_words(*how) if isinstance(how, tuple) else 'it was removed' if how == 'removed' else 'its fetch timeout has passed'
 
     def would_show(self, row):
         return row.status == 'active' and (row.kind == 'cds' or self.phase == 'serving')

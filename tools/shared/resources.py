@@ -215,6 +215,7 @@ SECRETS = ('tls_certificate', 'session_ticket_keys', 'validation_context', 'gene
 
 def read_secret(reader, body, path):
     """A secret: nothing of it is kept but that it is there."""
+    reader.text(body, 'name', path)
     given = reader.members(body, path, dict.fromkeys(SECRETS, Reader.object))
     if len(given) != 1:
         names = 'tlsCertificate, sessionTicketKeys, validationContext and genericSecret'
@@ -224,6 +225,7 @@ def read_secret(reader, body, path):
 
 def read_extension_config(reader, body, path):
     """An extension: the same."""
+    reader.text(body, 'name', path)
     config = reader.object(body, 'typed_config', path)
     if config is None:
         reader.breaks(29, f'{path}.typedConfig', 'is missing')

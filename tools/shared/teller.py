@@ -156,7 +156,7 @@ class Teller:
             gone = ' and whose filter chain doesn\'t stay' if self.reading.profile == ENVOY else ''
             return f'settles{forced}: holds picture {answer["version"]}' + (
                 f'; connections {moved} go on, since their filter chains stay' if moved else '') + (
-                f'; closes connections {closed}, whose listener\'s drain timeout came{gone}' if closed else '')
+                f'; closes connections {closed}, whose listener\'s drain timeout has passed{gone}' if closed else '')
         if row.op == 'close':
             return f'connection {members["conn"]} ' + ('closes' if answer == 'done' else 'isn\'t open')
         where = f'{named(members["address"])}:{members["port"]}'

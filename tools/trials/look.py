@@ -51,7 +51,7 @@ def of_a_dump(check, folder, looked):
     lines, page = out.decode().splitlines(), content(f'{folder}/out/page.html').decode()
     check(status == 0 and not errors, f'look at a dump: status {status} {errors}')
     wanted = ["Envoy's own errors: 1", "    cluster 'bad': 'no such <b>\\u202e\\x1b[31m'; here: refused by V10 (profile): resource.eds_cluster_config.eds_config.path is given",
-              "Warms, and for what: 1", "    cluster 'w' waits for endpoints 'w'", 'Serves without hosts or routes: 2', "    cluster 'lost': WITHOUT HOSTS: their fetch timeout came",
+              "Warms, and for what: 1", "    cluster 'w' waits for endpoints 'w'", 'Serves without hosts or routes: 2', "    cluster 'lost': WITHOUT HOSTS: their fetch timeout has passed",
               'Refused here: 2', "    cluster 'dns', version '': refused by V7 (profile): resource.type is STRICT_DNS", 'Stands in, and for what: nothing',
               'Connections tried: 1', '    1 served', 'The page: ']
     place = iter(lines)

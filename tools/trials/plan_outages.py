@@ -120,7 +120,7 @@ OUTAGES = {
         ('nowhere', 'r', 'cluster \'new\', which isn\'t there: it warms')]),
     'routes that never come': ({'lds': [listener('http', 80, routes='q'), *BASE['lds'][1:]]}, [
         ('hangs', 'http', 'until the fetch timeout, the one before serves'), ('hangs', 'http', 'waits for routes \'q\''),
-        ('drains', 'http', 'has filter chains that are removed once the fetch timeout came: 1 of 4')]),
+        ('drains', 'http', 'has filter chains that are removed once the fetch timeout has passed: 1 of 4')]),
     'a new cluster refused that routes name': ({'cds': [*BASE['cds'], cluster('bad', connectTimeout='0s')], 'rds': [routes('r', 'bad')]}, [
         ('refused', 'bad', 'by V11'), ('nowhere', 'r', 'it is refused')]),
 }

@@ -89,7 +89,7 @@ def of_diff(check, folder):
     warms = [web, *steady[2:], push('lds', [chained('in', 443, shop)]), *drained]
     plain = [push('cds', [cluster('web', hosts=[1])]), *steady[2:], push('lds', [chained('in', 443, shop)]), *drained]
     cases = [
-        (timed, "REGRESSION  cluster 'web': serves without secret 's' (its fetch timeout came)"),
+        (timed, "REGRESSION  cluster 'web': serves without secret 's' (its fetch timeout has passed)"),
         (timed, "no handshake with cluster 'web', which needs a secret that isn't there; before served"),
         (whole, "REGRESSION  listener 'in', generation 2 of the name: closes 2 connections when its drain time comes, before 1 connection"),
         (whole, "CHANGED     listener 'in', generation 2 of the name: is replaced whole, before it changes in place"),

@@ -230,7 +230,7 @@ class History:
             words = f'line {at}: {named(members["address"])}:{members["port"]} is {state}'
             self.band('cds', members['cluster']).marks.append((x, state, words))
         elif op == 'drainTimeout':
-            self.band('lds', members['listener']).marks.append((x, 'timeout', f'line {at}: the drain timeout came'))
+            self.band('lds', members['listener']).marks.append((x, 'timeout', f'line {at}: the drain timeout has passed'))
             for life in reversed(self.band('lds', members['listener']).lives):
                 if life.expired is not None:
                     break
