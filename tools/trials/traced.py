@@ -8,7 +8,7 @@ from trials import TOP, content
 # A recipe, and a word of the change that it tells of. Rows, tests and laws have words of many changes, and name them by their crate.
 TRACES = [('A new field of a resource', r'\b(?:is_)?checked\b'), ('A new rule', r'\b[vV]27\b'), ('A new kind of resource', r'\bEcds\b'),
           ('A new event', r'\bTtlExpired\b'), ('A new answer', r'\bNoSecret\b')]
-LEFT_OUT = re.compile(r'ev_model_rows/|ev_model_laws/|ev_chain\w*/|\w+_tests/|worked_rows/|json_bench/')
+LEFT_OUT = re.compile(r'ev_model_rows/|ev_model_laws/|ev_chains/|ev_chain_lines/|\w+_tests/|worked_rows/|json_bench/')
 
 
 def run(check):

@@ -6,10 +6,7 @@ use Rattle.std.specs.Str.Parse.{digits_value}
 use Rattle.std.proofs.lemmas.Fmt.{decimal_injective, decimal_is_IsNumeral}
 use Rattle.ev_app.specs.declared.commands.Command.{Command}
 use Rattle.ev_app.specs.declared.commands.Command.TheVariants.{Replay, Run, Audit, Soak, Tls, Dns, Chains, Sotw, Dump}
-use Rattle.ev_app.specs.declared.status.Status.{Status}
 use Rattle.ev_app.specs.Commands.{Asks, IsSoak, IsWithin, words_of}
-use Rattle.ev_app.specs.Texts.{IsAnswered}
-use Rattle.ev_app.specs.Status.{Outside, IsHonest, Ends}
 
 -- the count of a soak fits a number of the command line
 small_count : (seed count : ℕ) → IsSoak seed count → count < 2 ^ 64
@@ -135,11 +132,3 @@ told_by_words (Dump entries) within = λ i. Dump (number_is entries (wide_entrie
 
 pub asks_one : (words : List (List ℕ)) (one other : Command) → Asks words one → Asks words other → one ≡ other
 asks_one words one other first second = sym (told_by_words one first.within) ∙ ap command_told (sym first.words ∙ second.words) ∙ told_by_words other second.within
-
--- so what is ensured of the command that was found is so of each that is asked for
-pub ends_asked : (words : List (List ℕ)) (found command : Command) (status : Status) (outside : Outside) → Asks words found → Ends status found outside → Asks words command → Ends status command outside
-ends_asked words found command status outside asks ends other = subst (λ (c : Command). Ends status c outside) (asks_one words found command asks other) ends
-
-pub completes_asked : (words : List (List ℕ)) (found command : Command) (status : Status) (outside : Outside) → Asks words found → (IsHonest found outside → IsAnswered found status) → Asks words command → IsHonest command outside → IsAnswered command status
-completes_asked words found command status outside asks completes other =
-    subst (λ (c : Command). IsHonest c outside → IsAnswered c status) (asks_one words found command asks other) completes

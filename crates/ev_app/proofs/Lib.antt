@@ -1,9 +1,8 @@
 pub mod InputLemmas
 pub mod ReplayLemmas
 pub mod RunLemmas
-pub mod CompleteLemmas
+pub mod TakenLemmas
 pub mod SoakLemmas
-pub mod AnswerLemmas
 pub mod CommandLemmas
 pub mod PartsLemmas
 pub mod AuditLemmas

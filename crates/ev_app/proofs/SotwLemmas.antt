@@ -29,7 +29,7 @@ use Rattle.ev_app.specs.Faults.{IsFirstEarly}
 use Rattle.ev_app.specs.Scripts.{ReadsScript}
 use Rattle.ev_app.specs.Sotw.{IsSotwText, GrowsTooLarge, IsSotwAnswer}
 use Rattle.ev_app.specs.Texts.{IsMadeBy}
-use Rattle.ev_app.proofs.CompleteLemmas.{front_of}
+use Rattle.ev_app.proofs.TakenLemmas.{front_of}
 use Rattle.ev_app.proofs.ReplayLemmas.{has_laws}
 use Rattle.ev_app.specs.Trees.{AreTreesOf, ReadsTrees}
 use Rattle.ev_app.proofs.TreeLemmas.{same_headers, same_heads, same_lines, whole_trees}

@@ -13,6 +13,5 @@ pub mod Sotw
 pub mod Dumps
 pub mod Chains
 pub mod Texts
-pub mod Status
 pub mod Exit
 pub mod Numbers

@@ -31,9 +31,9 @@ pub enum Command {
     Dump { entries: u32 },
 }
 
-// The command that the arguments ask for, or none where they ask for no one that is built.
+/// The command that the arguments ask for, or none where they ask for no one that is built.
 #[tactic(auto, using(crate::proofs::CommandLemmas::none_asked))]
-pub(crate) fn command_of(arguments: &[Text]) -> Option<Command>
+pub fn command_of(arguments: &[Text]) -> Option<Command>
     ensures some { IfSome result (Asks arguments.now) }
     ensures none { result ≡ None → (command : Command) → ¬ (Asks arguments.now command) }
 {

@@ -20,16 +20,21 @@ use std::alloc::Global;
 use std::sync::Wait;
 use std::thread::Threads;
 
-// What a command makes of its input: a text, and how a call ends that writes it.
+/// What a command makes of its input: a text, and how a call ends that writes it.
 #[derive(Drop)]
-pub(crate) struct Made {
+pub struct Made {
     pub text: Vec<u8>,
     pub status: Status,
 }
 
-// Makes what answers the source's bytes, or the command alone.
+/// Makes what answers the source's bytes, or the command alone.
+///
+/// # Errors
+/// `Bad` with the line and the kind of the first fault of the bytes taken,
+/// those at the end of the input only where the source gave its end; `Read` where a read failed, the source didn't give
+/// its end and the bytes taken have no fault. `OutOfMemory` where there is no memory; no read failed.
 #[tactic(auto, using(crate::proofs::SoakLemmas::soaked, crate::proofs::SoakLemmas::not_soaked))]
-pub(crate) fn make<R: Threads + Wait + Sync, S: Source, P: Pace + Sync>(
+pub fn make<R: Threads + Wait + Sync, S: Source, P: Pace + Sync>(
     rt: &R,
     alloc: Global,
     command: Command,

@@ -4,8 +4,10 @@ ghost use Rattle.serde_json.specs.View.{view};
 ghost use Rattle.std.specs.String.{string_bytes};
 ghost use Rattle.ev_types.specs.declared.events.Profile.{Profile};
 ghost use Rattle.ev_tree.specs.Addresses.{address_text_of, port_of, text_found, port_unless};
+ghost use Rattle.ev_tree.specs.Floats.{plain_text};
 ghost use Rattle.ev_tree.specs.Rules.{ReadsAs, IsLeast, is_name};
 ghost use Rattle.ev_tree.specs.Broken.{rules_of, least_of};
+ghost use Rattle.ev_listener_json.specs.Frames.{in_place_text_of};
 ghost use Rattle.ev_listener_json.specs.Listeners.{listener_reading, listener_broken, own_listener_broken, listener_name, serve_of, is_udp, listens_by_udp, is_every_address, listening_text, listening_port, is_unusable, envoy_self_broken, named_with};
 
 use crate::chains::{inspect_chains, serve_or_none};
@@ -66,9 +68,9 @@ fn read_envoy_listener(alloc: Global, value: &Value) -> Result<Listener, ReadErr
     ensures { ReadsAs result (listener_reading Profile.Envoy (view value.now)) }
 {
     let own = inspect_envoy_listener(alloc, value)?;
-    let below = inspect_envoy_chains(alloc, value, own.udp)?;
     let redirection = inspect_redirection(alloc, value)?;
     let extensions = find_listener_extensions(alloc, value)?;
+    let below = inspect_envoy_chains(alloc, value, own.udp)?;
     let broken = below
         .broken
         .or(redirection.broken.or(extensions.broken.or(own.broken)));
@@ -76,11 +78,12 @@ fn read_envoy_listener(alloc: Global, value: &Value) -> Result<Listener, ReadErr
         return Err(ReadError::Rule(rule));
     }
     let address = own.address.as_str();
+    let texts = make_texts(alloc, value, own.name, address, own.port)?;
     let takes_every_address = is_every_address(address);
     Ok(Listener {
-        name: make_name(alloc, own.name)?,
+        name: texts.name,
         address: SocketAddress {
-            host: make_host(alloc, address, own.port)?,
+            host: texts.host,
             udp: own.udp,
         },
         takes_every_address,
@@ -89,8 +92,40 @@ fn read_envoy_listener(alloc: Global, value: &Value) -> Result<Listener, ReadErr
         filter_chains: Seq::from_vec(below.chains),
         default_filter_chain: below.default,
         extensions: extensions.list,
-        frame_text: in_place_text(alloc, value)?,
-        body_text: body_text(alloc, Profile::Envoy, value)?,
+        frame_text: texts.frame,
+        body_text: texts.body,
+    })
+}
+
+// The texts of a listener as Envoy reads it.
+#[derive(Drop)]
+struct EnvoyTexts {
+    name: Name,
+    host: Host,
+    frame: Text,
+    body: Text,
+}
+
+// Makes the texts of a listener whose name and address were found to have 1 to 512 bytes.
+fn make_texts(
+    alloc: Global,
+    value: &Value,
+    name: &str,
+    address: &str,
+    port: u16,
+) -> Result<EnvoyTexts, AllocError>
+    requires name { is_name name.now ≡ true }
+    requires address { is_name address.now ≡ true }
+    ensures name { IfOk result (λ texts. texts.name ≡ name.now) }
+    ensures host { IfOk result (λ texts. texts.host ≡ record { address = address.now; port = port }) }
+    ensures frame { IfOk result (λ texts. texts.frame ≡ in_place_text_of (view value.now)) }
+    ensures body { IfOk result (λ texts. texts.body ≡ plain_text (view value.now)) }
+{
+    Ok(EnvoyTexts {
+        name: make_name(alloc, name)?,
+        host: make_host(alloc, address, port)?,
+        frame: in_place_text(alloc, value)?,
+        body: body_text(alloc, Profile::Envoy, value)?,
     })
 }
 

@@ -1,5 +1,3 @@
 pub mod Grouped
-pub mod Left
-pub mod Brought
 pub mod Began
 pub mod Walks

@@ -1,5 +1,5 @@
 //! The listeners of a picture: how one is found by the end of a connection, by where a chain began, by name and by
-//! number, and which of its filter chains takes a connection.
+//! number.
 //!
 //! # Choices
 //!
@@ -19,18 +19,12 @@
 //!   the one in its place, or with the chain that it comes after, where that is the same. So a publication makes
 //!   tables for those routes alone that changed, also where a chain before them comes or goes. Chains of one listener
 //!   that don't follow each other share no table.
-//! - Chains are narrowed without a list of those that are left, so an ask takes no memory: of each criterion is kept
-//!   what the chains that are left have to ask for, and a chain is left that meets them all. Each criterion is a walk
-//!   over the chains for each value that the connection brings; the ranges are walked only where a chain that is left
-//!   asks for one.
 //! - Listeners change by value (`without(self, ..)`, `put(self, ..)`): out of memory, nothing is left of them, and no
 //!   half-changed ones can be seen.
 #![tactic(auto)]
 
 mod address_texts;
 mod addresses;
-mod criteria;
-mod criterion;
 mod earlier;
 mod groups;
 mod listeners;
@@ -39,7 +33,6 @@ mod origins;
 mod routed;
 mod routed_chain;
 
-pub use criteria::Criteria;
 pub use listeners::Listeners;
 pub use local_ends::LocalEnd;
 pub use routed::RoutedListener;

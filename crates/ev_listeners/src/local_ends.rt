@@ -52,14 +52,14 @@ impl<'a> LocalEnd<'a> {
     }
 
     /// Its port.
-    pub(crate) fn port(&self) -> u16
+    pub fn port(&self) -> u16
         ensures { result ≡ self.now.host.port }
     {
         self.host.port
     }
 
     /// The IP address that its address writes, if it writes one.
-    pub(crate) fn ip(&self) -> Option<Ip>
+    pub fn ip(&self) -> Option<Ip>
         ensures { result ≡ self.now.ip }
     {
         self.ip

@@ -1,10 +1,7 @@
 ghost use Rattle.std.specs.Prelude.{◌≡◌, IfOk};
 ghost use Rattle.std.specs.Option.{option_copied};
-ghost use Rattle.ev_model.specs.Choice.{chain_left};
 ghost use Rattle.ev_model.specs.Picture.{listens_same};
-ghost use Rattle.ev_listeners.specs.Wanted.{left_by};
 
-use crate::criteria::Criteria;
 use crate::earlier::Earlier;
 use crate::routed_chain::RoutedChain;
 use ev_keys::Keys;
@@ -57,13 +54,15 @@ impl RoutedListener {
     ) -> Result<RoutedListener, AllocError>
         ensures { IfOk result (λ routed. routed ≡ listener.now) }
     {
+        let name = listener.name.copy(alloc)?;
+        let address = listener.address.copy(alloc)?;
         let earlier = Earlier::new(alloc, keys, listener.number, before)?;
         let filter_chains = chains_of(alloc, keys, listener.filter_chains.as_slice(), &earlier)?;
         let default_filter_chain = default_of(alloc, keys, &listener.default_filter_chain, before)?;
         Ok(RoutedListener {
             number: listener.number,
-            name: listener.name.copy(alloc)?,
-            address: listener.address.copy(alloc)?,
+            name,
+            address,
             takes_every_address: listener.takes_every_address,
             udp: listener.udp,
             restores: listener.restores,
@@ -127,21 +126,10 @@ impl RoutedListener {
     }
 
     /// The chain that takes what no other chain does, if there is one.
-    pub(crate) fn default_filter_chain(&self) -> Option<&RoutedChain>
+    pub fn default_filter_chain(&self) -> Option<&RoutedChain>
         ensures { option_copied result ≡ self.now.default_filter_chain }
     {
         self.default_filter_chain.as_ref()
-    }
-
-    /// The first chain that is left, or else the default chain.
-    pub fn chain_left(&self, criteria: &Criteria<'_>) -> Option<&RoutedChain>
-        ensures { option_copied result
-            ≡ chain_left (left_by criteria.now self.now.filter_chains) self.now.default_filter_chain }
-    {
-        match criteria.first_left(self.filter_chains.as_slice()) {
-            Some(chain) => Some(chain),
-            None => self.default_filter_chain(),
-        }
     }
 }
 

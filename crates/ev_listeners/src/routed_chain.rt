@@ -46,6 +46,7 @@ impl RoutedChain {
     ) -> Result<RoutedChain, AllocError>
         ensures { IfOk result (λ routed. routed ≡ chain.now) }
     {
+        let criteria = chain.criteria.share()?;
         let routing = indexed(
             alloc,
             keys,
@@ -56,7 +57,7 @@ impl RoutedChain {
         Ok(RoutedChain {
             place: chain.place,
             origin: chain.origin,
-            criteria: chain.criteria.share()?,
+            criteria,
             routing,
             lacks_secret: chain.lacks_secret,
         })
@@ -77,7 +78,7 @@ impl RoutedChain {
     }
 
     /// Which connections it takes.
-    pub(crate) fn criteria(&self) -> &FilterChainMatch
+    pub fn criteria(&self) -> &FilterChainMatch
         ensures { result.now ≡ self.now.criteria }
     {
         self.criteria.get()

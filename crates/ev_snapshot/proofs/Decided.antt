@@ -12,8 +12,8 @@ use Rattle.ev_model.specs.declared.pictures.Choice.TheVariants.{On}
 use Rattle.ev_model.specs.declared.pictures.Picture.{Picture}
 use Rattle.ev_model.specs.declared.pictures.ServedChain.{ServedChain}
 use Rattle.ev_model.specs.declared.pictures.ServedListener.{ServedListener}
-use Rattle.ev_listeners.specs.Wanted.{left_by}
-use Rattle.ev_listeners.specs.declared.criteria.Criteria.{Criteria}
+use Rattle.ev_chain_match.specs.Wanted.{left_by}
+use Rattle.ev_chain_match.specs.declared.criteria.Criteria.{Criteria}
 
 pub chains_decide : (picture : Picture) (ask : Ask) (listener : ServedListener) (local_end : Peer) (criteria : Criteria)
     → left_by criteria listener.filter_chains ≡ chains_left (incoming_of ask local_end) listener.filter_chains

@@ -1,7 +1,7 @@
-ghost use Rattle.std.specs.Prelude.{◌≡◌, ◌+◌, ◌==◌, true, None, Some, IfOk, find, length, option_map};
+ghost use Rattle.std.specs.Prelude.{◌≡◌, ◌+◌, ◌==◌, true, Some, IfOk, find, length, option_map};
 ghost use Rattle.std.specs.Arc.{arc_value};
 ghost use Rattle.std.specs.Option.{option_copied};
-ghost use Rattle.ev_model.specs.Choice.{acted, by_chain, by_host, by_listener, by_reached, by_route, by_routing, by_secrets, choice_of, cluster_named, course_in, course_of, forwarded, has_no_host, in_cluster, taker_of, to_host};
+ghost use Rattle.ev_model.specs.Choice.{acted, by_chain, by_host, by_listener, by_reached, by_route, by_routing, by_secrets, choice_of, cluster_named, course_in, course_of, forwarded, has_no_host, in_cluster, to_host};
 ghost use Rattle.ev_model.specs.Connections.{is_chain_shown, next_listener, shows_chain};
 ghost use Rattle.ev_model.specs.Picture.{is_shown, shown_of};
 ghost use Rattle.ev_model.specs.World.{OpenMember, World};
@@ -12,10 +12,11 @@ ghost use Rattle.ev_snapshot.specs.Chosen.{TakesEligible, TakesLowest, host_of, 
 use crate::changes::Changes;
 use crate::parts::{Parts, keep_all, parts_with};
 use crate::targets::{name_picked, weight_sum};
+use ev_chain_match::{Criteria, choose_on, leave_undecided, taker_of};
 use ev_hosts::{ChosenHosts, ShownCluster};
 use ev_keys::Keys;
 use ev_layers::Row;
-use ev_listeners::{Criteria, LocalEnd, RoutedChain, RoutedListener};
+use ev_listeners::{LocalEnd, RoutedChain, RoutedListener};
 use ev_model::{Choice, Routing, Secrets, Taken};
 use ev_routes::{IndexedRouting, RoutedHost, match_says, route_for};
 use ev_types::{Action, Ask, Gen, Host, Origin, Route, Target, Way};
@@ -184,22 +185,10 @@ impl Snapshot {
         ensures { result ≡ by_listener self.now ask.now (Some listener.now) }
     {
         if listener.restores() {
-            self.choose_by_chains(self.taker_of(listener, ask), &LocalEnd::meant_by(ask), ask)
+            let taker = taker_of(&self.parts.listeners, listener, ask);
+            self.choose_by_chains(taker, &LocalEnd::meant_by(ask), ask)
         } else {
             self.choose_by_chains(listener, &LocalEnd::delivered_by(ask), ask)
-        }
-    }
-
-    // The listener that takes a connection which came to one that restores.
-    fn taker_of<'s>(&'s self, listener: &'s RoutedListener, ask: &Ask) -> &'s RoutedListener
-        ensures { result.now ≡ taker_of self.now.shown.listeners ask.now listener.now }
-    {
-        if !listener.hands_over() {
-            return listener;
-        }
-        match self.parts.listeners.for_end(&LocalEnd::meant_by(ask)) {
-            Some(taker) => taker,
-            None => listener,
         }
     }
 
@@ -217,7 +206,7 @@ impl Snapshot {
         if criteria.lack_source(chains, ask) {
             return leave_undecided(listener.number());
         }
-        self.choose_by_chain(listener.number(), listener.chain_left(&criteria), ask)
+        self.choose_by_chain(listener.number(), criteria.chain_left(listener), ask)
     }
 
     // The choice with the chain that is left.
@@ -225,12 +214,7 @@ impl Snapshot {
         ensures { result ≡ by_chain self.now ask.now listener (option_copied chain.entry) }
     {
         match chain {
-            Some(chain) => Choice::On {
-                listener,
-                chain: chain.place(),
-                origin: chain.origin(),
-                way: self.go_by_chain(chain, ask),
-            },
+            Some(chain) => choose_on(listener, chain, self.go_by_chain(chain, ask)),
             None => Choice::NoChain,
         }
     }
@@ -311,18 +295,6 @@ impl Snapshot {
         ensures { result ≡ course_in (cluster_named self.now.shown.clusters name.now) pick }
     {
         go_in(self.parts.clusters.named(name), pick)
-    }
-}
-
-// The choice where no script tells which chain takes a connection.
-fn leave_undecided(listener: Gen) -> Choice
-    ensures { result ≡ Choice.On listener None None Way.Undecided }
-{
-    Choice::On {
-        listener,
-        chain: None,
-        origin: None,
-        way: Way::Undecided,
     }
 }
 

@@ -2,8 +2,9 @@
 //! managers do with them.
 #![tactic(auto)]
 
-use ev_app::{Status, run_program};
+use ev_app::Status;
 use ev_io::{StdSink, StdSource};
+use ev_program::run_program;
 use ev_run::Free;
 use ev_types::Text;
 use std::alloc::AllocError;

@@ -18,8 +18,9 @@ use crate::inputs::read_bytes;
 use crate::row::{Row, read_row};
 use crate::row_texts::{try_journals, try_texts};
 use crate::script_inputs::{try_cuts, try_inputs};
-use ev_app::{Status, run_program};
+use ev_app::Status;
 use ev_io::{MemSink, MemSource};
+use ev_program::run_program;
 use ev_run::Free;
 use std::alloc::Global;
 use std::rt::Files;
@@ -59,46 +60,80 @@ fn try_rows<R: Files + Print + AllocGlobal + Threads + Wait + Sync>(rt: &R) -> i
     let mut passed = 0u32;
     let mut failed = 0u32;
     for line in list.lines() {
-        let row = read_row(rt.alloc(), line)?;
-        let name = row.name.as_str();
-        if passes(rt, &row)? {
-            println!(rt; "{name}: passed")?;
+        if try_row(rt, line)? {
             passed = passed.saturating_add(1);
         } else {
-            println!(rt; "{name}: failed")?;
             failed = failed.saturating_add(1);
         }
     }
     println!(rt; "{passed} rows passed, {failed} failed")
 }
 
+// Runs the row that a line of the list is, prints a line for it, and returns whether it passed.
+fn try_row<R: Files + Print + AllocGlobal + Threads + Wait + Sync>(
+    rt: &R,
+    line: &str,
+) -> io::Result<bool> {
+    let row = read_row(rt.alloc(), line)?;
+    let passed = passes(rt, &row)?;
+    print_row(rt, row.name.as_str(), passed)?;
+    Ok(passed)
+}
+
+// Prints whether a row passed.
+fn print_row(rt: &impl Print, name: &str, passed: bool) -> io::Result<()> {
+    if passed {
+        println!(rt; "{name}: passed")
+    } else {
+        println!(rt; "{name}: failed")
+    }
+}
+
 // Whether the program ends a row with its status and writes its output,
 // in whatever pieces its input is read, and whether a read that fails is reported, whichever it is, and so a write.
 fn passes<R: Files + AllocGlobal + Threads + Wait + Sync>(rt: &R, row: &Row) -> io::Result<bool> {
-    let alloc = rt.alloc();
     let name = row.name.as_str();
     let input = read_bytes(rt, name, "in")?;
     let wanted = read_bytes(rt, name, "out")?;
-    if !answers(rt, alloc, row, input.as_slice(), wanted.as_slice(), PIECE)? {
+    ends_well(rt, rt.alloc(), row, input.as_slice(), wanted.as_slice())
+}
+
+// The same of a row with this input, which has to write these bytes.
+fn ends_well<R: Threads + Wait + Sync>(
+    rt: &R,
+    alloc: Global,
+    row: &Row,
+    input: &[u8],
+    wanted: &[u8],
+) -> io::Result<bool> {
+    if !answers(rt, alloc, row, input, wanted, PIECE)? {
         return Ok(false);
     }
-    if input.len() <= SHORT {
-        for piece in PIECES {
-            if !answers(rt, alloc, row, input.as_slice(), wanted.as_slice(), piece)? {
-                return Ok(false);
-            }
-        }
+    if input.len() <= SHORT && !answers_in_pieces(rt, alloc, row, input, wanted)? {
+        return Ok(false);
     }
-    if input.len() <= SHORTEST && row.reads_input() {
-        for number in 1..=input.len() as u64 + 1 {
-            if !tells_failure(rt, alloc, row, input.as_slice(), number)? {
-                return Ok(false);
-            }
+    if input.len() > SHORTEST || !row.reads_input() {
+        return Ok(true);
+    }
+    Ok(
+        tells_failures(rt, alloc, row, input)?
+            && reads_no_further(rt, alloc, row, input, wanted)?
+            && tells_lost_writes(rt, alloc, row, input, wanted)?,
+    )
+}
+
+// Whether the program ends a row with its status and writes its output, however few bytes it reads at once.
+fn answers_in_pieces<R: Threads + Wait + Sync>(
+    rt: &R,
+    alloc: Global,
+    row: &Row,
+    input: &[u8],
+    wanted: &[u8],
+) -> io::Result<bool> {
+    for piece in PIECES {
+        if !answers(rt, alloc, row, input, wanted, piece)? {
+            return Ok(false);
         }
-        return Ok(
-            reads_no_further(rt, alloc, row, input.as_slice(), wanted.as_slice())?
-                && tells_lost_writes(rt, alloc, row, input.as_slice(), wanted.as_slice())?,
-        );
     }
     Ok(true)
 }
@@ -149,6 +184,21 @@ fn answers<R: Threads + Wait + Sync>(
     };
     let (status, same) = run(rt, alloc, row, input, wanted, devices)?;
     Ok(same && row.is_end(status))
+}
+
+// Whether the program, which reads one byte at once, reports of each read of an input that it fails.
+fn tells_failures<R: Threads + Wait + Sync>(
+    rt: &R,
+    alloc: Global,
+    row: &Row,
+    input: &[u8],
+) -> io::Result<bool> {
+    for number in 1..=(input.len() as u64).saturating_add(1) {
+        if !tells_failure(rt, alloc, row, input, number)? {
+            return Ok(false);
+        }
+    }
+    Ok(true)
 }
 
 // Whether the program, which reads one byte at once, reports that the read

@@ -16,8 +16,8 @@ returns-in-Some c =
     ((c.or.ensures ∙ (λ k. either_broken (c.in_ok-extensions.ensures k).broken (c.in_ok-own.ensures.broken k))) j))) i)) in
     ap (λ rule. judged rule (envoy_listener_of tree)) (sym (ap least_of broken) ∙ sym c.least.ensures ∙ c.in-Some.is)
 
-pub make_name-requires : goal.make_name-requires
-make_name-requires c =
+pub make_texts-requires-clause-name : goal.make_texts-requires-clause-name
+make_texts-requires-clause-name c =
     let tree = view c.args.value.now in
     let broken = c.or-broken.ensures ∙ (λ i. either_broken
     ((c.in_ok-below.ensures.broken ∙ ap (λ udp. envoy_chains_broken udp tree) c.in_ok-own.ensures.udp) i)
@@ -26,8 +26,8 @@ make_name-requires c =
     let none : least_of (envoy_listener_broken tree) ≡ None = sym (ap least_of broken) ∙ sym c.least.ensures ∙ c.in_default.is in
     ap is_name c.in_ok-own.ensures.name ∙ envoy_name tree none
 
-pub make_host-requires : goal.make_host-requires
-make_host-requires c =
+pub make_texts-requires-clause-address : goal.make_texts-requires-clause-address
+make_texts-requires-clause-address c =
     let tree = view c.args.value.now in
     let broken = c.or-broken.ensures ∙ (λ i. either_broken
     ((c.in_ok-below.ensures.broken ∙ ap (λ udp. envoy_chains_broken udp tree) c.in_ok-own.ensures.udp) i)
@@ -46,11 +46,12 @@ returns c =
     ((c.or-2.ensures ∙ (λ j. either_broken (c.in_ok-redirection.ensures.broken j)
     ((c.or.ensures ∙ (λ k. either_broken (c.in_ok-extensions.ensures k).broken (c.in_ok-own.ensures.broken k))) j))) i)) in
     let none : least_of (envoy_listener_broken tree) ≡ None = sym (ap least_of broken) ∙ sym c.least.ensures ∙ c.in_default.is in
+    let texts = c.in_ok-texts.ensures in
     let text = c.as_str-address.ensures.value ∙ own.address in
-    let host = c.in_ok-make_host.ensures ∙ (λ i. record { address = text i; port = own.port i }) in
+    let host = texts.host ∙ (λ i. record { address = text i; port = own.port i }) in
     ap (λ rule. judged rule (envoy_listener_of tree)) none
     ∙ ap Ok (sym (λ i. record {
-      name = (c.in_ok-make_name.ensures ∙ own.name) i;
+      name = (texts.name ∙ own.name) i;
       address = record { host = host i; udp = own.udp i };
       takes_every_address = (c.is_every_address-takes_every_address.ensures ∙ ap is_every_address text) i;
       restores = c.in_ok-redirection.ensures.restores i;
@@ -58,6 +59,6 @@ returns c =
       filter_chains = (c.from_vec.ensures.elements ∙ below.chains) i;
       default_filter_chain = below.default i;
       extensions = (c.in_ok-extensions.ensures i).list;
-      frame_text = c.in_ok-in_place_text.ensures i;
-      body_text = c.in_ok-body_text.ensures i;
+      frame_text = texts.frame i;
+      body_text = texts.body i;
     }))

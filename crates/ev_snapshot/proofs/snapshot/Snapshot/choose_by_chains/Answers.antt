@@ -7,7 +7,7 @@ use Rattle.ev_model.specs.Choice.{by_chain, chain_left, incoming_of}
 use Rattle.ev_model.specs.Narrowing.{chains_left}
 use Rattle.ev_model.specs.declared.pictures.Choice.TheVariants.{On}
 use Rattle.ev_model.specs.declared.pictures.ServedChain.{ServedChain}
-use Rattle.ev_listeners.specs.Wanted.{left_by}
+use Rattle.ev_chain_match.specs.Wanted.{left_by}
 use Rattle.ev_snapshot.proofs.Decided.{chains_decide}
 use Rattle.ev_snapshot.proofs.snapshot.Snapshot.choose_by_chains.Goals as goal
 

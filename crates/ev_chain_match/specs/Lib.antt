@@ -1,0 +1,3 @@
+pub mod RangeCriteria
+pub mod Unnarrowed
+pub mod Wanted
